@@ -1,0 +1,8 @@
+//! A list and a box that contracts see as what they hold, so that a tree of them is plain data.
+#![tactic(auto)]
+
+mod boxed;
+mod seq;
+
+pub use boxed::Boxed;
+pub use seq::Seq;

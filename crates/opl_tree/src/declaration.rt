@@ -1,0 +1,18 @@
+//! The trees of declarations.
+use crate::expression::{NameTree, NumberTree};
+
+/// A declaration.
+#[derive(Debug, Drop)]
+pub enum DeclTree {
+    /// A decision variable.
+    Variable(VariableTree),
+}
+
+/// `var int NAME in LOW..HIGH;`
+#[derive(Debug, Drop)]
+pub struct VariableTree {
+    pub at: u32,
+    pub name: NameTree,
+    pub low: NumberTree,
+    pub high: NumberTree,
+}

@@ -1,0 +1,16 @@
+//! The trees of the language's texts: one type per rule of the grammar, with the place of each node.
+#![tactic(auto)]
+
+mod declaration;
+mod expression;
+mod fault;
+mod instruction;
+mod model;
+
+pub use declaration::{DeclTree, VariableTree};
+pub use expression::{CompareTree, NameTree, NumberTree, OperandTree, Relation};
+pub use fault::SyntaxFault;
+pub use instruction::{BlockTree, InstrTree, ItemTree, ItemsTree};
+pub use model::ModelTree;
+pub use opl_list::Seq;
+pub use opl_token::Name;
