@@ -1,0 +1,3 @@
+pub mod Constraints
+pub mod Meaning
+pub mod Places

@@ -1,0 +1,5 @@
+//! The program's commands: from the words and files of a call to the text that it prints.
+#![tactic(auto)]
+
+mod constraint;
+mod place;
