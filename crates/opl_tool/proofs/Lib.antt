@@ -1,2 +1,3 @@
-pub mod Enumeration
 pub mod Advance
+pub mod Enumeration
+pub mod StartLemmas

@@ -1,3 +1,5 @@
 pub mod Constraints
+pub mod Faults
 pub mod Meaning
 pub mod Places
+pub mod Start

@@ -40,9 +40,9 @@ items_of m = items_in (block_of m.instr).items
     block_of : InstrTree → BlockTree
     block_of (Solve at block) = block
 
--- the number that is written
+-- the number that is written: its magnitude, or minus that where there is a `-`
 abbrev pub number_value : NumberTree → ℤ
-number_value n = if n.is_negative then neg_ℤ n.magnitude else n.magnitude
+number_value n = if n.is_negative then neg_ℤ (pos (unsigned_abs n.magnitude)) else n.magnitude
 
 -- `size` whole numbers, the first of them `low`
 unfoldable pub whole_numbers : ℤ → ℕ → List ℤ

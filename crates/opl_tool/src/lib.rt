@@ -3,3 +3,5 @@
 
 mod constraint;
 mod place;
+mod refusal;
+mod variables;

@@ -1,0 +1,26 @@
+//! Why the words, the files or the model of a call are refused.
+
+/// Why a call is refused. A place is the byte offset of a lexeme in the model's file.
+#[derive(Clone, Copy, Debug, PartialEq, Eq)]
+pub enum Refusal {
+    /// The words are no command.
+    Words,
+    /// There is no file of the model's name.
+    Absent,
+    /// The model's file has more bytes than are read.
+    TooLong,
+    /// A byte that begins no lexeme.
+    BadByte(u32),
+    /// A comment without an end.
+    OpenComment(u32),
+    /// A text without an end.
+    OpenString(u32),
+    /// A number past the greatest one.
+    NumberTooLarge(u32),
+    /// The model is none that runs today.
+    NotYet(u32),
+    /// A name is declared a second time.
+    Duplicate(u32),
+    /// A name is used that is not declared.
+    Unknown(u32),
+}
