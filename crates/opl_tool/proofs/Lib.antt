@@ -1,3 +1,4 @@
 pub mod Advance
 pub mod Enumeration
+pub mod NamesLemmas
 pub mod StartLemmas

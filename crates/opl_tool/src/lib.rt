@@ -3,5 +3,7 @@
 
 mod constraint;
 mod place;
+mod names;
 mod refusal;
+mod stop;
 mod variables;

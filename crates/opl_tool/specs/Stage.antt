@@ -1,0 +1,21 @@
+-- The stages of a call, each of which gives a value or refuses.
+use Rattle.std.specs.Prelude.{◌≡◌, ◌⊎◌, ⊤, Result, Ok, Err}
+use Rattle.opl_tool.specs.declared.refusal.Refusal.{Refusal}
+use Rattle.opl_tool.specs.declared.stop.Stop.{Stop}
+use Rattle.opl_tool.specs.declared.stop.Stop.TheVariants.{Refused, ReadFault, WriteFault, OutOfMemory}
+
+-- what a stage gives: a relation that holds of its outcome
+abbrev pub Stage : Type 0 → Type 1
+Stage A = Result A Refusal → Type 0
+
+-- one stage, then another on what it gave: the first refusal is that of the whole
+abbrev pub Then : {A B : Type 0} → Stage A → (A → Stage B) → Stage B
+Then {A} P Q r = ((a : A) × P (Ok a) × Q a r) ⊎ ((e : Refusal) × P (Err e) × (r ≡ Err e))
+
+-- a stage that neither reads nor prints: it gives what it should, or memory is wanting
+abbrev pub Gives : {A : Type 0} → Stage A → Result A Stop → Type 0
+Gives P (Ok a) = P (Ok a)
+Gives P (Err (Refused e)) = P (Err e)
+Gives P (Err ReadFault) = ⊥
+Gives P (Err WriteFault) = ⊥
+Gives P (Err OutOfMemory) = ⊤

@@ -1,0 +1,32 @@
+//! Why a call ends before its whole text is printed.
+ghost use Rattle.opl_tool.specs.declared.stop.Stop.TheVariants.{OutOfMemory};
+ghost use Rattle.std.specs.Prelude.{◌≡◌};
+
+use std::alloc::{AllocError, AllocFailed};
+
+use crate::refusal::Refusal;
+
+/// Why a call ends before its whole text is printed.
+#[derive(Clone, Copy, Debug)]
+pub enum Stop {
+    Refused(Refusal),
+    ReadFault,
+    WriteFault,
+    OutOfMemory,
+}
+
+impl From<AllocError> for Stop {
+    ghost from_gives = { λ _ e. e ≡ OutOfMemory };
+
+    fn from(_e: AllocError) -> Stop {
+        Stop::OutOfMemory
+    }
+}
+
+impl<T: Drop> From<AllocFailed<T>> for Stop {
+    ghost from_gives = { λ _ e. e ≡ OutOfMemory };
+
+    fn from(_e: AllocFailed<T>) -> Stop {
+        Stop::OutOfMemory
+    }
+}
