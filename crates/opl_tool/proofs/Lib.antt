@@ -1,4 +1,5 @@
 pub mod Advance
 pub mod Enumeration
 pub mod NamesLemmas
+pub mod ResolveLemmas
 pub mod StartLemmas

@@ -5,5 +5,6 @@ mod constraint;
 mod place;
 mod names;
 mod refusal;
+mod resolve;
 mod stop;
 mod variables;
