@@ -1,0 +1,5 @@
+pub mod Becomes
+pub mod Counts
+pub mod Files
+pub mod Held
+pub mod Written
