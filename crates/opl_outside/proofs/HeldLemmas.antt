@@ -18,8 +18,8 @@ unfolding held
 held_sets old new name file updates = record {
   this = ap (option_map (λ kept. kept.items)) updates.1;
   others = λ other ne.
-    let apart = false_from_ne_true (bytes_eq name other) (λ e. ne (sym ((bytes_eq-Decides name other).0 e))) in
-    ap (option_map (λ kept. kept.items)) (hash_map_updates_text name old.files new.files (Some file) updates other ∙ rw apart)
+      let apart = false_from_ne_true (bytes_eq name other) (λ e. ne (sym ((bytes_eq-Decides name other).0 e))) in
+      ap (option_map (λ kept. kept.items)) (hash_map_updates_text name old.files new.files (Some file) updates other ∙ rw apart);
 }
 
 module _ (old new : Files) (name : List ℕ) where

@@ -1,8 +1,8 @@
 -- Lemmas on bytes that go to a writer piece by piece.
-use Rattle.std.proofs.Common.{◌≡◌, ℕ, ◌-◌, List, [], ◌++◌, length, take, drop, Option, None, Some, Err, refl, sym, ap, ◌∙◌, subst, append_assoc, take-append-drop, arith}
+use Rattle.std.proofs.Common.{◌≡◌, ℕ, ◌-◌, List, ◌++◌, length, take, drop, Option, None, Some, Err, sym, ap, ◌∙◌, subst, append_assoc, take-append-drop, arith}
 use Rattle.std.proofs.lemmas.Grind.{common_steps}
 use Rattle.std.specs.Io.KnownBytes.{Appends, Keeps}
-use Rattle.std.proofs.KnownBytes.{Appends-nil, Appends-trans, Appends-kept}
+use Rattle.std.proofs.KnownBytes.{Appends-trans, Appends-kept}
 use lib.Seq.{take-append_seam}
 use Rattle.opl_outside.specs.declared.error.OutsideError.TheVariants.{Failed}
 use Rattle.opl_outside.specs.Written.{Puts}
@@ -18,7 +18,7 @@ pub wrote_more : (old mid new : Option (List ℕ)) (bytes left : List ℕ) (n : 
 wrote_more old mid new bytes left n w more = record {
   front = w.front ++ take n left;
   whole = w.whole ∙ ap (λ rest. w.front ++ rest) (sym (take-append-drop n left)) ∙ sym (append_assoc w.front (take n left) (drop n left));
-  appended = Appends-trans old mid new w.front (take n left) w.appended more
+  appended = Appends-trans old mid new w.front (take n left) w.appended more;
 }
 
 -- the same, as the rest is sliced

@@ -2,11 +2,9 @@
 ghost use Rattle.std.specs.Prelude.{◌≡◌, IfOk};
 ghost use Rattle.opl_outside.specs.Failing.{fails_next, after_call, first_half};
 
-use std::alloc::{AllocError, Global};
-
-use opl_list::Seq;
-
 use crate::count::raised;
+use opl_list::Seq;
+use std::alloc::{AllocError, Global};
 
 /// The numbers, from 1, of the calls that fail, and how many calls were made.
 #[derive(Debug, Drop)]

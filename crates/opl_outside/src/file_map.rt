@@ -4,12 +4,10 @@ ghost use Rattle.std.specs.Option.{option_copied};
 ghost use Rattle.opl_outside.specs.Files.{IsFound, Sets, bytes_of};
 ghost use Rattle.opl_outside.specs.Held.{held};
 
+use crate::shelf::{Found, MAX_BYTES};
+use opl_list::Seq;
 use std::alloc::{AllocError, Global};
 use std::collections::HashMap;
-
-use opl_list::Seq;
-
-use crate::shelf::{Found, MAX_BYTES};
 
 /// Files by their names.
 #[derive(Drop)]

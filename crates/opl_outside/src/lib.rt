@@ -17,3 +17,6 @@ pub use real::{RealShelf, RealSink};
 pub use shelf::{Found, MAX_BYTES, Shelf};
 pub use sink::Sink;
 pub use sure::{SureShelf, SureSink};
+
+#[cfg(test)]
+mod tests;

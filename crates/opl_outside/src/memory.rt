@@ -8,14 +8,13 @@ ghost use Rattle.opl_outside.specs.Files.{Sets, bytes_of, IsWithinLimit, Reads, 
 ghost use Rattle.opl_outside.specs.Held.{held};
 ghost use Rattle.opl_outside.specs.Written.{Puts};
 
-use std::alloc::{AllocError, Global};
-
 use crate::count::counted;
 use crate::error::OutsideError;
 use crate::failing::{FailingCalls, first_half};
 use crate::file_map::FileMap;
 use crate::shelf::{Found, Shelf};
 use crate::sink::Sink;
+use std::alloc::{AllocError, Global};
 
 /// Files in memory, of whose calls some are to fail. It tells its files.
 ///

@@ -5,16 +5,14 @@ ghost use Rattle.std.specs.Io.KnownBytes.{Consumes, IsAtEnd};
 ghost use Rattle.opl_outside.specs.Files.{IsFound, IsWithinLimit, max_bytes};
 ghost use Rattle.opl_outside.specs.Written.{Puts};
 
-use std::alloc::Global;
-use std::fs::{File, Files, OpenOptions};
-use std::io::{ErrorKind, Read, Write};
-
-use opl_list::Seq;
-
 use crate::count::counted;
 use crate::error::OutsideError;
 use crate::shelf::{Found, MAX_BYTES, Shelf};
 use crate::sink::Sink;
+use opl_list::Seq;
+use std::alloc::Global;
+use std::fs::{File, Files, OpenOptions};
+use std::io::{ErrorKind, Read, Write};
 
 /// The files of the disk. It tells nothing of what they hold.
 #[derive(Drop)]
@@ -127,7 +125,7 @@ fn read_piece<F: Read>(file: &mut F, bytes: &mut Vec<u8>) -> Result<bool, Outsid
 
 /// A sink that hands its bytes to a writer, and tells what the writer tells.
 #[derive(Drop)]
-pub struct RealSink<W: Write + Drop> {
+pub struct RealSink<W> {
     to: W,
     faults: u64,
 }

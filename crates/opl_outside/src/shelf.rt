@@ -3,11 +3,9 @@ ghost use Rattle.std.specs.Prelude.{◌≡◌, ℕ, Option, IfOk};
 ghost use Rattle.opl_outside.specs.Counts.{Counts};
 ghost use Rattle.opl_outside.specs.Files.{Files, IsWithinLimit, Reads, Empties, Adds};
 
-use std::alloc::Global;
-
-use opl_list::Seq;
-
 use crate::error::OutsideError;
+use opl_list::Seq;
+use std::alloc::Global;
 
 /// The most bytes of a file that is read: 16 MiB.
 pub const MAX_BYTES: usize = 16_777_216;

@@ -3,9 +3,8 @@ ghost use Rattle.std.specs.Prelude.{ℕ, List, Option};
 ghost use Rattle.opl_outside.specs.Counts.{Counts};
 ghost use Rattle.opl_outside.specs.Written.{Puts};
 
-use std::alloc::Global;
-
 use crate::error::OutsideError;
+use std::alloc::Global;
 
 /// A place that takes bytes. It may tell what was written to it, or nothing of it, as a terminal does.
 pub trait Sink {

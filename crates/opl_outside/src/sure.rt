@@ -5,14 +5,13 @@ ghost use Rattle.opl_outside.specs.Becomes.{Becomes};
 ghost use Rattle.opl_outside.specs.Files.{Sets};
 ghost use Rattle.opl_outside.specs.Held.{held};
 
-use std::alloc::{AllocError, Global};
-
 use crate::error::OutsideError;
 use crate::file_map::FileMap;
 use crate::shelf::{Found, Shelf};
 use crate::sink::Sink;
+use std::alloc::{AllocError, Global};
 
-/// Files in memory. Its calls never fail, and it tells its files.
+/// Files in memory. It tells its files. Its calls never fail, and its counts are always 0.
 #[derive(Drop)]
 pub struct SureShelf {
     files: FileMap,
@@ -21,7 +20,9 @@ pub struct SureShelf {
 impl SureShelf {
     /// A shelf without files. It takes no memory.
     pub fn new(alloc: Global) -> Result<SureShelf, AllocError>
-        ensures { IsOkAnd result (λ shelf. ⟦<SureShelf as Shelf>⟧.files shelf ≡ Some (λ _. None)) }
+        ensures empty { IsOkAnd result (λ shelf. ⟦<SureShelf as Shelf>⟧.files shelf ≡ Some (λ _. None)) }
+        ensures no_read_fault { IfOk result (λ shelf. ⟦<SureShelf as Shelf>⟧.read_faults shelf ≡ 0) }
+        ensures no_write_fault { IfOk result (λ shelf. ⟦<SureShelf as Shelf>⟧.write_faults shelf ≡ 0) }
     {
         Ok(SureShelf {
             files: FileMap::new(alloc),
@@ -70,7 +71,8 @@ impl Shelf for SureShelf {
     }
 }
 
-/// Output that is kept in memory. Its calls never fail, and it tells what was written.
+/// Output that is kept in memory. It tells what was written. Its calls never fail, and its count is
+/// always 0.
 #[derive(Drop)]
 pub struct SureSink {
     bytes: Vec<u8>,
@@ -79,7 +81,8 @@ pub struct SureSink {
 impl SureSink {
     /// A sink to which nothing was written. It takes no memory.
     pub fn new(alloc: Global) -> Result<SureSink, AllocError>
-        ensures { IsOkAnd result (λ sink. ⟦<SureSink as Sink>⟧.written sink ≡ Some []) }
+        ensures empty { IsOkAnd result (λ sink. ⟦<SureSink as Sink>⟧.written sink ≡ Some []) }
+        ensures no_fault { IfOk result (λ sink. ⟦<SureSink as Sink>⟧.faults sink ≡ 0) }
     {
         Ok(SureSink {
             bytes: Vec::new(alloc),
