@@ -1,0 +1,5 @@
+pub mod Marks
+pub mod Reading
+pub mod Sizes
+pub mod Spelling
+pub mod Words

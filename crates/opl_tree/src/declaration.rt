@@ -2,14 +2,14 @@
 use crate::expression::{NameTree, NumberTree};
 
 /// A declaration.
-#[derive(Debug, Drop)]
+#[derive(Drop)]
 pub enum DeclTree {
     /// A decision variable.
     Variable(VariableTree),
 }
 
 /// `var int NAME in LOW..HIGH;`
-#[derive(Debug, Drop)]
+#[derive(Drop)]
 pub struct VariableTree {
     pub at: u32,
     pub name: NameTree,

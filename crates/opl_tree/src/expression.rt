@@ -2,14 +2,14 @@
 use opl_token::Name;
 
 /// A name where it is written.
-#[derive(Debug, Drop)]
+#[derive(Drop)]
 pub struct NameTree {
     pub at: u32,
     pub text: Name,
 }
 
 /// A whole number with at most one `-` before it.
-#[derive(Clone, Copy, Debug)]
+#[derive(Clone, Copy)]
 pub struct NumberTree {
     pub at: u32,
     pub is_negative: bool,
@@ -17,14 +17,14 @@ pub struct NumberTree {
 }
 
 /// One side of a comparison.
-#[derive(Debug, Drop)]
+#[derive(Drop)]
 pub enum OperandTree {
     Name(NameTree),
     Number(NumberTree),
 }
 
 /// The sign of a comparison.
-#[derive(Clone, Copy, Debug, PartialEq, Eq)]
+#[derive(Clone, Copy, PartialEq, Eq)]
 pub enum Relation {
     /// `=`
     Equal,
@@ -41,7 +41,7 @@ pub enum Relation {
 }
 
 /// Two operands with a relation between them.
-#[derive(Debug, Drop)]
+#[derive(Drop)]
 pub struct CompareTree {
     pub at: u32,
     pub left: OperandTree,

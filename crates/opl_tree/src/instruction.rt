@@ -1,24 +1,23 @@
 //! The trees of the instruction, its block and its items.
+use crate::expression::CompareTree;
 use opl_list::Seq;
 
-use crate::expression::CompareTree;
-
 /// What a model asks for.
-#[derive(Debug, Drop)]
+#[derive(Drop)]
 pub enum InstrTree {
     /// `solve BLOCK;`
     Solve(u32, BlockTree),
 }
 
 /// `{ ITEMS }`
-#[derive(Debug, Drop)]
+#[derive(Drop)]
 pub struct BlockTree {
     pub at: u32,
     pub items: ItemsTree,
 }
 
 /// Items with `;` between them. A list with items may end with one more `;`, an empty one may not.
-#[derive(Debug, Drop)]
+#[derive(Drop)]
 pub enum ItemsTree {
     Empty(u32),
     Several {
@@ -30,7 +29,7 @@ pub enum ItemsTree {
 }
 
 /// An item of a block.
-#[derive(Debug, Drop)]
+#[derive(Drop)]
 pub enum ItemTree {
     Comparison(CompareTree),
 }

@@ -1,11 +1,10 @@
 //! The tree of a whole model.
-use opl_list::Seq;
-
 use crate::declaration::DeclTree;
 use crate::instruction::InstrTree;
+use opl_list::Seq;
 
 /// A model: its declarations, then its instruction.
-#[derive(Debug, Drop)]
+#[derive(Drop)]
 pub struct ModelTree {
     pub at: u32,
     pub decls: Seq<DeclTree>,
