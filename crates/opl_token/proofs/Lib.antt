@@ -1,0 +1,5 @@
+pub mod Numbers
+pub mod Runs
+pub mod Signs
+pub mod Bytes
+pub mod Lexemes
