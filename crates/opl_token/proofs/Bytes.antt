@@ -43,3 +43,7 @@ begins_front p q (b ∷ bs) rest h = refl
 pub begins_some : (p : ℕ → Bool) (text : List ℕ) → begins p text ≡ true → 0 < length text
 begins_some p [] h = cc
 begins_some p (b ∷ bs) h = omega arith
+
+pub begins_some_front : (q : ℕ → Bool) (text rest : List ℕ) → 0 < length text → begins q (text ++ rest) ≡ begins q text
+begins_some_front q [] rest h = absurd (omega arith)
+begins_some_front q (b ∷ bs) rest h = refl

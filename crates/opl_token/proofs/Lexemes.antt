@@ -131,7 +131,7 @@ reads bytes found is = cases (begins is_word_start bytes) (begins is_ascii_digit
 
 -- ---- one kind for each text
 
-lexeme_some : (k : Kind) (text rest : List ℕ) → IsLexeme k text rest → 0 < length text
+pub lexeme_some : (k : Kind) (text rest : List ℕ) → IsLexeme k text rest → 0 < length text
 lexeme_some (kind.Word name) text rest lexeme = begins_some is_word_start text lexeme.1.start
 lexeme_some (kind.Number n) text rest lexeme = begins_some is_ascii_digit text lexeme.1.start
 lexeme_some (kind.Text inner) text rest lexeme = absurd lexeme

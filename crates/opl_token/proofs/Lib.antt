@@ -3,3 +3,6 @@ pub mod Runs
 pub mod Signs
 pub mod Bytes
 pub mod Lexemes
+pub mod Pieces
+pub mod Rows
+pub mod Scanning

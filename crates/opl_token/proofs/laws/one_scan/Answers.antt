@@ -1,4 +1,4 @@
-use Rattle.opl_token.proofs.Lexemes as lexemes
+use Rattle.opl_token.proofs.Scanning as rows
 use Rattle.opl_token.proofs.laws.one_scan.Goals as goal
 
 pub returns : goal.returns
