@@ -197,3 +197,10 @@ found_again k text rest longest =
     let front : take len (text ++ rest) ≡ text = ap (λ n. take n (text ++ rest)) lens ∙ take-append_seam text rest in
     let kinds : f.found.kind ≡ k = one_kind f.found.kind k text (drop len (text ++ rest)) rest (rw front at here.lexeme) longest.lexeme in
     f.is ∙ ap Some (same_lexeme f.found k (length text) kinds lens)
+
+-- it has a byte at least, and no more than there are
+pub found_within : (bytes : List ℕ) (l : Lexeme) → lexeme_at bytes ≡ Some l → (0 < l.len) × (l.len ≤ length bytes)
+found_within bytes l is =
+    let here : Reads bytes l = reads bytes l is in
+    let some : 0 < length (take l.len bytes) = lexeme_some l.kind (take l.len bytes) (drop l.len bytes) here.lexeme in
+    (omega (arith, length-take l.len bytes), here.within)

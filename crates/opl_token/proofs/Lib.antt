@@ -6,3 +6,5 @@ pub mod Lexemes
 pub mod Pieces
 pub mod Rows
 pub mod Scanning
+pub mod Unique
+pub mod Bounds

@@ -1,5 +1,5 @@
-use Rattle.opl_token.proofs.Scanning as rows
+use Rattle.opl_token.proofs.Unique.{one_scan}
 use Rattle.opl_token.proofs.laws.one_scan.Goals as goal
 
 pub returns : goal.returns
-returns c = ?
+returns c = one_scan
