@@ -1,0 +1,4 @@
+pub mod Lexeme
+pub mod Scan
+pub mod Longest
+pub mod Laws

@@ -1,7 +1,6 @@
 //! A token: what it is, and where in the text it begins.
-use opl_list::Seq;
-
 use crate::sign::Sign;
+use opl_list::Seq;
 
 /// A name, as the list of its bytes. Those that the scanner makes are ASCII; a file's name may have other bytes.
 pub type Name = Seq<u8>;
