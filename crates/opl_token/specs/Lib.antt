@@ -1,4 +1,2 @@
 pub mod Lexeme
 pub mod Scan
-pub mod Longest
-pub mod Laws
