@@ -6,3 +6,4 @@ pub mod Places
 pub mod Resolve
 pub mod Stage
 pub mod Start
+pub mod Text

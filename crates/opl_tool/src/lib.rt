@@ -7,4 +7,5 @@ mod names;
 mod refusal;
 mod resolve;
 mod stop;
+mod text;
 mod variables;

@@ -1,0 +1,48 @@
+//! The texts that a call prints.
+ghost use Rattle.std.specs.Prelude.{◌≡◌, ◌++◌, length, map, IfOk, OnOk};
+ghost use Rattle.opl_tool.specs.Meaning.{variable_of as the_variable_of};
+ghost use Rattle.opl_tool.specs.Places.{value_of};
+ghost use Rattle.opl_tool.specs.Text.{value_line, solution_text, closing};
+
+use std::alloc::{AllocError, Global};
+
+use itoa::Buffer;
+use opl_tree::{DeclTree, VariableTree};
+
+use crate::place::Place;
+use crate::variables::variable_of;
+
+/// Adds the line of a variable and its value.
+fn push_line(text: &mut Vec<u8>, variable: &VariableTree, place: Place) -> Result<(), AllocError>
+    ensures { OnOk result (text.new.items ≡ text.old.items ++ value_line variable.now (value_of place)) }
+{
+    text.extend_from_slice(variable.name.text.as_slice())?;
+    text.extend_from_slice(b" = ")?;
+    text.extend_from_slice(Buffer::new().format(place.value()).as_bytes())?;
+    text.extend_from_slice(b"\n")?;
+    Ok(())
+}
+
+/// The text of the solution with this number on which `places` stand.
+pub fn solution_text(alloc: Global, number: u64, decls: &[DeclTree], places: &[Place]) -> Result<Vec<u8>, AllocError>
+    requires { length places.now ≡ length decls.now }
+    ensures { IfOk result (λ text. text.items ≡ solution_text (map the_variable_of decls.now) number (map value_of places.now)) }
+{
+    let mut text = Vec::from_slice(alloc, b"Solution ")?;
+    text.extend_from_slice(Buffer::new().format(number).as_bytes())?;
+    text.extend_from_slice(b"\n")?;
+    for (x, decl) in decls.iter().enumerate() {
+        push_line(&mut text, variable_of(decl), places[x])?;
+    }
+    Ok(text)
+}
+
+/// The closing lines, where so many solutions are shown.
+pub fn closing(alloc: Global, shown: u64) -> Result<Vec<u8>, AllocError>
+    ensures { IfOk result (λ text. text.items ≡ closing shown) }
+{
+    let mut text = Vec::from_slice(alloc, b"Solutions: ")?;
+    text.extend_from_slice(Buffer::new().format(shown).as_bytes())?;
+    text.extend_from_slice(b"\nEnd\n")?;
+    Ok(text)
+}
