@@ -3,6 +3,7 @@ pub mod Faults
 pub mod Meaning
 pub mod Names
 pub mod Places
+pub mod Printing
 pub mod Resolve
 pub mod Stage
 pub mod Start

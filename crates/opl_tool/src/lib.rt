@@ -4,6 +4,7 @@
 mod constraint;
 mod place;
 mod names;
+mod print;
 mod refusal;
 mod resolve;
 mod stop;
