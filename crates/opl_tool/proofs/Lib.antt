@@ -3,4 +3,5 @@ pub mod Enumeration
 pub mod NamesLemmas
 pub mod PrintingLemmas
 pub mod ResolveLemmas
+pub mod Showing
 pub mod StartLemmas

@@ -19,3 +19,7 @@ value_in values (Number n) = n
 -- whether a comparison holds under an assignment
 abbrev pub constraint_holds : List ℤ → Constraint → Bool
 constraint_holds values c = relates c.relation (value_in values c.left) (value_in values c.right)
+
+-- whether all of these comparisons hold under an assignment
+abbrev pub all_hold : List Constraint → List ℤ → Bool
+all_hold constraints values = list_all (constraint_holds values) constraints

@@ -7,6 +7,7 @@ mod names;
 mod print;
 mod refusal;
 mod resolve;
+mod show;
 mod stop;
 mod text;
 mod variables;
