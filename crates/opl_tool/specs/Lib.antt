@@ -4,6 +4,7 @@ pub mod Meaning
 pub mod Names
 pub mod Places
 pub mod Printing
+pub mod Problem
 pub mod Resolve
 pub mod Stage
 pub mod Start

@@ -5,6 +5,7 @@ mod constraint;
 mod place;
 mod names;
 mod print;
+mod problem;
 mod refusal;
 mod resolve;
 mod show;
