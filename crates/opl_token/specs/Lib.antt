@@ -1,2 +1,5 @@
 pub mod Lexeme
 pub mod Scan
+pub mod Longest
+pub mod Laws
+pub mod Kinds

@@ -2,8 +2,11 @@
 #![tactic(auto)]
 
 mod fault;
+pub mod laws;
 mod scanner;
 mod sign;
+#[cfg(test)]
+mod tests;
 mod token;
 
 pub use fault::ScanFault;
