@@ -5,4 +5,5 @@ pub mod PrintingLemmas
 pub mod ProblemLemmas
 pub mod ResolveLemmas
 pub mod Showing
+pub mod SolveLemmas
 pub mod StartLemmas

@@ -8,7 +8,7 @@ use Rattle.opl_outside.specs.declared.error.OutsideError.{OutsideError}
 use Rattle.opl_outside.specs.declared.error.OutsideError.TheVariants.{Failed, OutOfMemory}
 use Rattle.opl_tool.specs.declared.stop.Stop.{Stop}
 use Rattle.opl_tool.specs.declared.stop.Stop.TheVariants as stop
-use Rattle.opl_tool.specs.Printing.{GainsFront, write_stop, Prints}
+use Rattle.opl_tool.specs.Printing.{GainsFront, CountsWrite, write_stop, Prints}
 
 -- what is told after one call and after another
 pub becomes_then : {A : Type 0} (old mid new : Option A) (P Q R : A → A → Type 0) → ((x y z : A) → P x y → Q y z → R x z) →
@@ -43,3 +43,51 @@ stopped-prints piece old new before now OutOfMemory p c = record { written = bec
 -- nothing is printed where memory is wanting before
 pub prints-nothing : {A : Type 0} (text : List ℕ) (o : Option (List ℕ)) (f : ℕ) → Prints {A = A} text o o f f (Err stop.OutOfMemory)
 prints-nothing text o f = record { written = becomes_same o _ (λ x. no_front text x x refl); faults = refl }
+
+gains_then : (t u x y z : List ℕ) → y ≡ x ++ t → z ≡ y ++ u → z ≡ x ++ (t ++ u)
+gains_then t u x y z e f = f ∙ ap (λ s. s ++ u) e ∙ append_assoc x t u
+
+front_then : (t u x y z : List ℕ) → y ≡ x ++ t → GainsFront y z u → GainsFront x z (t ++ u)
+front_then t u x y z e g = record {
+  front = t ++ g.front;
+  rest = g.rest;
+  gained = gains_then t g.front x y z e g.gained;
+  whole = append_assoc t g.front g.rest ∙ ap (λ s. t ++ s) g.whole;
+}
+
+front_more : (t u x y : List ℕ) → GainsFront x y t → GainsFront x y (t ++ u)
+front_more t u x y g = record {
+  front = g.front;
+  rest = g.rest ++ u;
+  gained = g.gained;
+  whole = sym (append_assoc g.front g.rest u) ∙ ap (λ s. s ++ u) g.whole;
+}
+
+same_stop : (A B : Type 0) (stop : Stop) (before now : ℕ) → CountsWrite {A = A} (Err stop) before now → CountsWrite {A = B} (Err stop) before now
+same_stop A B (stop.Refused r) before now c = c
+same_stop A B stop.ReadFault before now c = c
+same_stop A B stop.WriteFault before now c = c
+same_stop A B stop.OutOfMemory before now c = c
+
+-- one text behind another
+module _ (t u : List ℕ) (old mid new : Option (List ℕ)) (before between now : ℕ) where
+  pub prints-both : {A B C : Type 0} (a : A) (b : B) (c : C) → Prints t old mid before between (Ok a) → Prints u mid new between now (Ok b) →
+      Prints (t ++ u) old new before now (Ok c)
+  prints-both a b c p q = record {
+    written = becomes_then old mid new _ _ _ (gains_then t u) p.written q.written;
+    faults = q.faults ∙ p.faults;
+  }
+
+  pub prints-second : {A B C : Type 0} (a : A) (stop : Stop) → Prints {A = A} t old mid before between (Ok a) → Prints {A = B} u mid new between now (Err stop) →
+      Prints {A = C} (t ++ u) old new before now (Err stop)
+  prints-second {B = B} {C = C} a stop p q = record {
+    written = becomes_then old mid new _ _ _ (front_then t u) p.written q.written;
+    faults = rw (p.faults) at (same_stop B C stop between now q.faults);
+  }
+
+pub prints-first : {A C : Type 0} (t u : List ℕ) (old new : Option (List ℕ)) (before now : ℕ) (stop : Stop) → Prints {A = A} t old new before now (Err stop) →
+    Prints {A = C} (t ++ u) old new before now (Err stop)
+prints-first {A = A} {C = C} t u old new before now stop p = record {
+  written = becomes_so old new _ _ (front_more t u) p.written;
+  faults = same_stop A C stop before now p.faults;
+}

@@ -9,6 +9,7 @@ mod problem;
 mod refusal;
 mod resolve;
 mod show;
+mod solve;
 mod stop;
 mod text;
 mod variables;
