@@ -7,3 +7,4 @@ pub mod ResolveLemmas
 pub mod Showing
 pub mod SolveLemmas
 pub mod StartLemmas
+pub mod WordsLemmas

@@ -1,5 +1,6 @@
 pub mod Constraints
 pub mod Faults
+pub mod Judged
 pub mod Meaning
 pub mod Names
 pub mod Places

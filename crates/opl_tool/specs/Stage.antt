@@ -1,5 +1,6 @@
 -- The stages of a call, each of which gives a value or refuses.
-use Rattle.std.specs.Prelude.{◌≡◌, ◌⊎◌, ⊤, Result, Ok, Err}
+use Rattle.std.specs.Prelude.{◌≡◌, ◌⊎◌, ⊤, ℕ, Result, Ok, Err}
+use Rattle.opl_outside.specs.Counts.{Rose}
 use Rattle.opl_tool.specs.declared.refusal.Refusal.{Refusal}
 use Rattle.opl_tool.specs.declared.stop.Stop.{Stop}
 use Rattle.opl_tool.specs.declared.stop.Stop.TheVariants.{Refused, ReadFault, WriteFault, OutOfMemory}
@@ -19,3 +20,19 @@ Gives P (Err (Refused e)) = P (Err e)
 Gives P (Err ReadFault) = ⊥
 Gives P (Err WriteFault) = ⊥
 Gives P (Err OutOfMemory) = ⊤
+
+-- a stage that reads: it gives what it should, or a read failed or memory is wanting
+abbrev pub GivesRead : {A : Type 0} → Stage A → Result A Stop → Type 0
+GivesRead P (Ok a) = P (Ok a)
+GivesRead P (Err (Refused e)) = P (Err e)
+GivesRead P (Err ReadFault) = ⊤
+GivesRead P (Err WriteFault) = ⊥
+GivesRead P (Err OutOfMemory) = ⊤
+
+-- only a fault of reading is counted
+abbrev pub CountsRead : {A : Type 0} → Result A Stop → ℕ → ℕ → Type 0
+CountsRead (Ok a) before now = now ≡ before
+CountsRead (Err (Refused e)) before now = now ≡ before
+CountsRead (Err ReadFault) before now = Rose before now
+CountsRead (Err WriteFault) before now = ⊥
+CountsRead (Err OutOfMemory) before now = now ≡ before

@@ -1,0 +1,68 @@
+//! Reading a model: from the name of its file to its tree.
+ghost use Rattle.std.specs.Prelude.{◌≡◌, ◌≤◌, ◌<◌, ◌^◌, length, IfSome, IfOk};
+ghost use Rattle.opl_outside.specs.Becomes.{Becomes};
+ghost use Rattle.opl_outside.specs.Files.{max_bytes};
+ghost use Rattle.opl_tool.specs.Judged.{Held, Scanned, Parsed, Read};
+ghost use Rattle.opl_tool.specs.Stage.{Gives, GivesRead, CountsRead};
+
+use std::alloc::Global;
+
+use opl_outside::{Found, OutsideError, Shelf};
+use opl_parse::parse_model;
+use opl_token::{ScanFault, Seq, Token, scan};
+use opl_tree::{ModelTree, SyntaxFault};
+
+use crate::refusal::Refusal;
+use crate::stop::Stop;
+
+/// The bytes of the file of this name.
+pub fn load<F: Shelf>(alloc: Global, shelf: &mut F, name: &str) -> Result<Seq<u8>, Stop>
+    ensures held { IfSome (F.files shelf.old) (λ files. GivesRead (Held files name.now) result) }
+    ensures within_limit { IfOk result (λ bytes. length bytes ≤ max_bytes) }
+    ensures cause { CountsRead result (F.read_faults shelf.old) (F.read_faults shelf.new) }
+    ensures no_write { F.write_faults shelf.new ≡ F.write_faults shelf.old }
+    ensures files_stay { Becomes (F.files shelf.old) (F.files shelf.new) (λ before now. now ≡ before) }
+{
+    match shelf.read(alloc, name) {
+        Ok(Found::Bytes(bytes)) => Ok(bytes),
+        Ok(Found::Absent) => Err(Stop::Refused(Refusal::Absent)),
+        Ok(Found::TooLong) => Err(Stop::Refused(Refusal::TooLong)),
+        Err(OutsideError::Failed) => Err(Stop::ReadFault),
+        Err(OutsideError::OutOfMemory) => Err(Stop::OutOfMemory),
+    }
+}
+
+/// The tokens of a text.
+fn tokens(alloc: Global, bytes: &[u8]) -> Result<Seq<Token>, Stop>
+    requires { length bytes.now < 2 ^ 32 }
+    ensures { Gives (Scanned bytes.now) result }
+{
+    match scan(alloc, bytes) {
+        Ok(tokens) => Ok(tokens),
+        Err(ScanFault::BadByte(at)) => Err(Stop::Refused(Refusal::BadByte(at))),
+        Err(ScanFault::OpenComment(at)) => Err(Stop::Refused(Refusal::OpenComment(at))),
+        Err(ScanFault::OpenString(at)) => Err(Stop::Refused(Refusal::OpenString(at))),
+        Err(ScanFault::NumberTooLarge(at)) => Err(Stop::Refused(Refusal::NumberTooLarge(at))),
+        Err(ScanFault::OutOfMemory) => Err(Stop::OutOfMemory),
+    }
+}
+
+/// The tree of the tokens of a text with `end` bytes.
+fn tree(alloc: Global, tokens: &[Token], end: u32) -> Result<ModelTree, Stop>
+    ensures { Gives (Parsed tokens.now end) result }
+{
+    match parse_model(alloc, tokens, end) {
+        Ok(tree) => Ok(tree),
+        Err(SyntaxFault::NotYet(at)) => Err(Stop::Refused(Refusal::NotYet(at))),
+        Err(SyntaxFault::OutOfMemory) => Err(Stop::OutOfMemory),
+    }
+}
+
+/// The tree of a text.
+pub fn read(alloc: Global, bytes: &[u8]) -> Result<ModelTree, Stop>
+    requires { length bytes.now < 2 ^ 32 }
+    ensures { Gives (Read bytes.now) result }
+{
+    let tokens = tokens(alloc, bytes)?;
+    tree(alloc, tokens.as_slice(), bytes.len() as u32)
+}
