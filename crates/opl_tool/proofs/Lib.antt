@@ -1,5 +1,6 @@
 pub mod Advance
 pub mod Enumeration
+pub mod JudgedLemmas
 pub mod NamesLemmas
 pub mod PrintingLemmas
 pub mod ProblemLemmas

@@ -54,10 +54,10 @@ Resolved tree (Err e) = model_fault tree ≡ Some e
 abbrev pub Read : List ℕ → Stage ModelTree
 Read bytes = Then (Scanned bytes) (λ tokens. Parsed tokens (length bytes))
 
--- the model of a file: its scan comes before its syntax, and that before ends that are too far and names
-abbrev pub Understood : List ℕ → Stage ModelTree
-Understood bytes = Then (Read bytes) Resolved
+-- the tree of the model's file: the words come first, then the file, its scan and its syntax
+abbrev pub Fetched : List (List ℕ) → Files → Stage ModelTree
+Fetched words files = Then (Named words) (λ name. Then (Held files name) Read)
 
--- the model of a call: the words come first, then the file
+-- the model of a call: after its syntax ends that are too far and names
 abbrev pub Judged : List (List ℕ) → Files → Stage ModelTree
-Judged words files = Then (Named words) (λ name. Then (Held files name) Understood)
+Judged words files = Then (Fetched words files) Resolved

@@ -1,4 +1,5 @@
 pub mod Constraints
+pub mod Ends
 pub mod Faults
 pub mod Judged
 pub mod Meaning

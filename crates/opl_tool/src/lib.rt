@@ -1,6 +1,7 @@
 //! The program's commands: from the words and files of a call to the text that it prints.
 #![tactic(auto)]
 
+mod carry_out;
 mod constraint;
 mod place;
 mod names;
