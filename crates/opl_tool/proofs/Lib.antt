@@ -1,6 +1,7 @@
 pub mod Advance
 pub mod Enumeration
 pub mod JudgedLemmas
+pub mod LineLemmas
 pub mod NamesLemmas
 pub mod PrintingLemmas
 pub mod ProblemLemmas

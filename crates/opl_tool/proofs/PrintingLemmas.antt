@@ -28,7 +28,7 @@ becomes_same None P same = tt
 becomes_same (Some x) P same = same x
 
 -- a piece whose front was written
-front_put : (piece before now : List ℕ) → (n : ℕ) × (now ≡ before ++ take n piece) → GainsFront before now piece
+pub front_put : (piece before now : List ℕ) → (n : ℕ) × (now ≡ before ++ take n piece) → GainsFront before now piece
 front_put piece before now p = record { front = take p.0 piece; rest = drop p.0 piece; gained = p.1; whole = take-append-drop p.0 piece }
 
 no_front : (piece before now : List ℕ) → now ≡ before → GainsFront before now piece

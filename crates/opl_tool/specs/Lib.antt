@@ -2,6 +2,7 @@ pub mod Constraints
 pub mod Ends
 pub mod Faults
 pub mod Judged
+pub mod Lines
 pub mod Meaning
 pub mod Names
 pub mod Places

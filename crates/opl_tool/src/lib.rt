@@ -1,9 +1,11 @@
 //! The program's commands: from the words and files of a call to the text that it prints.
 #![tactic(auto)]
 
+mod answer;
 mod carry_out;
 mod constraint;
 mod place;
+mod line;
 mod names;
 mod print;
 mod problem;

@@ -1,0 +1,17 @@
+-- A line whose `put` failed.
+use Rattle.std.proofs.Common.{◌≡◌, sym, subst, ℕ, List, Option, Result, Ok, Err, inl, inr}
+use Rattle.opl_outside.specs.Counts.{Counts}
+use Rattle.opl_outside.specs.Written.{Puts}
+use Rattle.opl_outside.specs.declared.error.OutsideError.{OutsideError}
+use Rattle.opl_outside.specs.declared.error.OutsideError.TheVariants.{Failed}
+use Rattle.opl_tool.specs.declared.answer.Answer.{Answer}
+use Rattle.opl_tool.specs.Lines.{Tells}
+use Rattle.opl_tool.proofs.PrintingLemmas.{becomes_so, front_put}
+
+failed_tells : (old new : Option (List ℕ)) (before now : ℕ) (line : List ℕ) (answer : Answer) → Puts {A = Unit {0}} old new line (Err Failed) →
+    Counts {A = Unit {0}} before now (Err Failed) → Tells old new before now line answer
+failed_tells old new before now line answer p rose = becomes_so old new _ _ (λ x y h. inr (inr rose, front_put line x y h)) p
+
+pub failed-tells : (old new : Option (List ℕ)) (before now : ℕ) (line : List ℕ) (answer : Answer) (e : OutsideError) → e ≡ Failed →
+    Puts {A = Unit {0}} old new line (Err e) → Counts {A = Unit {0}} before now (Err e) → Tells old new before now line answer
+failed-tells old new before now line answer e is p c = failed_tells old new before now line answer (rw is at p) (rw is at c)
