@@ -1,6 +1,7 @@
 pub mod Constraints
 pub mod Ends
 pub mod Faults
+pub mod Headline
 pub mod Judged
 pub mod Lines
 pub mod Meaning

@@ -2,6 +2,7 @@
 #![tactic(auto)]
 
 mod answer;
+mod call;
 mod carry_out;
 mod constraint;
 mod place;
@@ -12,9 +13,13 @@ mod problem;
 mod read;
 mod refusal;
 mod resolve;
+
 mod show;
 mod solve;
 mod stop;
 mod text;
 mod variables;
 mod words;
+
+pub use answer::Answer;
+pub use call::run;

@@ -1,0 +1,53 @@
+-- What a call answers, and what it prints.
+use Rattle.std.specs.Prelude.{◌≡◌, ◌≢◌, ◌⊎◌, ℕ, List, [], ◌++◌, Option, Result, Ok, Err}
+use Rattle.opl_outside.specs.Becomes.{Becomes}
+use Rattle.opl_outside.specs.Files.{Files}
+use Rattle.opl_tree.specs.declared.model.ModelTree.{ModelTree}
+use Rattle.opl_tool.specs.declared.answer.Answer.{Answer}
+use Rattle.opl_tool.specs.declared.answer.Answer.TheVariants.{Done, NoSolution, Refused, Spent, ReadFault, WriteFault, OutOfMemory, Rejected}
+use Rattle.opl_tool.specs.declared.refusal.Refusal.{Refusal}
+use Rattle.opl_tool.specs.declared.stop.Stop.{Stop}
+use Rattle.opl_tool.specs.Judged.{Judged}
+use Rattle.opl_tool.specs.Lines.{stop_text}
+use Rattle.opl_tool.specs.Meaning.{solutions}
+use Rattle.opl_tool.specs.Printing.{GainsFront}
+
+-- the words, the file or its text have a first fault
+abbrev pub IsRefused : List (List ℕ) → Files → Type 0
+IsRefused words files = (refusal : Refusal) × Judged words files (Err refusal)
+
+-- the model is accepted and has a solution
+abbrev pub HasSolution : List (List ℕ) → Files → Type 0
+HasSolution words files = (model : ModelTree) × Judged words files (Ok model) × (solutions model ≢ [])
+
+-- the model is accepted and has no solution
+abbrev pub HasNone : List (List ℕ) → Files → Type 0
+HasNone words files = (model : ModelTree) × Judged words files (Ok model) × (solutions model ≡ [])
+
+-- the answers whose causes are counts of faults, and want of memory
+abbrev pub IsFree : Answer → Type 0
+IsFree result = (result ≡ OutOfMemory) ⊎ (result ≡ ReadFault) ⊎ (result ≡ WriteFault)
+
+-- an answer comes only where a fact holds, and wherever it holds, unless a fault or want of memory comes first
+pub record Exactly (answer : Answer) (holds : Type 0) (result : Answer) : Type 0 where
+  pub only : result ≡ answer → holds
+  pub always : holds → (result ≡ answer) ⊎ IsFree result
+
+-- the sink has gained the text where the call ended, and else a front of it
+abbrev pub ShownBy : Answer → List ℕ → List ℕ → List ℕ → Type 0
+ShownBy Done text before now = now ≡ before ++ text
+ShownBy NoSolution text before now = now ≡ before ++ text
+ShownBy Refused text before now = GainsFront before now text
+ShownBy Spent text before now = GainsFront before now text
+ShownBy ReadFault text before now = GainsFront before now text
+ShownBy WriteFault text before now = GainsFront before now text
+ShownBy OutOfMemory text before now = GainsFront before now text
+ShownBy Rejected text before now = GainsFront before now text
+
+-- the text of an accepted model is shown
+abbrev pub Shows : Option (List ℕ) → Option (List ℕ) → List ℕ → Answer → Type 0
+Shows old new text result = Becomes old new (ShownBy result text)
+
+-- the sink has gained a front of one of the lines that a call may tell
+abbrev pub GainsLineFront : List ℕ → List ℕ → List ℕ → Type 0
+GainsLineFront file before now = (stop : Stop) × GainsFront before now (stop_text stop file)

@@ -1,0 +1,67 @@
+//! The program's call: its words, its files and its texts.
+ghost use Rattle.std.specs.Prelude.{◌≡◌, ◌⊎◌, Err, Ok, IfSome, map, string_bytes};
+ghost use Rattle.opl_outside.specs.Becomes.{Becomes};
+ghost use Rattle.opl_outside.specs.Counts.{Rose};
+ghost use Rattle.opl_tool.specs.Headline.{IsRefused, HasSolution, HasNone, Exactly, Shows, GainsLineFront};
+ghost use Rattle.opl_tool.specs.Judged.{Judged};
+ghost use Rattle.opl_tool.specs.Lines.{file_in, refusal_text, stop_text, Tells};
+ghost use Rattle.opl_tool.specs.Text.{text_of};
+ghost use Rattle.opl_tree.specs.declared.model.ModelTree.{ModelTree};
+ghost use Rattle.opl_tool.specs.declared.refusal.Refusal.{Refusal};
+
+use std::alloc::Global;
+
+use opl_outside::{Shelf, Sink};
+
+use crate::answer::Answer;
+use crate::carry_out::carry_out;
+use crate::line::tell;
+use crate::stop::Stop;
+
+/// Carries out the call of the program with these words, its name not among them.
+///
+/// `solve MODEL` reads the model of that name from the shelf and puts its solutions on `out`, each once and in
+/// lexicographic order, one piece a solution, and then the closing lines as one piece. Every other call is refused. The
+/// line of a refusal, of a fault or of want of memory is put on `err` as one piece.
+pub fn run<F: Shelf, O: Sink, E: Sink>(alloc: Global, words: &[String], shelf: &mut F, out: &mut O, err: &mut E) -> Answer
+    // Which answer comes, where the shelf tells its files.
+    ensures refused { let given = map (λ word. string_bytes word) words.now in
+        IfSome (F.files shelf.old) (λ files. Exactly Answer.Refused (IsRefused given files) result) }
+    ensures solved { let given = map (λ word. string_bytes word) words.now in
+        IfSome (F.files shelf.old) (λ files. Exactly Answer.Done (HasSolution given files) result) }
+    ensures unsolved { let given = map (λ word. string_bytes word) words.now in
+        IfSome (F.files shelf.old) (λ files. Exactly Answer.NoSolution (HasNone given files) result) }
+
+    // What is printed.
+    ensures shown { let given = map (λ word. string_bytes word) words.now in
+        IfSome (F.files shelf.old) (λ files. (model : ModelTree) → Judged given files (Ok model) →
+            Shows (O.written out.old) (O.written out.new) (text_of model) result) }
+    ensures silent { let given = map (λ word. string_bytes word) words.now in
+        IfSome (F.files shelf.old) (λ files. (refusal : Refusal) → Judged given files (Err refusal) →
+            O.written out.new ≡ O.written out.old) }
+    ensures line { let given = map (λ word. string_bytes word) words.now in
+        IfSome (F.files shelf.old) (λ files. (refusal : Refusal) → Judged given files (Err refusal) → result ≡ Answer.Refused →
+            Tells (E.written err.old) (E.written err.new) (E.faults err.old) (E.faults err.new) (refusal_text refusal (file_in given)) result) }
+
+    // The causes of the other answers, and their lines.
+    ensures read { result ≡ Answer.ReadFault → Rose (F.read_faults shelf.old) (F.read_faults shelf.new) }
+    ensures write { result ≡ Answer.WriteFault → Rose (O.faults out.old) (O.faults out.new) }
+    ensures quiet { (result ≡ Answer.Done) ⊎ (result ≡ Answer.NoSolution) ⊎ (result ≡ Answer.Refused) →
+        (F.read_faults shelf.new ≡ F.read_faults shelf.old) × (O.faults out.new ≡ O.faults out.old) }
+    ensures no_write { F.write_faults shelf.new ≡ F.write_faults shelf.old }
+    ensures known { (result ≡ Answer.Done) ⊎ (result ≡ Answer.NoSolution) ⊎ (result ≡ Answer.Refused) ⊎ (result ≡ Answer.ReadFault)
+        ⊎ (result ≡ Answer.WriteFault) ⊎ (result ≡ Answer.OutOfMemory) }
+    ensures read_line { let given = map (λ word. string_bytes word) words.now in result ≡ Answer.ReadFault →
+        Tells (E.written err.old) (E.written err.new) (E.faults err.old) (E.faults err.new) (stop_text Stop.ReadFault (file_in given)) result }
+    ensures write_line { let given = map (λ word. string_bytes word) words.now in result ≡ Answer.WriteFault →
+        Tells (E.written err.old) (E.written err.new) (E.faults err.old) (E.faults err.new) (stop_text Stop.WriteFault (file_in given)) result }
+    ensures memory_line { let given = map (λ word. string_bytes word) words.now in result ≡ Answer.OutOfMemory →
+        Becomes (E.written err.old) (E.written err.new) (GainsLineFront (file_in given)) }
+    ensures no_line { (result ≡ Answer.Done) ⊎ (result ≡ Answer.NoSolution) → err.new ≡ err.old }
+{
+    match carry_out(alloc, words, shelf, out) {
+        Ok(0) => Answer::NoSolution,
+        Ok(_) => Answer::Done,
+        Err(stop) => tell(alloc, err, words, stop),
+    }
+}
