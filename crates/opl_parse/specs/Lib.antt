@@ -1,2 +1,4 @@
 pub mod Answers
+pub mod Input
 pub mod Laws
+pub mod Rules

@@ -1,5 +1,6 @@
 pub mod Advance
 pub mod Enumeration
+pub mod HeadlineLemmas
 pub mod JudgedLemmas
 pub mod LineLemmas
 pub mod NamesLemmas

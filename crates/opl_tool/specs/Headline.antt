@@ -1,5 +1,5 @@
 -- What a call answers, and what it prints.
-use Rattle.std.specs.Prelude.{◌≡◌, ◌≢◌, ◌⊎◌, ℕ, List, [], ◌++◌, Option, Result, Ok, Err}
+use Rattle.std.specs.Prelude.{◌≡◌, ◌≢◌, ◌⊎◌, ℕ, zero, suc, List, [], ◌++◌, Option, Result, Ok, Err}
 use Rattle.opl_outside.specs.Becomes.{Becomes}
 use Rattle.opl_outside.specs.Files.{Files}
 use Rattle.opl_tree.specs.declared.model.ModelTree.{ModelTree}
@@ -8,9 +8,15 @@ use Rattle.opl_tool.specs.declared.answer.Answer.TheVariants.{Done, NoSolution, 
 use Rattle.opl_tool.specs.declared.refusal.Refusal.{Refusal}
 use Rattle.opl_tool.specs.declared.stop.Stop.{Stop}
 use Rattle.opl_tool.specs.Judged.{Judged}
-use Rattle.opl_tool.specs.Lines.{stop_text}
+use Rattle.opl_tool.specs.Lines.{stop_text, answer_of}
 use Rattle.opl_tool.specs.Meaning.{solutions}
 use Rattle.opl_tool.specs.Printing.{GainsFront}
+
+-- the answer of a call whose work ended so
+abbrev pub Answers : Result ℕ Stop → Answer → Type 0
+Answers (Ok zero) result = result ≡ NoSolution
+Answers (Ok (suc n)) result = result ≡ Done
+Answers (Err stop) result = (result ≡ answer_of stop) ⊎ (result ≡ OutOfMemory)
 
 -- the words, the file or its text have a first fault
 abbrev pub IsRefused : List (List ℕ) → Files → Type 0

@@ -1,8 +1,8 @@
 //! The program's call: its words, its files and its texts.
-ghost use Rattle.std.specs.Prelude.{◌≡◌, ◌⊎◌, Err, Ok, IfSome, map, string_bytes};
+ghost use Rattle.std.specs.Prelude.{◌≡◌, ◌⊎◌, IfSome, IfErr, OnOk, map, string_bytes};
 ghost use Rattle.opl_outside.specs.Becomes.{Becomes};
 ghost use Rattle.opl_outside.specs.Counts.{Rose};
-ghost use Rattle.opl_tool.specs.Headline.{IsRefused, HasSolution, HasNone, Exactly, Shows, GainsLineFront};
+ghost use Rattle.opl_tool.specs.Headline.{Answers, IsRefused, HasSolution, HasNone, Exactly, Shows, GainsLineFront};
 ghost use Rattle.opl_tool.specs.Judged.{Judged};
 ghost use Rattle.opl_tool.specs.Lines.{file_in, refusal_text, stop_text, Tells};
 ghost use Rattle.opl_tool.specs.Text.{text_of};
@@ -17,6 +17,20 @@ use crate::answer::Answer;
 use crate::carry_out::carry_out;
 use crate::line::tell;
 use crate::stop::Stop;
+
+/// The answer of a call whose work ended so, after its line is put on `err`, if it has one.
+fn finish<E: Sink>(alloc: Global, err: &mut E, words: &[String], ended: Result<u64, Stop>) -> Answer
+    ensures answers { Answers ended result }
+    ensures ok { OnOk ended (err.new ≡ err.old) }
+    ensures err { let given = map (λ word. string_bytes word) words.now in
+        IfErr ended (λ stop. Tells (E.written err.old) (E.written err.new) (E.faults err.old) (E.faults err.new) (stop_text stop (file_in given)) result) }
+{
+    match ended {
+        Ok(0) => Answer::NoSolution,
+        Ok(_) => Answer::Done,
+        Err(stop) => tell(alloc, err, words, stop),
+    }
+}
 
 /// Carries out the call of the program with these words, its name not among them.
 ///
@@ -59,9 +73,6 @@ pub fn run<F: Shelf, O: Sink, E: Sink>(alloc: Global, words: &[String], shelf: &
         Becomes (E.written err.old) (E.written err.new) (GainsLineFront (file_in given)) }
     ensures no_line { (result ≡ Answer.Done) ⊎ (result ≡ Answer.NoSolution) → err.new ≡ err.old }
 {
-    match carry_out(alloc, words, shelf, out) {
-        Ok(0) => Answer::NoSolution,
-        Ok(_) => Answer::Done,
-        Err(stop) => tell(alloc, err, words, stop),
-    }
+    let ended = carry_out(alloc, words, shelf, out);
+    finish(alloc, err, words, ended)
 }

@@ -6,6 +6,7 @@ mod expression;
 mod fault;
 mod instruction;
 mod model;
+mod word;
 
 pub use declaration::{DeclTree, VariableTree};
 pub use expression::{CompareTree, NameTree, NumberTree, OperandTree, Relation};
@@ -14,3 +15,4 @@ pub use instruction::{BlockTree, InstrTree, ItemTree, ItemsTree};
 pub use model::ModelTree;
 pub use opl_list::Seq;
 pub use opl_token::Name;
+pub use word::is_reserved;

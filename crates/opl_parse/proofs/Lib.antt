@@ -1,0 +1,10 @@
+pub mod Tokens
+pub mod TreeLaws
+pub mod Behind
+pub mod Grammar
+pub mod Lists
+pub mod Loops
+pub mod Outcomes
+pub mod Takes
+pub mod Texts
+pub mod Phrases
