@@ -15,10 +15,10 @@ abbrev pub after_call : FailingCalls → FailingCalls
 after_call calls = record calls { made = raised calls.made }
 
 -- a call failed exactly where its number is named; one that wanted memory is not counted
-abbrev pub Turns : {A : Type 0} → FailingCalls → FailingCalls → Result A OutsideError → Type 0
-Turns old new (Ok x) = (fails_next old ≡ false) × (new ≡ after_call old)
-Turns old new (Err Failed) = (fails_next old ≡ true) × (new ≡ after_call old)
-Turns old new (Err OutOfMemory) = new ≡ old
+abbrev pub FailsWhereNamed : {A : Type 0} → FailingCalls → FailingCalls → Result A OutsideError → Type 0
+FailsWhereNamed old new (Ok x) = (fails_next old ≡ false) × (new ≡ after_call old)
+FailsWhereNamed old new (Err Failed) = (fails_next old ≡ true) × (new ≡ after_call old)
+FailsWhereNamed old new (Err OutOfMemory) = new ≡ old
 
 -- the first half of a piece, rounded down
 abbrev pub first_half : List ℕ → List ℕ

@@ -23,7 +23,7 @@ pub record Sets (old new : Files) (name bytes : List ℕ) : Type 0 where
   pub this : new name ≡ Some bytes
   pub others : (other : List ℕ) → other ≢ name → new other ≡ old other
 
--- bytes that a read gives are never more than the limit
+-- the bytes that a read gives are never more than the limit
 abbrev pub IsWithinLimit : Found → Type 0
 IsWithinLimit (Bytes bytes) = length bytes ≤ max_bytes
 IsWithinLimit Absent = ⊤
@@ -37,7 +37,8 @@ IsFound file TooLong = IsSomeAnd file (λ bytes. max_bytes < length bytes)
 
 -- a read changes no file, and finds what there is
 abbrev pub Reads : Option Files → Option Files → List ℕ → Result Found OutsideError → Type 0
-Reads old new name result = Becomes old new (λ before now. (now ≡ before) × IfOk result (IsFound (before name)))
+Reads old new name result =
+    Becomes old new (λ before now. (now ≡ before) × IfOk result (IsFound (before name)))
 
 -- what making a file empty has done, by how the call ended
 abbrev pub EmptiesBy : {A : Type 0} → Result A OutsideError → List ℕ → Files → Files → Type 0
@@ -52,7 +53,8 @@ Empties old new name result = Becomes old new (EmptiesBy result name)
 -- what adding a piece at the end of a file has done, by how the call ended
 abbrev pub AddsBy : {A : Type 0} → Result A OutsideError → List ℕ → List ℕ → Files → Files → Type 0
 AddsBy (Ok x) name piece before now = Sets before now name (bytes_of before name ++ piece)
-AddsBy (Err Failed) name piece before now = (now ≡ before) ⊎ ((n : ℕ) × Sets before now name (bytes_of before name ++ take n piece))
+AddsBy (Err Failed) name piece before now =
+    (now ≡ before) ⊎ ((n : ℕ) × Sets before now name (bytes_of before name ++ take n piece))
 AddsBy (Err OutOfMemory) name piece before now = now ≡ before
 
 -- the file, empty if it was absent, has gained the piece; where the call failed, a prefix of it

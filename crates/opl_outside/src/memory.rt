@@ -3,7 +3,7 @@ ghost use Rattle.std.specs.Prelude.{◌≡◌, None, Some, [], ◌++◌, IfOk, O
 ghost use Rattle.std.specs.Option.{option_copied};
 ghost use Rattle.opl_outside.specs.Becomes.{Becomes};
 ghost use Rattle.opl_outside.specs.Counts.{Counts, CountsOnce};
-ghost use Rattle.opl_outside.specs.Failing.{Turns, first_half};
+ghost use Rattle.opl_outside.specs.Failing.{FailsWhereNamed, first_half};
 ghost use Rattle.opl_outside.specs.Files.{Sets, bytes_of, IsWithinLimit, Reads, Empties, Adds};
 ghost use Rattle.opl_outside.specs.Held.{held};
 ghost use Rattle.opl_outside.specs.Written.{Puts};
@@ -18,8 +18,8 @@ use std::alloc::{AllocError, Global};
 
 /// Files in memory, of whose calls some are to fail. It tells its files.
 ///
-/// All calls of [`Shelf`] are numbered together, from 1. A call that wants memory changes nothing and
-/// takes no number.
+/// All calls of [`Shelf`] are numbered together, from 1. A call that wants memory changes nothing
+/// and takes no number.
 #[derive(Drop)]
 pub struct MemoryShelf {
     files: FileMap,
@@ -31,10 +31,14 @@ pub struct MemoryShelf {
 impl MemoryShelf {
     /// A shelf without files; the calls with these numbers fail.
     pub fn new(alloc: Global, failing: &[u64]) -> Result<MemoryShelf, AllocError>
-        ensures empty { IfOk result (λ shelf. ⟦<MemoryShelf as Shelf>⟧.files shelf ≡ Some (λ _. None)) }
-        ensures no_read_fault { IfOk result (λ shelf. ⟦<MemoryShelf as Shelf>⟧.read_faults shelf ≡ 0) }
-        ensures no_write_fault { IfOk result (λ shelf. ⟦<MemoryShelf as Shelf>⟧.write_faults shelf ≡ 0) }
-        ensures calls { IfOk result (λ shelf. shelf.calls ≡ record { numbers = failing.now; made = 0 }) }
+        ensures empty { IfOk result
+            (λ shelf. ⟦<MemoryShelf as Shelf>⟧.files shelf ≡ Some (λ _. None)) }
+        ensures no_read_fault { IfOk result
+            (λ shelf. ⟦<MemoryShelf as Shelf>⟧.read_faults shelf ≡ 0) }
+        ensures no_write_fault { IfOk result
+            (λ shelf. ⟦<MemoryShelf as Shelf>⟧.write_faults shelf ≡ 0) }
+        ensures calls { IfOk result
+            (λ shelf. shelf.calls ≡ record { numbers = failing.now; made = 0 }) }
     {
         Ok(MemoryShelf {
             files: FileMap::new(alloc),
@@ -44,8 +48,8 @@ impl MemoryShelf {
         })
     }
 
-    /// Gives the file `name` these bytes. This is no numbered call. Where memory is wanting, all files
-    /// stay as they were.
+    /// Gives the file `name` these bytes. This is no numbered call. Where memory is wanting, all
+    /// files stay as they were.
     pub fn add(&mut self, alloc: Global, name: &str, bytes: &[u8]) -> Result<(), AllocError>
         ensures ok { OnOk result (Becomes (⟦<MemoryShelf as Shelf>⟧.files self.old)
             (⟦<MemoryShelf as Shelf>⟧.files self.new)
@@ -75,12 +79,13 @@ impl Shelf for MemoryShelf {
 
     /// A call that is to fail reads nothing.
     fn read(&mut self, alloc: Global, name: &str) -> Result<Found, OutsideError>
-        ensures found { Reads (Some (held self.old.files)) (Some (held self.new.files)) name.now result }
+        ensures found { Reads (Some (held self.old.files)) (Some (held self.new.files))
+            name.now result }
         ensures within_limit { IfOk result IsWithinLimit }
         ensures cause { Counts self.old.read_faults self.new.read_faults result }
         ensures no_write { self.new.write_faults ≡ self.old.write_faults }
         ensures once { CountsOnce self.old.read_faults self.new.read_faults result }
-        ensures turn { Turns self.old.calls self.new.calls result }
+        ensures where_named { FailsWhereNamed self.old.calls self.new.calls result }
     {
         let outcome = if self.calls.fails_next() {
             Err(OutsideError::Failed)
@@ -94,11 +99,12 @@ impl Shelf for MemoryShelf {
 
     /// A call that is to fail leaves the file as it was.
     fn begin(&mut self, alloc: Global, name: &str) -> Result<(), OutsideError>
-        ensures emptied { Empties (Some (held self.old.files)) (Some (held self.new.files)) name.now result }
+        ensures emptied { Empties (Some (held self.old.files)) (Some (held self.new.files))
+            name.now result }
         ensures cause { Counts self.old.write_faults self.new.write_faults result }
         ensures no_read { self.new.read_faults ≡ self.old.read_faults }
         ensures once { CountsOnce self.old.write_faults self.new.write_faults result }
-        ensures turn { Turns self.old.calls self.new.calls result }
+        ensures where_named { FailsWhereNamed self.old.calls self.new.calls result }
         ensures left { OnErr result (held self.new.files ≡ held self.old.files) }
     {
         let outcome = if self.calls.fails_next() {
@@ -113,12 +119,12 @@ impl Shelf for MemoryShelf {
 
     /// A call that is to fail adds the first half of the piece, rounded down.
     fn append(&mut self, alloc: Global, name: &str, bytes: &[u8]) -> Result<(), OutsideError>
-        ensures added { Adds (Some (held self.old.files)) (Some (held self.new.files)) name.now bytes.now
-            result }
+        ensures added { Adds (Some (held self.old.files)) (Some (held self.new.files))
+            name.now bytes.now result }
         ensures cause { Counts self.old.write_faults self.new.write_faults result }
         ensures no_read { self.new.read_faults ≡ self.old.read_faults }
         ensures once { CountsOnce self.old.write_faults self.new.write_faults result }
-        ensures turn { Turns self.old.calls self.new.calls result }
+        ensures where_named { FailsWhereNamed self.old.calls self.new.calls result }
         ensures half { IsErrOf result OutsideError.Failed → Sets (held self.old.files)
             (held self.new.files) name.now
             (bytes_of (held self.old.files) name.now ++ first_half bytes.now) }
@@ -138,7 +144,8 @@ impl Shelf for MemoryShelf {
 
 /// Output that is kept in memory, of whose calls some are to fail. It tells what was written.
 ///
-/// The calls of `put` are numbered from 1. A call that wants memory changes nothing and takes no number.
+/// The calls of `put` are numbered from 1. A call that wants memory changes nothing and takes no
+/// number.
 #[derive(Drop)]
 pub struct MemorySink {
     bytes: Vec<u8>,
@@ -151,7 +158,8 @@ impl MemorySink {
     pub fn new(alloc: Global, failing: &[u64]) -> Result<MemorySink, AllocError>
         ensures empty { IfOk result (λ sink. ⟦<MemorySink as Sink>⟧.written sink ≡ Some []) }
         ensures no_fault { IfOk result (λ sink. ⟦<MemorySink as Sink>⟧.faults sink ≡ 0) }
-        ensures calls { IfOk result (λ sink. sink.calls ≡ record { numbers = failing.now; made = 0 }) }
+        ensures calls { IfOk result
+            (λ sink. sink.calls ≡ record { numbers = failing.now; made = 0 }) }
     {
         Ok(MemorySink {
             bytes: Vec::new(alloc),
@@ -175,10 +183,11 @@ impl Sink for MemorySink {
 
     /// A call that is to fail writes the first half of the piece, rounded down.
     fn put(&mut self, _alloc: Global, bytes: &[u8]) -> Result<(), OutsideError>
-        ensures written { Puts (Some self.old.bytes.items) (Some self.new.bytes.items) bytes.now result }
+        ensures written { Puts (Some self.old.bytes.items) (Some self.new.bytes.items)
+            bytes.now result }
         ensures cause { Counts self.old.faults self.new.faults result }
         ensures once { CountsOnce self.old.faults self.new.faults result }
-        ensures turn { Turns self.old.calls self.new.calls result }
+        ensures where_named { FailsWhereNamed self.old.calls self.new.calls result }
         ensures half { IsErrOf result OutsideError.Failed
             → self.new.bytes.items ≡ self.old.bytes.items ++ first_half bytes.now }
     {

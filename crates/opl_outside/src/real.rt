@@ -14,7 +14,8 @@ use std::alloc::Global;
 use std::fs::{File, Files, OpenOptions};
 use std::io::{ErrorKind, Read, Write};
 
-/// The files of the disk. It tells nothing of what they hold.
+/// The files of the disk. It tells nothing of what they hold. An interrupted call is a fault, as
+/// any other error is.
 #[derive(Drop)]
 pub struct RealShelf<'a, R: Files> {
     rt: &'a R,
@@ -50,10 +51,7 @@ impl<R: Files> Shelf for RealShelf<'_, R> {
     }
 
     fn begin(&mut self, _alloc: Global, name: &str) -> Result<(), OutsideError> {
-        let outcome = match File::create(self.rt, name) {
-            Ok(_) => Ok(()),
-            Err(_) => Err(OutsideError::Failed),
-        };
+        let outcome = empty_file(self.rt, name);
         self.write_faults = counted(self.write_faults, &outcome);
         outcome
     }
@@ -76,12 +74,20 @@ fn read_file<R: Files>(rt: &R, alloc: Global, name: &str) -> Result<Found, Outsi
     }
 }
 
+/// Makes a file empty, or makes it where there is none.
+fn empty_file<R: Files>(rt: &R, name: &str) -> Result<(), OutsideError> {
+    File::create(rt, name).map_err(|_| OutsideError::Failed)?;
+    Ok(())
+}
+
 /// Adds `bytes` at the end of a file, which is made where there is none.
 fn append_to_file<R: Files>(rt: &R, name: &str, bytes: &[u8]) -> Result<(), OutsideError> {
-    match OpenOptions::new().append(true).create(true).open(rt, name) {
-        Ok(mut file) => write_whole(&mut file, bytes),
-        Err(_) => Err(OutsideError::Failed),
-    }
+    let mut file = OpenOptions::new()
+        .append(true)
+        .create(true)
+        .open(rt, name)
+        .map_err(|_| OutsideError::Failed)?;
+    write_whole(&mut file, bytes)
 }
 
 /// Reads to the end, or one byte past the limit.
@@ -101,7 +107,7 @@ fn read_whole<F: Read>(alloc: Global, file: &mut F) -> Result<Found, OutsideErro
 /// The most bytes that one call reads.
 const PIECE: usize = 8 * 1024;
 
-/// Reads once, and adds what came at the end of `bytes`. Nothing comes at the end of the file alone.
+/// Reads once, and adds what came behind `bytes`. Nothing comes only at the end of the file.
 fn read_piece<F: Read>(file: &mut F, bytes: &mut Vec<u8>) -> Result<bool, OutsideError>
     requires { vec_len bytes.old ≤ max_bytes }
     ensures added { OnOk result (bytes.new.items
@@ -123,7 +129,8 @@ fn read_piece<F: Read>(file: &mut F, bytes: &mut Vec<u8>) -> Result<bool, Outsid
     }
 }
 
-/// A sink that hands its bytes to a writer, and tells what the writer tells.
+/// A sink that hands its bytes to a writer, and tells what the writer tells. An interrupted call is
+/// a fault, as any other error is.
 #[derive(Drop)]
 pub struct RealSink<W> {
     to: W,

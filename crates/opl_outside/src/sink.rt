@@ -6,7 +6,8 @@ ghost use Rattle.opl_outside.specs.Written.{Puts};
 use crate::error::OutsideError;
 use std::alloc::Global;
 
-/// A place that takes bytes. It may tell what was written to it, or nothing of it, as a terminal does.
+/// A place that takes bytes. It may tell what was written to it, or nothing of it, as a terminal
+/// does. It counts its faults.
 pub trait Sink {
     /// All bytes written so far, where they are told.
     ghost written: { Self → Option (List ℕ) };

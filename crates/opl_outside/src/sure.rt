@@ -20,9 +20,12 @@ pub struct SureShelf {
 impl SureShelf {
     /// A shelf without files. It takes no memory.
     pub fn new(alloc: Global) -> Result<SureShelf, AllocError>
-        ensures empty { IsOkAnd result (λ shelf. ⟦<SureShelf as Shelf>⟧.files shelf ≡ Some (λ _. None)) }
-        ensures no_read_fault { IfOk result (λ shelf. ⟦<SureShelf as Shelf>⟧.read_faults shelf ≡ 0) }
-        ensures no_write_fault { IfOk result (λ shelf. ⟦<SureShelf as Shelf>⟧.write_faults shelf ≡ 0) }
+        ensures empty { IsOkAnd result
+            (λ shelf. ⟦<SureShelf as Shelf>⟧.files shelf ≡ Some (λ _. None)) }
+        ensures no_read_fault { IfOk result
+            (λ shelf. ⟦<SureShelf as Shelf>⟧.read_faults shelf ≡ 0) }
+        ensures no_write_fault { IfOk result
+            (λ shelf. ⟦<SureShelf as Shelf>⟧.write_faults shelf ≡ 0) }
     {
         Ok(SureShelf {
             files: FileMap::new(alloc),
