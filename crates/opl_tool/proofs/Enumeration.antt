@@ -58,8 +58,13 @@ step_none : (p : Place) (ps : List Place) (b : Bool) → nat_lt p.offset p.last 
     Left (p ∷ ps) (if b then Some (stepped p ∷ map at_first ps) else None)
 unfolding remaining
 step_none p ps true lt e = record {
-  rest = rw (e, more_values (value_of p +ℤ pos 1) (p.last - p.offset) (p.last - (p.offset + 1)) (one_less _ _ _ refl lt),
-      remaining-first ps, sets-at_first ps, value-stepped p) refl;
+  rest = rw (
+    e,
+    more_values (value_of p +ℤ pos 1) (p.last - p.offset) (p.last - (p.offset + 1)) (one_less _ _ _ refl lt),
+    remaining-first ps,
+    sets-at_first ps,
+    value-stepped p,
+  ) refl;
   sets = ap (λ sets. set_of p ∷ sets) (sets-at_first ps);
 }
 step_none p ps false ge e = record {

@@ -99,4 +99,4 @@ resolved_one tree (Err e) (Err f) p q = let both : Some e ≡ Some f = sym p ∙
 pub judged_one : (words : List (List ℕ)) (files : Files) → IsOne (Judged words files)
 judged_one words files =
     then_one _ _ (then_one _ _ (named_one words) (λ name. then_one _ _ (held_one files name) (λ bytes. then_one _ _ (scanned_one bytes) (λ tokens. parsed_one tokens (length bytes)))))
-        resolved_one
+    resolved_one

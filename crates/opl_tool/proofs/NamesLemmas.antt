@@ -111,7 +111,7 @@ pub declared-next : (ds : List DeclTree) (i : ℕ) (d : DeclTree) (v : VariableT
 declared-next ds i d v f g w u h e vd we ue none twice same more =
     let at : v ≡ variable_of (get_or ds i d) = vd ∙ ap variable_of e in
     let new : is_some (number_of (map variable_of (take i ds)) v.name.text) ≡ false =
-        ap is_some (sym (same v.name.text) ∙ ap f (sym we) ∙ sym none) in
+    ap is_some (sym (same v.name.text) ∙ ap f (sym we) ∙ sym none) in
     record {
       twice = twice ∙ twice-after ds i d v h at new;
       numbers = numbers-after ds i d v f g h at new same (λ name. rw ue at (more name));

@@ -72,7 +72,7 @@ shown_front vs all left here rest shown x y z e s g = record {
   gained = g.gained ∙ ap (λ t. t ++ g.front) s.gained ∙ append_assoc x s.done g.front;
   whole = append_assoc s.done g.front _
       ∙ ap (λ t. s.done ++ t) (sym (append_assoc g.front g.rest _) ∙ ap (λ t. t ++ solution_texts vs (count_from shown here) rest) g.whole
-          ∙ sym (texts-append vs shown here rest) ∙ ap (solution_texts vs shown) (sym e))
+      ∙ sym (texts-append vs shown here rest) ∙ ap (solution_texts vs shown) (sym e))
       ∙ s.whole;
 }
 

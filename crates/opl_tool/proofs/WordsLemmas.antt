@@ -17,4 +17,4 @@ pub solve-words : (words : List (String Global)) (command name : String Global) 
 solve-words words command name text shown low high c n t s e =
     let is_solve : text ≡ codes "solve" = (bytes_eq-Decides text (codes "solve")).0 (sym e) in
     ap (map (λ word. string_bytes word)) (two words command name low high c n)
-        ∙ ap (λ w. w ∷ string_bytes name ∷ []) (sym t ∙ is_solve) ∙ ap (λ w. codes "solve" ∷ w ∷ []) (sym s)
+    ∙ ap (λ w. w ∷ string_bytes name ∷ []) (sym t ∙ is_solve) ∙ ap (λ w. codes "solve" ∷ w ∷ []) (sym s)

@@ -9,14 +9,12 @@ ghost use Rattle.opl_tool.specs.Text.{text_of};
 ghost use Rattle.opl_tree.specs.declared.model.ModelTree.{ModelTree};
 ghost use Rattle.opl_tool.specs.declared.refusal.Refusal.{Refusal};
 
-use std::alloc::Global;
-
-use opl_outside::{Shelf, Sink};
-
 use crate::answer::Answer;
 use crate::carry_out::carry_out;
 use crate::line::tell;
 use crate::stop::Stop;
+use opl_outside::{Shelf, Sink};
+use std::alloc::Global;
 
 /// The answer of a call whose work ended so, after its line is put on `err`, if it has one.
 fn finish<E: Sink>(alloc: Global, err: &mut E, words: &[String], ended: Result<u64, Stop>) -> Answer
@@ -37,7 +35,13 @@ fn finish<E: Sink>(alloc: Global, err: &mut E, words: &[String], ended: Result<u
 /// `solve MODEL` reads the model of that name from the shelf and puts its solutions on `out`, each once and in
 /// lexicographic order, one piece a solution, and then the closing lines as one piece. Every other call is refused. The
 /// line of a refusal, of a fault or of want of memory is put on `err` as one piece.
-pub fn run<F: Shelf, O: Sink, E: Sink>(alloc: Global, words: &[String], shelf: &mut F, out: &mut O, err: &mut E) -> Answer
+pub fn run<F: Shelf, O: Sink, E: Sink>(
+    alloc: Global,
+    words: &[String],
+    shelf: &mut F,
+    out: &mut O,
+    err: &mut E,
+) -> Answer
     // Which answer comes, where the shelf tells its files.
     ensures refused { let given = map (λ word. string_bytes word) words.now in
         IfSome (F.files shelf.old) (λ files. Exactly Answer.Refused (IsRefused given files) result) }
@@ -49,13 +53,13 @@ pub fn run<F: Shelf, O: Sink, E: Sink>(alloc: Global, words: &[String], shelf: &
     // What is printed.
     ensures shown { let given = map (λ word. string_bytes word) words.now in
         IfSome (F.files shelf.old) (λ files. (model : ModelTree) → Judged given files (Ok model) →
-            Shows (O.written out.old) (O.written out.new) (text_of model) result) }
+        Shows (O.written out.old) (O.written out.new) (text_of model) result) }
     ensures silent { let given = map (λ word. string_bytes word) words.now in
         IfSome (F.files shelf.old) (λ files. (refusal : Refusal) → Judged given files (Err refusal) →
-            O.written out.new ≡ O.written out.old) }
+        O.written out.new ≡ O.written out.old) }
     ensures line { let given = map (λ word. string_bytes word) words.now in
         IfSome (F.files shelf.old) (λ files. (refusal : Refusal) → Judged given files (Err refusal) → result ≡ Answer.Refused →
-            Tells (E.written err.old) (E.written err.new) (E.faults err.old) (E.faults err.new) (refusal_text refusal (file_in given)) result) }
+        Tells (E.written err.old) (E.written err.new) (E.faults err.old) (E.faults err.new) (refusal_text refusal (file_in given)) result) }
 
     // The causes of the other answers, and their lines.
     ensures read { result ≡ Answer.ReadFault → Rose (F.read_faults shelf.old) (F.read_faults shelf.new) }

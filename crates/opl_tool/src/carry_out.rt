@@ -4,17 +4,15 @@ ghost use Rattle.opl_tool.specs.Ends.{Ends};
 ghost use Rattle.opl_tool.specs.Judged.{Fetched};
 ghost use Rattle.opl_tool.specs.Stage.{GivesRead, CountsRead};
 
-use std::alloc::Global;
-
-use opl_outside::{Shelf, Sink};
-use opl_tree::ModelTree;
-
 use crate::problem::Problem;
 use crate::read::{load, read};
 use crate::refusal::Refusal;
 use crate::solve::solve;
 use crate::stop::Stop;
 use crate::words::model_name;
+use opl_outside::{Shelf, Sink};
+use opl_tree::ModelTree;
+use std::alloc::Global;
 
 /// The tree of the model's file.
 fn fetch<F: Shelf>(alloc: Global, words: &[String], shelf: &mut F) -> Result<ModelTree, Stop>
@@ -33,16 +31,21 @@ fn fetch<F: Shelf>(alloc: Global, words: &[String], shelf: &mut F) -> Result<Mod
 }
 
 /// Carries out a call, and answers how many solutions are shown.
-pub fn carry_out<F: Shelf, O: Sink>(alloc: Global, words: &[String], shelf: &mut F, out: &mut O) -> Result<u64, Stop>
+pub fn carry_out<F: Shelf, O: Sink>(
+    alloc: Global,
+    words: &[String],
+    shelf: &mut F,
+    out: &mut O,
+) -> Result<u64, Stop>
     ensures ends { Ends (record {
-        words = map (λ word. string_bytes word) words.now;
-        files = F.files shelf.old;
-        old = O.written out.old;
-        new = O.written out.new;
-        reads_before = F.read_faults shelf.old;
-        reads_now = F.read_faults shelf.new;
-        faults_before = O.faults out.old;
-        faults_now = O.faults out.new
+      words = map (λ word. string_bytes word) words.now;
+      files = F.files shelf.old;
+      old = O.written out.old;
+      new = O.written out.new;
+      reads_before = F.read_faults shelf.old;
+      reads_now = F.read_faults shelf.new;
+      faults_before = O.faults out.old;
+      faults_now = O.faults out.new;
     }) result }
     ensures no_write { F.write_faults shelf.new ≡ F.write_faults shelf.old }
 {

@@ -3,9 +3,8 @@ ghost use Rattle.std.specs.Prelude.{◌≡◌, map};
 ghost use Rattle.std.specs.List.{list_all};
 ghost use Rattle.opl_tool.specs.Meaning.{relates};
 
-use opl_tree::Relation;
-
 use crate::place::Place;
+use opl_tree::Relation;
 
 /// One side of a comparison.
 #[derive(Clone, Copy)]

@@ -5,18 +5,19 @@ mod answer;
 mod call;
 mod carry_out;
 mod constraint;
-mod place;
 mod line;
 mod names;
+mod place;
 mod print;
 mod problem;
 mod read;
 mod refusal;
 mod resolve;
-
 mod show;
 mod solve;
 mod stop;
+#[cfg(test)]
+mod tests;
 mod text;
 mod variables;
 mod words;

@@ -2,14 +2,12 @@
 ghost use Rattle.std.specs.Prelude.{◌≡◌, ◌⊎◌, map, string_bytes, IfOk};
 ghost use Rattle.opl_tool.specs.Lines.{file_in as the_file_in, named_text, placed_text, refusal_text, stop_text, answer_of as the_answer_of, Tells};
 
-use std::alloc::{AllocError, Global};
-
-use itoa::Buffer;
-use opl_outside::{OutsideError, Sink};
-
 use crate::answer::Answer;
 use crate::refusal::Refusal;
 use crate::stop::Stop;
+use itoa::Buffer;
+use opl_outside::{OutsideError, Sink};
+use std::alloc::{AllocError, Global};
 
 /// The file's name, as the words give it.
 fn file_in(words: &[String]) -> &[u8]

@@ -4,14 +4,12 @@ ghost use Rattle.opl_tool.specs.Meaning.{variable_of};
 ghost use Rattle.opl_tool.specs.Names.{number_in, Adds, Numbered};
 ghost use Rattle.opl_tool.specs.Stage.{Gives};
 
-use std::alloc::{AllocError, Global};
-use std::collections::HashMap;
-
-use opl_tree::DeclTree;
-
 use crate::refusal::Refusal;
 use crate::stop::Stop;
 use crate::variables::variable_of;
+use opl_tree::DeclTree;
+use std::alloc::{AllocError, Global};
+use std::collections::HashMap;
 
 /// The number of each variable by its name.
 pub type Numbers<'a> = HashMap<&'a [u8], usize>;

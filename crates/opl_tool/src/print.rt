@@ -2,11 +2,9 @@
 ghost use Rattle.std.specs.Prelude.{◌≡◌};
 ghost use Rattle.opl_tool.specs.Printing.{write_stop, Prints};
 
-use std::alloc::Global;
-
-use opl_outside::{OutsideError, Sink};
-
 use crate::stop::Stop;
+use opl_outside::{OutsideError, Sink};
+use std::alloc::Global;
 
 /// Why printing stops where a `put` failed.
 fn write_stop(fault: OutsideError) -> Stop

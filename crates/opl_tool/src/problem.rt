@@ -3,16 +3,14 @@ ghost use Rattle.std.specs.Prelude.{◌≡◌};
 ghost use Rattle.opl_tool.specs.Meaning.{items_in, items_of};
 ghost use Rattle.opl_tool.specs.Stage.{Gives};
 
-use std::alloc::Global;
-
-use opl_tree::{InstrTree, ItemsTree, ModelTree};
-
 use crate::constraint::Constraint;
 use crate::names::numbers;
 use crate::place::Place;
 use crate::resolve::constraints;
 use crate::stop::Stop;
 use crate::variables::{far_end, places};
+use opl_tree::{InstrTree, ItemsTree, ModelTree};
+use std::alloc::Global;
 
 /// The places at the first assignment of a model's variables, if there is an assignment, and its comparisons.
 #[derive(Drop)]

@@ -5,15 +5,13 @@ ghost use Rattle.opl_outside.specs.Files.{max_bytes};
 ghost use Rattle.opl_tool.specs.Judged.{Held, Scanned, Parsed, Read};
 ghost use Rattle.opl_tool.specs.Stage.{Gives, GivesRead, CountsRead};
 
-use std::alloc::Global;
-
+use crate::refusal::Refusal;
+use crate::stop::Stop;
 use opl_outside::{Found, OutsideError, Shelf};
 use opl_parse::parse_model;
 use opl_token::{ScanFault, Seq, Token, scan};
 use opl_tree::{ModelTree, SyntaxFault};
-
-use crate::refusal::Refusal;
-use crate::stop::Stop;
+use std::alloc::Global;
 
 /// The bytes of the file of this name.
 pub fn load<F: Shelf>(alloc: Global, shelf: &mut F, name: &str) -> Result<Seq<u8>, Stop>

@@ -5,15 +5,13 @@ ghost use Rattle.opl_tool.specs.Names.{number_in as the_number_in};
 ghost use Rattle.opl_tool.specs.Resolve.{found_operand, found_constraint, Pushes, Found};
 ghost use Rattle.opl_tool.specs.Stage.{Gives};
 
-use std::alloc::Global;
-
-use opl_tree::{ItemTree, ItemsTree, OperandTree};
-
 use crate::constraint::{Constraint, Operand};
 use crate::names::{Numbers, number_in};
 use crate::refusal::Refusal;
 use crate::stop::Stop;
 use crate::variables::number_value;
+use opl_tree::{ItemTree, ItemsTree, OperandTree};
+use std::alloc::Global;
 
 /// The operand with the number of its variable, or a refusal at a name that no variable has.
 fn operand(numbers: &Numbers<'_>, tree: &OperandTree) -> Result<Operand, Refusal>
@@ -46,7 +44,11 @@ fn constraint(numbers: &Numbers<'_>, item: &ItemTree) -> Result<Constraint, Refu
 }
 
 /// Adds the comparison that an item is.
-fn push(constraints: &mut Vec<Constraint>, numbers: &Numbers<'_>, item: &ItemTree) -> Result<(), Stop>
+fn push(
+    constraints: &mut Vec<Constraint>,
+    numbers: &Numbers<'_>,
+    item: &ItemTree,
+) -> Result<(), Stop>
     ensures { Pushes (found_constraint (the_number_in numbers.now) item.now) constraints.old.items constraints.new.items result }
 {
     match constraint(numbers, item) {
@@ -59,7 +61,11 @@ fn push(constraints: &mut Vec<Constraint>, numbers: &Numbers<'_>, item: &ItemTre
 }
 
 /// The comparisons of a model's items, or the refusal at the first name that no variable has.
-pub fn constraints(alloc: Global, numbers: &Numbers<'_>, items: &ItemsTree) -> Result<Vec<Constraint>, Stop>
+pub fn constraints(
+    alloc: Global,
+    numbers: &Numbers<'_>,
+    items: &ItemsTree,
+) -> Result<Vec<Constraint>, Stop>
     ensures { Gives (Found (the_number_in numbers.now) (items_in items.now)) result }
 {
     let mut constraints = Vec::new(alloc);

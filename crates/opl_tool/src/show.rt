@@ -6,19 +6,23 @@ ghost use Rattle.opl_tool.specs.Places.{value_of, remaining};
 ghost use Rattle.opl_tool.specs.Printing.{Prints};
 ghost use Rattle.opl_tool.specs.Text.{solution_text as the_solution_text, solution_texts, count_from};
 
-use std::alloc::Global;
-
-use opl_outside::Sink;
-use opl_tree::DeclTree;
-
 use crate::constraint::Constraint;
 use crate::place::{Place, advance};
 use crate::print::print;
 use crate::stop::Stop;
 use crate::text::solution_text;
+use opl_outside::Sink;
+use opl_tree::DeclTree;
+use std::alloc::Global;
 
 /// Shows the assignment on which `places` stand as the solution of this number.
-fn show_one<O: Sink>(alloc: Global, out: &mut O, number: u64, decls: &[DeclTree], places: &[Place]) -> Result<(), Stop>
+fn show_one<O: Sink>(
+    alloc: Global,
+    out: &mut O,
+    number: u64,
+    decls: &[DeclTree],
+    places: &[Place],
+) -> Result<(), Stop>
     requires { length places.now ≡ length decls.now }
     ensures { Prints (the_solution_text (map variable_of decls.now) number (map value_of places.now)) (O.written out.old) (O.written out.new) (O.faults out.old) (O.faults out.new) result }
 {
@@ -28,7 +32,14 @@ fn show_one<O: Sink>(alloc: Global, out: &mut O, number: u64, decls: &[DeclTree]
 
 /// Shows the assignment on which `places` stand where all comparisons hold on it, and answers how many solutions are
 /// shown then.
-fn show_here<O: Sink>(alloc: Global, out: &mut O, shown: u64, decls: &[DeclTree], constraints: &[Constraint], places: &[Place]) -> Result<u64, Stop>
+fn show_here<O: Sink>(
+    alloc: Global,
+    out: &mut O,
+    shown: u64,
+    decls: &[DeclTree],
+    constraints: &[Constraint],
+    places: &[Place],
+) -> Result<u64, Stop>
     requires { length places.now ≡ length decls.now }
     ensures prints { let here = filter (all_hold constraints.now) (map value_of places.now ∷ []) in
         Prints (solution_texts (map variable_of decls.now) shown here) (O.written out.old) (O.written out.new) (O.faults out.old) (O.faults out.new) result }
@@ -45,7 +56,13 @@ fn show_here<O: Sink>(alloc: Global, out: &mut O, shown: u64, decls: &[DeclTree]
 }
 
 /// Shows all solutions from the assignment on which `places` stand, and answers how many there are.
-pub fn show_all<O: Sink>(alloc: Global, out: &mut O, decls: &[DeclTree], constraints: &[Constraint], places: &mut [Place]) -> Result<u64, Stop>
+pub fn show_all<O: Sink>(
+    alloc: Global,
+    out: &mut O,
+    decls: &[DeclTree],
+    constraints: &[Constraint],
+    places: &mut [Place],
+) -> Result<u64, Stop>
     requires { length places.old ≡ length decls.now }
     ensures prints { let all = filter (all_hold constraints.now) (remaining places.old) in
         Prints (solution_texts (map variable_of decls.now) 0 all) (O.written out.old) (O.written out.new) (O.faults out.old) (O.faults out.new) result }

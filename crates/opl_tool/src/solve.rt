@@ -5,19 +5,22 @@ ghost use Rattle.opl_tool.specs.Printing.{Prints};
 ghost use Rattle.opl_tool.specs.Problem.{Poses};
 ghost use Rattle.opl_tool.specs.Text.{closing as the_closing, solution_texts, count_from, text_of};
 
-use std::alloc::Global;
-
-use opl_outside::Sink;
-use opl_tree::ModelTree;
-
 use crate::print::print;
 use crate::problem::Problem;
 use crate::show::show_all;
 use crate::stop::Stop;
 use crate::text::closing;
+use opl_outside::Sink;
+use opl_tree::ModelTree;
+use std::alloc::Global;
 
 /// Shows a model's solutions, and answers how many there are.
-fn show_solutions<O: Sink>(alloc: Global, out: &mut O, tree: &ModelTree, problem: Problem) -> Result<u64, Stop>
+fn show_solutions<O: Sink>(
+    alloc: Global,
+    out: &mut O,
+    tree: &ModelTree,
+    problem: Problem,
+) -> Result<u64, Stop>
     requires { Poses tree.now problem }
     ensures prints { Prints (solution_texts (variables tree.now) 0 (solutions tree.now)) (O.written out.old) (O.written out.new) (O.faults out.old) (O.faults out.new) result }
     ensures count { IfOk result (λ shown. shown ≡ count_from 0 (solutions tree.now)) }
@@ -27,7 +30,13 @@ fn show_solutions<O: Sink>(alloc: Global, out: &mut O, tree: &ModelTree, problem
         constraints,
     } = problem;
     match places {
-        Some(mut places) => show_all(alloc, out, tree.decls.as_slice(), constraints.as_slice(), places.as_mut_slice()),
+        Some(mut places) => show_all(
+            alloc,
+            out,
+            tree.decls.as_slice(),
+            constraints.as_slice(),
+            places.as_mut_slice(),
+        ),
         None => Ok(0),
     }
 }
@@ -41,7 +50,12 @@ fn close<O: Sink>(alloc: Global, out: &mut O, shown: u64) -> Result<(), Stop>
 }
 
 /// Prints a model's whole text, and answers how many solutions are shown.
-pub fn solve<O: Sink>(alloc: Global, out: &mut O, tree: &ModelTree, problem: Problem) -> Result<u64, Stop>
+pub fn solve<O: Sink>(
+    alloc: Global,
+    out: &mut O,
+    tree: &ModelTree,
+    problem: Problem,
+) -> Result<u64, Stop>
     requires { Poses tree.now problem }
     ensures prints { Prints (text_of tree.now) (O.written out.old) (O.written out.new) (O.faults out.old) (O.faults out.new) result }
     ensures count { IfOk result (λ shown. shown ≡ count_from 0 (solutions tree.now)) }

@@ -2,9 +2,8 @@
 ghost use Rattle.opl_tool.specs.declared.stop.Stop.TheVariants.{OutOfMemory};
 ghost use Rattle.std.specs.Prelude.{◌≡◌};
 
-use std::alloc::{AllocError, AllocFailed};
-
 use crate::refusal::Refusal;
+use std::alloc::{AllocError, AllocFailed};
 
 /// Why a call ends before its whole text is printed.
 #[derive(Clone, Copy, Debug)]

@@ -4,13 +4,11 @@ ghost use Rattle.opl_tool.specs.Meaning.{variable_of as the_variable_of};
 ghost use Rattle.opl_tool.specs.Places.{value_of};
 ghost use Rattle.opl_tool.specs.Text.{value_line, solution_text, closing};
 
-use std::alloc::{AllocError, Global};
-
-use itoa::Buffer;
-use opl_tree::{DeclTree, VariableTree};
-
 use crate::place::Place;
 use crate::variables::variable_of;
+use itoa::Buffer;
+use opl_tree::{DeclTree, VariableTree};
+use std::alloc::{AllocError, Global};
 
 /// Adds the line of a variable and its value.
 fn push_line(text: &mut Vec<u8>, variable: &VariableTree, place: Place) -> Result<(), AllocError>
@@ -24,7 +22,12 @@ fn push_line(text: &mut Vec<u8>, variable: &VariableTree, place: Place) -> Resul
 }
 
 /// The text of the solution with this number on which `places` stand.
-pub fn solution_text(alloc: Global, number: u64, decls: &[DeclTree], places: &[Place]) -> Result<Vec<u8>, AllocError>
+pub fn solution_text(
+    alloc: Global,
+    number: u64,
+    decls: &[DeclTree],
+    places: &[Place],
+) -> Result<Vec<u8>, AllocError>
     requires { length places.now ≡ length decls.now }
     ensures { IfOk result (λ text. text.items ≡ solution_text (map the_variable_of decls.now) number (map value_of places.now)) }
 {

@@ -4,12 +4,10 @@ ghost use Rattle.opl_tool.specs.Meaning.{number_value, variable_of};
 ghost use Rattle.opl_tool.specs.Faults.{far_number, far_end};
 ghost use Rattle.opl_tool.specs.Start.{IsPlaceBetween, IsPlaceOf, IsStart};
 
-use std::alloc::{AllocError, Global};
-
-use opl_tree::{DeclTree, NumberTree, VariableTree};
-
 use crate::place::Place;
 use crate::refusal::Refusal;
+use opl_tree::{DeclTree, NumberTree, VariableTree};
+use std::alloc::{AllocError, Global};
 
 /// The greatest absolute value of an end of a declared set.
 const MAX_END: u128 = 1 << 62;

@@ -11,4 +11,4 @@ returns-in_err-constraints c =
 pub returns : goal.returns
 returns c =
     posed-read c.args.tree.now _ _ (number_in c.in_ok-numbers.numbers) c.as_slice-decls.ensures c.items.ensures c.in-None.ensures c.in_ok-numbers.ensures.0 c.in_ok-numbers.ensures.1
-        c.in_ok-constraints.constraints c.in_ok-places.places c.in_ok-constraints.ensures c.in_ok-places.ensures
+    c.in_ok-constraints.constraints c.in_ok-places.places c.in_ok-constraints.ensures c.in_ok-places.ensures

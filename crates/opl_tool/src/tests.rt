@@ -1,0 +1,273 @@
+//! Tests of the whole call over files in memory.
+use crate::answer::Answer;
+use crate::call::run;
+use opl_outside::{MemoryShelf, MemorySink};
+use std::alloc::Global;
+use std::test::Fail;
+
+/// What a call answered, and what it put on its sinks.
+#[derive(Drop)]
+struct Called {
+    answer: Answer,
+    out: Vec<u8>,
+    err: Vec<u8>,
+}
+
+/// The numbers of the calls that fail, of the shelf, of the sink and of the sink of errors.
+#[derive(Clone, Copy)]
+struct Failing {
+    shelf: &'static [u64],
+    out: &'static [u64],
+    err: &'static [u64],
+}
+
+const NONE: Failing = Failing {
+    shelf: &[],
+    out: &[],
+    err: &[],
+};
+
+fn call(alloc: Global, words: &[&str], text: &[u8], failing: Failing) -> Result<Called, Fail> {
+    let mut given = Vec::new(alloc);
+    for word in words {
+        given.push(String::from_str(alloc, word)?)?;
+    }
+    let mut shelf = MemoryShelf::new(alloc, failing.shelf)?;
+    shelf.add(alloc, "m.mod", text)?;
+    let mut out = MemorySink::new(alloc, failing.out)?;
+    let mut err = MemorySink::new(alloc, failing.err)?;
+    let answer = run(alloc, given.as_slice(), &mut shelf, &mut out, &mut err);
+    Ok(Called {
+        answer,
+        out: Vec::from_slice(alloc, out.bytes())?,
+        err: Vec::from_slice(alloc, err.bytes())?,
+    })
+}
+
+const SOLVE: [&str; 2] = ["solve", "m.mod"];
+
+#[test]
+fn prints_solutions(rt: HostRuntime) -> Result<(), Fail> {
+    let table = [
+        (
+            "var int x in 1..2;\nsolve { x <> 1; };",
+            Answer::Done,
+            "Solution 1\nx = 2\nSolutions: 1\nEnd\n",
+        ),
+        (
+            "solve { };",
+            Answer::Done,
+            "Solution 1\nSolutions: 1\nEnd\n",
+        ),
+        (
+            "solve { 1 = 2; };",
+            Answer::NoSolution,
+            "Solutions: 0\nEnd\n",
+        ),
+        (
+            "var int x in 2..1; solve { };",
+            Answer::NoSolution,
+            "Solutions: 0\nEnd\n",
+        ),
+        (
+            "var int x in -1..1; var int y in 0..1; solve { x <= y; y <> 0 };",
+            Answer::Done,
+            "Solution 1\nx = -1\ny = 1\nSolution 2\nx = 0\ny = 1\nSolution 3\nx = 1\ny = 1\nSolutions: 3\nEnd\n",
+        ),
+        (
+            "var int a in 0..2; var int b in 0..2; solve { a > b; b >= 1 };",
+            Answer::Done,
+            "Solution 1\na = 2\nb = 1\nSolutions: 1\nEnd\n",
+        ),
+        (
+            "var int x in -4611686018427387904..-4611686018427387903; solve { x < -4611686018427387903 };",
+            Answer::Done,
+            "Solution 1\nx = -4611686018427387904\nSolutions: 1\nEnd\n",
+        ),
+    ];
+    for (text, answer, shown) in table {
+        let called = call(rt.alloc(), &SOLVE, text.as_bytes(), NONE)?;
+        assert_eq!(rt; called.answer, answer, "{text}");
+        assert_eq!(rt; called.out.as_slice(), shown.as_bytes(), "{text}");
+        assert_eq!(rt; called.err.as_slice(), b"".as_slice(), "{text}");
+    }
+    Ok(())
+}
+
+#[test]
+fn names_the_first_fault(rt: HostRuntime) -> Result<(), Fail> {
+    let table = [
+        (
+            "var int x in 1..2;\nsolve { x + 1 = 2; };",
+            "refused: NotYet m.mod 29\n",
+        ),
+        ("solve { x # 1; };", "refused: BadByte m.mod 10\n"),
+        ("solve { x = 1; };", "refused: Unknown m.mod 8\n"),
+        (
+            "var int x in 1..2;\nvar int x in 1..2; solve { y = 1; };",
+            "refused: Duplicate m.mod 27\n",
+        ),
+        (
+            "var int x in 1..2; var int y in 0..4611686018427387905; var int x in 1..2; solve { };",
+            "refused: NotYet m.mod 35\n",
+        ),
+        (
+            "var int x in -4611686018427387905..0; solve { };",
+            "refused: NotYet m.mod 13\n",
+        ),
+        (
+            "solve { 1 = 170141183460469231731687303715884105728; };",
+            "refused: NumberTooLarge m.mod 12\n",
+        ),
+        ("", "refused: NotYet m.mod 0\n"),
+    ];
+    for (text, line) in table {
+        let called = call(rt.alloc(), &SOLVE, text.as_bytes(), NONE)?;
+        assert_eq!(rt; called.answer, Answer::Refused, "{text}");
+        assert_eq!(rt; called.out.as_slice(), b"".as_slice(), "{text}");
+        assert_eq!(rt; called.err.as_slice(), line.as_bytes(), "{text}");
+    }
+    Ok(())
+}
+
+#[test]
+fn refuses_words_and_absent_files(rt: HostRuntime) -> Result<(), Fail> {
+    let absent = call(rt.alloc(), &["solve", "none.mod"], b"", NONE)?;
+    assert_eq!(rt; absent.answer, Answer::Refused);
+    assert_eq!(rt;
+        absent.err.as_slice(),
+        b"refused: Absent none.mod\n".as_slice()
+    );
+    let alone = call(rt.alloc(), &["solve"], b"", NONE)?;
+    assert_eq!(rt; alone.answer, Answer::Refused);
+    assert_eq!(rt; alone.err.as_slice(), b"refused: Words\n".as_slice());
+    let other = call(rt.alloc(), &["solved", "m.mod"], b"", NONE)?;
+    assert_eq!(rt; other.err.as_slice(), b"refused: Words\n".as_slice());
+    Ok(())
+}
+
+#[test]
+fn tells_faults_by_their_counts(rt: HostRuntime) -> Result<(), Fail> {
+    let text = b"var int x in 1..2;\nsolve { x <> 1; };";
+    let table = [
+        (
+            Failing {
+                shelf: &[1],
+                ..NONE
+            },
+            Answer::ReadFault,
+            "",
+            "fault: read\n",
+        ),
+        (
+            Failing { out: &[1], ..NONE },
+            Answer::WriteFault,
+            "Solution",
+            "fault: write\n",
+        ),
+        (
+            Failing { out: &[2], ..NONE },
+            Answer::WriteFault,
+            "Solution 1\nx = 2\nSolution",
+            "fault: write\n",
+        ),
+        (
+            Failing {
+                out: &[1],
+                err: &[1],
+                ..NONE
+            },
+            Answer::WriteFault,
+            "Solution",
+            "fault:",
+        ),
+    ];
+    for (failing, answer, out, err) in table {
+        let called = call(rt.alloc(), &SOLVE, text, failing)?;
+        assert_eq!(rt; called.answer, answer, "{out}");
+        assert_eq!(rt; called.out.as_slice(), out.as_bytes(), "{out}");
+        assert_eq!(rt; called.err.as_slice(), err.as_bytes(), "{out}");
+    }
+    let refused = call(
+        rt.alloc(),
+        &SOLVE,
+        b"solve { x = 1; };",
+        Failing { err: &[1], ..NONE },
+    )?;
+    assert_eq!(rt; refused.answer, Answer::Refused);
+    assert_eq!(rt; refused.err.as_slice(), b"refused: Unk".as_slice());
+    Ok(())
+}
+
+/// The line of a file of one byte: a blank, the beginning of a word, a number or a sign, or none of these.
+fn line_of_byte(byte: u8) -> &'static str {
+    match byte {
+        b' ' | b'\t' | b'\r' | b'\n' => "refused: NotYet m.mod 1\n",
+        b'a'..=b'z' | b'A'..=b'Z' | b'_' | b'0'..=b'9' => "refused: NotYet m.mod 0\n",
+        b'.' | b',' | b';' | b':' | b'(' | b')' | b'[' | b']' | b'{' | b'}' =>
+            "refused: NotYet m.mod 0\n",
+        b'<' | b'>' | b'=' | b'+' | b'-' | b'*' | b'&' | b'|' => "refused: NotYet m.mod 0\n",
+        b'"' => "refused: OpenString m.mod 0\n",
+        _ => "refused: BadByte m.mod 0\n",
+    }
+}
+
+#[test]
+fn names_the_fault_of_each_byte(rt: HostRuntime) -> Result<(), Fail> {
+    for byte in 0..=255u8 {
+        let called = call(rt.alloc(), &SOLVE, &[byte], NONE)?;
+        assert_eq!(rt; called.answer, Answer::Refused, "{byte}");
+        assert_eq!(rt;
+            called.err.as_slice(),
+            line_of_byte(byte).as_bytes(),
+            "{byte}"
+        );
+    }
+    Ok(())
+}
+
+#[test]
+fn bears_long_files(rt: HostRuntime) -> Result<(), Fail> {
+    let mut digits = String::from_str(rt.alloc(), "solve { 1 = ")?;
+    for _ in 0..10_000u32 {
+        digits.push_str("7")?;
+    }
+    let called = call(rt.alloc(), &SOLVE, digits.as_bytes(), NONE)?;
+    assert_eq!(rt;
+        called.err.as_slice(),
+        b"refused: NumberTooLarge m.mod 12\n".as_slice()
+    );
+
+    let mut named = String::from_str(rt.alloc(), "var int ")?;
+    let mut shown = String::from_str(rt.alloc(), "Solution 1\n")?;
+    for _ in 0..100_000u32 {
+        named.push_str("n")?;
+        shown.push_str("n")?;
+    }
+    named.push_str(" in 5..5; solve { };")?;
+    shown.push_str(" = 5\nSolutions: 1\nEnd\n")?;
+    let called = call(rt.alloc(), &SOLVE, named.as_bytes(), NONE)?;
+    assert_eq!(rt; called.answer, Answer::Done);
+    assert!(rt; called.out.as_slice() == shown.as_bytes());
+    Ok(())
+}
+
+#[test]
+fn bears_many_declarations(rt: HostRuntime) -> Result<(), Fail> {
+    let mut text = String::new(rt.alloc());
+    let mut shown = String::from_str(rt.alloc(), "Solution 1\n")?;
+    for x in 0..100_000u32 {
+        text.push_str(format!(in rt.alloc(); "var int x{x} in 1..1;\n")?.as_str())?;
+        shown.push_str(format!(in rt.alloc(); "x{x} = 1\n")?.as_str())?;
+    }
+    text.push_str("solve { x99999 = 1 };")?;
+    shown.push_str("Solutions: 1\nEnd\n")?;
+    let called = call(rt.alloc(), &SOLVE, text.as_bytes(), NONE)?;
+    assert_eq!(rt; called.answer, Answer::Done);
+    assert!(rt; called.out.as_slice() == shown.as_bytes());
+
+    text.push_str(" x99999")?;
+    let called = call(rt.alloc(), &SOLVE, text.as_bytes(), NONE)?;
+    assert_eq!(rt; called.answer, Answer::Refused);
+    Ok(())
+}
