@@ -15,6 +15,9 @@ tokens_few : (at : ℕ) (ps : List Piece) (rest : List ℕ) → IsRow ps rest �
 tokens_few at [] rest row = omega arith
 tokens_few at (Piece.Blank b ∷ ps) rest row =
     let more : length (tokens_of (at + 1) ps) ≤ length (texts ps) = tokens_few (at + 1) ps rest row.1 in omega arith
+tokens_few at (Piece.Comment text ∷ ps) rest row =
+    let more : length (tokens_of (at + length text) ps) ≤ length (texts ps) = tokens_few (at + length text) ps rest row.1 in
+    omega (arith, length-append text (texts ps))
 tokens_few at (Piece.Lexeme k text ∷ ps) rest row =
     let more : length (tokens_of (at + length text) ps) ≤ length (texts ps) = tokens_few (at + length text) ps rest row.1 in
     let some : 0 < length text = lexeme_some k text (texts ps ++ rest) row.0.lexeme in
@@ -29,6 +32,10 @@ tokens_between at end [] rest row within = All-nil (λ (token : Token). (at ≤ 
 tokens_between at end (Piece.Blank b ∷ ps) rest row within =
     let more : All (λ token. (at + 1 ≤ token.at) × (token.at < end)) (tokens_of (at + 1) ps) = tokens_between (at + 1) end ps rest row.1 (omega arith) in
     λ k d h. let there : (at + 1 ≤ (get_or (tokens_of (at + 1) ps) k d).at) × ((get_or (tokens_of (at + 1) ps) k d).at < end) = more k d h in (omega arith, there.1)
+tokens_between at end (Piece.Comment text ∷ ps) rest row within =
+    let behind : at + length text + length (texts ps) ≤ end = omega (arith, length-append text (texts ps)) in
+    let more : All (λ token. (at + length text ≤ token.at) × (token.at < end)) (tokens_of (at + length text) ps) = tokens_between (at + length text) end ps rest row.1 behind in
+    λ k d h. let there : (at + length text ≤ (get_or (tokens_of (at + length text) ps) k d).at) × ((get_or (tokens_of (at + length text) ps) k d).at < end) = more k d h in (omega arith, there.1)
 tokens_between at end (Piece.Lexeme k text ∷ ps) rest row within =
     let some : 0 < length text = lexeme_some k text (texts ps ++ rest) row.0.lexeme in
     let behind : at + length text + length (texts ps) ≤ end = omega (arith, length-append text (texts ps)) in
@@ -54,6 +61,7 @@ first_behind at len end (token ∷ tokens) some between h = let there : (at + le
 rises : (at : ℕ) (ps : List Piece) (rest : List ℕ) → IsRow ps rest → IsStrictlyIncreasing (map (λ (token : Token). token.at) (tokens_of at ps))
 rises at [] rest row = λ k h. absurd (omega arith)
 rises at (Piece.Blank b ∷ ps) rest row = rises (at + 1) ps rest row.1
+rises at (Piece.Comment text ∷ ps) rest row = rises (at + length text) ps rest row.1
 rises at (Piece.Lexeme kind text ∷ ps) rest row =
     let some : 0 < length text = lexeme_some kind text (texts ps ++ rest) row.0.lexeme in
     let end : ℕ = at + length text + length (texts ps) in
@@ -74,6 +82,7 @@ kind_fits (kind.Sign s) text rest lexeme = tt
 tokens_fit : (at : ℕ) (ps : List Piece) (rest : List ℕ) → IsRow ps rest → All (λ (token : Token). NumberFits token.kind) (tokens_of at ps)
 tokens_fit at [] rest row = All-nil (λ (token : Token). NumberFits token.kind)
 tokens_fit at (Piece.Blank b ∷ ps) rest row = tokens_fit (at + 1) ps rest row.1
+tokens_fit at (Piece.Comment text ∷ ps) rest row = tokens_fit (at + length text) ps rest row.1
 tokens_fit at (Piece.Lexeme k text ∷ ps) rest row =
     All-cons (λ (token : Token). NumberFits token.kind) (record { kind = k; at = at }) (tokens_of (at + length text) ps) (kind_fits k text (texts ps ++ rest) row.0.lexeme) (tokens_fit (at + length text) ps rest row.1)
 

@@ -1,26 +1,26 @@
 -- The function that finds a lexeme finds the longest one, wherever one begins, and no other.
-use Rattle.std.proofs.Common.{◌≡◌, ◌<◌, ◌≤◌, ℕ, ℤ, pos, ◌^◌, Bool, true, false, cond, if◌then◌else◌, nat_lt, nat_eq, List, ◌++◌, length, take, drop, Option, Some, None, refl, ap, sym, ◌∙◌, subst, arith, length-append, length-take}
+use Rattle.std.proofs.Common.{◌≡◌, ◌<◌, ◌≤◌, ℕ, ℤ, pos, ◌+◌, ◌-◌, ◌^◌, Bool, true, false, cond, if◌then◌else◌, nat_lt, nat_eq, codes, List, [], ◌∷◌, ◌++◌, length, take, drop, Option, Some, None, refl, ap, sym, ◌∙◌, subst, arith, append_assoc, length-append, length-take}
 use Rattle.std.specs.List.{prefix_len, starts_with}
 use Rattle.std.specs.Option.{option_map}
 use Rattle.std.specs.Char.{is_ascii_digit}
 use Rattle.std.proofs.lemmas.Bool.{ltb-true}
 use Rattle.std.proofs.lemmas.Bool.Decides.{Decides-eqb}
-use Rattle.std.proofs.lemmas.List.{take-append-drop}
+use Rattle.std.proofs.lemmas.List.{take-append-drop, length-take-le}
 use Rattle.std.proofs.lemmas.List.Sums.{prefix_len-le-length}
 use Rattle.std.proofs.lemmas.Slice.Eq.{starts_is}
-use Rattle.std.proofs.Math.Seq.{take-append_seam}
+use Rattle.std.proofs.Math.Seq.{take-append_seam, drop-append_seam}
 use Rattle.opl_token.specs.declared.scanner.Lexeme.{Lexeme}
 use Rattle.opl_token.specs.declared.sign.Sign.{Sign}
 use Rattle.opl_token.specs.declared.sign.TheConstants.{SIGNS}
 use Rattle.opl_token.specs.declared.token.Kind.{Kind}
 use Rattle.opl_token.specs.declared.token.Kind.TheVariants as kind
-use Rattle.opl_token.specs.Lexeme.{begins, is_blank, is_word_start, is_word_byte, number, sign_text, IsWord, IsNumber, IsLexeme}
-use Rattle.opl_token.specs.Longest.{word_at, number_at, longest_sign, sign_at, lexeme_at}
+use Rattle.opl_token.specs.Lexeme.{begins, is_quote, is_text_byte, is_word_start, is_word_byte, number, sign_text, IsWord, IsNumber, IsText, IsLexeme}
+use Rattle.opl_token.specs.Longest.{word_at, number_at, text_at, longest_sign, sign_at, lexeme_at}
 use Rattle.opl_token.specs.Scan.{IsLongest}
-use Rattle.opl_token.proofs.Bytes.{digit_no_start, digit_no_blank, start_no_blank, start_is_byte, begins_implies, begins_front, begins_some}
+use Rattle.opl_token.proofs.Bytes.{is_gap, digit_no_start, quote_no_start, quote_no_digit, digit_no_gap, start_no_gap, quote_no_gap, start_is_byte, begins_implies, begins_front, begins_some}
 use Rattle.opl_token.proofs.Numbers.{small}
 use Rattle.opl_token.proofs.Runs.{run_covers, run_is, run_passes, run_ends, run_begins}
-use Rattle.opl_token.proofs.Signs.{find_passes, longest_found, none_found, sign_of, sign_of-text, sign_no_start, sign_no_digit, sign_no_blank, sign_front, sign_some}
+use Rattle.opl_token.proofs.Signs.{find_passes, longest_found, none_found, sign_of, sign_of-text, sign_no_start, sign_no_digit, sign_no_quote, sign_no_gap, sign_front, sign_some}
 
 -- ---- which function finds the lexeme
 
@@ -30,8 +30,11 @@ at_word bytes start = rw start refl
 at_number : (bytes : List ℕ) → begins is_word_start bytes ≡ false → begins is_ascii_digit bytes ≡ true → lexeme_at bytes ≡ number_at bytes
 at_number bytes word digit = rw (word, digit) refl
 
-at_sign : (bytes : List ℕ) → begins is_word_start bytes ≡ false → begins is_ascii_digit bytes ≡ false → lexeme_at bytes ≡ sign_at bytes
-at_sign bytes word digit = rw (word, digit) refl
+at_text : (bytes : List ℕ) → begins is_word_start bytes ≡ false → begins is_ascii_digit bytes ≡ false → begins is_quote bytes ≡ true → lexeme_at bytes ≡ text_at (drop 1 bytes)
+at_text bytes word digit quote = rw (word, digit, quote) refl
+
+at_sign : (bytes : List ℕ) → begins is_word_start bytes ≡ false → begins is_ascii_digit bytes ≡ false → begins is_quote bytes ≡ false → lexeme_at bytes ≡ sign_at bytes
+at_sign bytes word digit quote = rw (word, digit, quote) refl
 
 -- ---- a lexeme is found
 
@@ -54,6 +57,15 @@ number_found text rest num =
     let is : number_at (text ++ rest) ≡ Some (record { kind = kind.Number (pos (number text)); len = length text }) = rw (run, take-append_seam text rest, small text num.fits) refl in
     record { found = record { kind = kind.Number (pos (number text)); len = length text }; is = at_number (text ++ rest) no_word digit ∙ is; covers = omega arith }
 
+text_found : (text inner rest : List ℕ) → IsText text inner → Found (text ++ rest) (length text)
+text_found text inner rest is =
+    let found : Lexeme = record { kind = kind.Text inner; len = length inner + 2 } in
+    let behind : (codes "\"" ++ (inner ++ codes "\"")) ++ rest ≡ codes "\"" ++ (inner ++ (34 ∷ rest)) = ap (λ t. 34 ∷ t) (append_assoc inner (codes "\"") rest) in
+    let run : prefix_len is_text_byte (inner ++ (34 ∷ rest)) ≡ length inner = run_is is_text_byte inner (34 ∷ rest) is.bytes refl in
+    let here : text_at (inner ++ (34 ∷ rest)) ≡ Some found = rw (run, drop-append_seam inner (34 ∷ rest), take-append_seam inner (34 ∷ rest)) refl in
+    let whole : lexeme_at (text ++ rest) ≡ Some found = ap (λ t. lexeme_at (t ++ rest)) is.spelt ∙ ap lexeme_at behind ∙ here in
+    record { found = found; is = whole; covers = omega (arith, ap length is.spelt, length-append inner (codes "\"")) }
+
 sign_begins : (s : Sign) (rest : List ℕ) → starts_with nat_eq (sign_text s ++ rest) (sign_text s) ≡ true
 sign_begins s rest = ((starts_is Decides-eqb (sign_text s ++ rest) (sign_text s) _ refl).1) rest refl
 
@@ -66,6 +78,9 @@ sign_found s rest = cases (longest_sign (sign_text s ++ rest)) refl
     no_digit : begins is_ascii_digit (sign_text s ++ rest) ≡ false
     no_digit = sign_front s is_ascii_digit rest ∙ sign_no_digit s
 
+    no_quote : begins is_quote (sign_text s ++ rest) ≡ false
+    no_quote = sign_front s is_quote rest ∙ sign_no_quote s
+
     cases : (o : Option Sign) → longest_sign (sign_text s ++ rest) ≡ o → Found (sign_text s ++ rest) (length (sign_text s))
     cases None e =
         let fails : starts_with nat_eq (sign_text s ++ rest) (sign_text s) ≡ false = none_found (λ t. starts_with nat_eq (sign_text s ++ rest) (sign_text t)) s e in
@@ -73,14 +88,14 @@ sign_found s rest = cases (longest_sign (sign_text s ++ rest)) refl
         absurd (let differ : true ≡ false = sym passes ∙ fails in cc)
     cases (Some t) e = record {
       found = record { kind = kind.Sign t; len = length (sign_text t) };
-      is = at_sign (sign_text s ++ rest) no_word no_digit ∙ rw e refl;
+      is = at_sign (sign_text s ++ rest) no_word no_digit no_quote ∙ rw e refl;
       covers = longest_found (λ t. starts_with nat_eq (sign_text s ++ rest) (sign_text t)) t s e (sign_begins s rest);
     }
 
 pub found : (k : Kind) (text rest : List ℕ) → IsLexeme k text rest → Found (text ++ rest) (length text)
 found (kind.Word name) text rest lexeme = word_found text rest lexeme.1
 found (kind.Number n) text rest lexeme = number_found text rest lexeme.1
-found (kind.Text inner) text rest lexeme = absurd lexeme
+found (kind.Text inner) text rest lexeme = text_found text inner rest lexeme
 found (kind.Sign s) text rest lexeme = subst (λ (t : List ℕ). Found (t ++ rest) (length t)) (sym lexeme) (sign_found s rest)
 
 -- ---- what is found is a lexeme
@@ -114,6 +129,40 @@ number_read bytes found digit is = cases (nat_lt (number digits) (2 ^ 127)) refl
           lexeme = (refl, record { start = run_begins is_ascii_digit is_ascii_digit bytes (λ b h. h) digit; digits = run_passes is_ascii_digit bytes; ends = run_ends is_ascii_digit bytes; fits = ltb-true _ _ fits });
         })
 
+quote_first : (bytes : List ℕ) → begins is_quote bytes ≡ true → bytes ≡ 34 ∷ drop 1 bytes
+quote_first [] quote = cc
+quote_first (b ∷ bs) quote = ap (λ x. x ∷ bs) ((Decides-eqb b 34).0 quote)
+
+text_read : (bytes : List ℕ) (found : Lexeme) → begins is_quote bytes ≡ true → text_at (drop 1 bytes) ≡ Some found → Reads bytes found
+text_read [] found quote is = cc
+text_read (b ∷ bs) found quote is = cases (begins is_quote (drop len bs)) refl is
+  where
+    len : ℕ
+    len = prefix_len is_text_byte bs
+
+    back : List ℕ
+    back = drop 1 (drop len bs)
+
+    text : List ℕ
+    text = codes "\"" ++ (take len bs ++ codes "\"")
+
+    whole : begins is_quote (drop len bs) ≡ true → b ∷ bs ≡ text ++ back
+    whole closed =
+        let behind : bs ≡ take len bs ++ (34 ∷ back) = sym (take-append-drop len bs) ∙ ap (λ t. take len bs ++ t) (quote_first (drop len bs) closed) in
+        quote_first (b ∷ bs) quote ∙ ap (λ t. 34 ∷ t) (behind ∙ sym (append_assoc (take len bs) (codes "\"") back))
+
+    lens : length text ≡ len + 2
+    lens = omega (arith, length-append (take len bs) (codes "\""), length-take-le len bs (prefix_len-le-length is_text_byte bs))
+
+    cases : (closed : Bool) → begins is_quote (drop len bs) ≡ closed → cond {A = Option Lexeme} closed (Some (record { kind = kind.Text (take len bs); len = len + 2 })) None ≡ Some found → Reads (b ∷ bs) found
+    cases false e same = cc
+    cases true e same =
+        let one : record { kind = kind.Text (take len bs); len = len + 2 } ≡ found = cc in
+        subst (Reads (b ∷ bs)) one (record {
+          within = omega (arith, lens, ap length (whole e), length-append text back);
+          lexeme = record { spelt = ap (λ n. take n (b ∷ bs)) (sym lens) ∙ ap (take (length text)) (whole e) ∙ take-append_seam text back; bytes = run_passes is_text_byte bs };
+        })
+
 sign_read : (bytes : List ℕ) (found : Lexeme) → sign_at bytes ≡ Some found → Reads bytes found
 sign_read bytes found is = cases (longest_sign bytes) refl is
   where
@@ -129,33 +178,38 @@ sign_read bytes found is = cases (longest_sign bytes) refl is
         })
 
 pub reads : (bytes : List ℕ) (found : Lexeme) → lexeme_at bytes ≡ Some found → Reads bytes found
-reads bytes found is = cases (begins is_word_start bytes) (begins is_ascii_digit bytes) refl refl
+reads bytes found is = cases (begins is_word_start bytes) (begins is_ascii_digit bytes) (begins is_quote bytes) refl refl refl
   where
-    cases : (word digit : Bool) → begins is_word_start bytes ≡ word → begins is_ascii_digit bytes ≡ digit → Reads bytes found
-    cases true digit e f = let one : word_at bytes ≡ found = cc (at_word bytes e) in subst (Reads bytes) one (word_read bytes e)
-    cases false true e f = number_read bytes found f (sym (at_number bytes e f) ∙ is)
-    cases false false e f = sign_read bytes found (sym (at_sign bytes e f) ∙ is)
+    cases : (word digit quote : Bool) → begins is_word_start bytes ≡ word → begins is_ascii_digit bytes ≡ digit → begins is_quote bytes ≡ quote → Reads bytes found
+    cases true digit quote e f g = let one : word_at bytes ≡ found = cc (at_word bytes e) in subst (Reads bytes) one (word_read bytes e)
+    cases false true quote e f g = number_read bytes found f (sym (at_number bytes e f) ∙ is)
+    cases false false true e f g = text_read bytes found g (sym (at_text bytes e f g) ∙ is)
+    cases false false false e f g = sign_read bytes found (sym (at_sign bytes e f g) ∙ is)
 
 -- ---- one kind for each text
+
+text_quote : (text inner : List ℕ) → IsText text inner → begins is_quote text ≡ true
+text_quote text inner is = ap (λ t. begins is_quote t) is.spelt
 
 pub lexeme_some : (k : Kind) (text rest : List ℕ) → IsLexeme k text rest → 0 < length text
 lexeme_some (kind.Word name) text rest lexeme = begins_some is_word_start text lexeme.1.start
 lexeme_some (kind.Number n) text rest lexeme = begins_some is_ascii_digit text lexeme.1.start
-lexeme_some (kind.Text inner) text rest lexeme = absurd lexeme
+lexeme_some (kind.Text inner) text rest lexeme = begins_some is_quote text (text_quote text inner lexeme)
 lexeme_some (kind.Sign s) text rest lexeme = rw lexeme (sign_some s)
 
-pub lexeme_no_blank : (k : Kind) (text rest : List ℕ) → IsLexeme k text rest → begins is_blank text ≡ false
-lexeme_no_blank (kind.Word name) text rest lexeme = begins_implies is_word_start is_blank false text start_no_blank lexeme.1.start
-lexeme_no_blank (kind.Number n) text rest lexeme = begins_implies is_ascii_digit is_blank false text digit_no_blank lexeme.1.start
-lexeme_no_blank (kind.Text inner) text rest lexeme = absurd lexeme
-lexeme_no_blank (kind.Sign s) text rest lexeme = rw lexeme (sign_no_blank s)
+pub lexeme_no_gap : (k : Kind) (text rest : List ℕ) → IsLexeme k text rest → begins is_gap text ≡ false
+lexeme_no_gap (kind.Word name) text rest lexeme = begins_implies is_word_start is_gap false text start_no_gap lexeme.1.start
+lexeme_no_gap (kind.Number n) text rest lexeme = begins_implies is_ascii_digit is_gap false text digit_no_gap lexeme.1.start
+lexeme_no_gap (kind.Text inner) text rest lexeme = begins_implies is_quote is_gap false text quote_no_gap (text_quote text inner lexeme)
+lexeme_no_gap (kind.Sign s) text rest lexeme = rw lexeme (sign_no_gap s)
 
 -- the kind of a lexeme, by its bytes
 kind_of : List ℕ → Option Kind
 kind_of text =
     if begins is_word_start text then Some (kind.Word text)
     else (if begins is_ascii_digit text then Some (kind.Number (pos (number text)))
-    else option_map (λ s. kind.Sign s) (sign_of text))
+    else (if begins is_quote text then Some (kind.Text (take (length text - 2) (drop 1 text)))
+    else option_map (λ s. kind.Sign s) (sign_of text)))
 
 kind_is : (k : Kind) (text rest : List ℕ) → IsLexeme k text rest → kind_of text ≡ Some k
 unfolding kind_of
@@ -163,9 +217,16 @@ kind_is (kind.Word name) text rest lexeme = rw lexeme.1.start (ap (λ t. Some (k
 kind_is (kind.Number n) text rest lexeme =
     let no_word : begins is_word_start text ≡ false = begins_implies is_ascii_digit is_word_start false text digit_no_start lexeme.1.start in
     rw (no_word, lexeme.1.start) (ap (λ m. Some (kind.Number m)) (sym lexeme.0))
-kind_is (kind.Text inner) text rest lexeme = absurd lexeme
+kind_is (kind.Text inner) text rest lexeme =
+    let quote : begins is_quote text ≡ true = text_quote text inner lexeme in
+    let no_word : begins is_word_start text ≡ false = begins_implies is_quote is_word_start false text quote_no_start quote in
+    let no_digit : begins is_ascii_digit text ≡ false = begins_implies is_quote is_ascii_digit false text quote_no_digit quote in
+    let len : length (codes "\"" ++ (inner ++ codes "\"")) - 2 ≡ length inner = omega (arith, length-append inner (codes "\"")) in
+    let within : take (length text - 2) (drop 1 text) ≡ inner =
+    ap (λ t. take (length t - 2) (drop 1 t)) lexeme.spelt ∙ ap (λ n. take n (inner ++ codes "\"")) len ∙ take-append_seam inner (codes "\"") in
+    rw (no_word, no_digit, quote, within) refl
 kind_is (kind.Sign s) text rest lexeme =
-    rw (lexeme, sign_no_start s, sign_no_digit s, sign_of-text s) refl
+    rw (lexeme, sign_no_start s, sign_no_digit s, sign_no_quote s, sign_of-text s) refl
 
 one_kind : (k j : Kind) (text rest back : List ℕ) → IsLexeme k text rest → IsLexeme j text back → k ≡ j
 one_kind k j text rest back left right = let same : Some k ≡ Some j = sym (kind_is k text rest left) ∙ kind_is j text back right in cc

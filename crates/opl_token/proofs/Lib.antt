@@ -1,5 +1,7 @@
 pub mod Numbers
+pub mod Lists
 pub mod Runs
+pub mod Comments
 pub mod Signs
 pub mod Bytes
 pub mod Lexemes

@@ -35,6 +35,9 @@ row_push (q ∷ ps) p rest row is =
 pub tokens_push : (at : ℕ) (ps : List Piece) (p : Piece) → tokens_of at (ps ++ p ∷ []) ≡ tokens_of at ps ++ tokens_of (at + length (texts ps)) (p ∷ [])
 tokens_push at [] p = ap (λ n. tokens_of n (p ∷ [])) (let e : at ≡ at + 0 = omega arith in e)
 tokens_push at (Piece.Blank b ∷ ps) p = tokens_push (at + 1) ps p ∙ ap (λ n. tokens_of (at + 1) ps ++ tokens_of n (p ∷ [])) (let e : at + 1 + length (texts ps) ≡ at + suc (length (texts ps)) = omega arith in e)
+tokens_push at (Piece.Comment text ∷ ps) p =
+    let e : at + length text + length (texts ps) ≡ at + length (text ++ texts ps) = omega (arith, length-append text (texts ps)) in
+    tokens_push (at + length text) ps p ∙ ap (λ n. tokens_of (at + length text) ps ++ tokens_of n (p ∷ [])) e
 tokens_push at (Piece.Lexeme k text ∷ ps) p =
     let e : at + length text + length (texts ps) ≡ at + length (text ++ texts ps) = omega (arith, length-append text (texts ps)) in
     ap (λ ts. record { kind = k; at = at } ∷ ts) (tokens_push (at + length text) ps p ∙ ap (λ n. tokens_of (at + length text) ps ++ tokens_of n (p ∷ [])) e)

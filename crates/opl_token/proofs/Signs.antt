@@ -12,8 +12,8 @@ use Rattle.opl_token.specs.contracts.sign.Sign.{the_type}
 use Rattle.opl_token.specs.declared.sign.Sign.{Sign}
 use Rattle.opl_token.specs.declared.sign.Sign.TheVariants as sign
 use Rattle.opl_token.specs.declared.sign.TheConstants.{SIGNS}
-use Rattle.opl_token.specs.Lexeme.{begins, is_blank, is_word_start, sign_text}
-use Rattle.opl_token.proofs.Bytes.{begins_implies, begins_front, begins_some, and_left, and_right}
+use Rattle.opl_token.specs.Lexeme.{begins, is_quote, is_word_start, sign_text}
+use Rattle.opl_token.proofs.Bytes.{is_gap, begins_implies, begins_front, begins_some, and_left, and_right}
 
 -- the place of each sign in the table
 pub sign_place : Sign → ℕ
@@ -198,7 +198,7 @@ sign_of-text s = itself (find (λ other. bytes_eq (sign_text other) (sign_text s
 -- ---- how signs begin
 
 is_other : ℕ → Bool
-is_other b = not (is_word_start b) && not (is_ascii_digit b) && not (is_blank b)
+is_other b = not (is_word_start b) && not (is_ascii_digit b) && not (is_quote b) && not (is_gap b)
 
 begin_others : list_all (λ s. begins is_other (sign_text s)) SIGNS ≡ true
 unfolding is_other
@@ -215,9 +215,13 @@ pub sign_no_digit : (s : Sign) → begins is_ascii_digit (sign_text s) ≡ false
 unfolding is_other
 sign_no_digit s = begins_implies is_other is_ascii_digit false (sign_text s) (λ b h. grind (arith, nat_tests)) (sign_begins_other s)
 
-pub sign_no_blank : (s : Sign) → begins is_blank (sign_text s) ≡ false
+pub sign_no_quote : (s : Sign) → begins is_quote (sign_text s) ≡ false
 unfolding is_other
-sign_no_blank s = begins_implies is_other is_blank false (sign_text s) (λ b h. grind (arith, nat_tests)) (sign_begins_other s)
+sign_no_quote s = begins_implies is_other is_quote false (sign_text s) (λ b h. grind (arith, nat_tests)) (sign_begins_other s)
+
+pub sign_no_gap : (s : Sign) → begins is_gap (sign_text s) ≡ false
+unfolding is_other
+sign_no_gap s = begins_implies is_other is_gap false (sign_text s) (λ b h. grind (arith, nat_tests)) (sign_begins_other s)
 
 pub sign_some : (s : Sign) → 0 < length (sign_text s)
 sign_some s = begins_some is_other (sign_text s) (sign_begins_other s)

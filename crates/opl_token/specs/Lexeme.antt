@@ -1,5 +1,5 @@
--- The lexemes of the language: how words, numbers and signs are written.
-use Rattle.std.specs.Prelude.{◌≡◌, ◌<◌, ℕ, pos, ◌+◌, ◌-◌, ◌*◌, ◌^◌, Bool, true, false, ◌||◌, ◌==◌, List, [], ◌∷◌, fold, codes}
+-- The lexemes of the language: how words, numbers, texts and signs are written.
+use Rattle.std.specs.Prelude.{◌≡◌, ◌<◌, ℕ, pos, ◌+◌, ◌-◌, ◌*◌, ◌^◌, Bool, true, false, not, ◌&&◌, ◌||◌, ◌==◌, nat_le, List, [], ◌∷◌, ◌++◌, fold, codes}
 use Rattle.std.specs.List.{AllPass}
 use Rattle.std.specs.Char.{is_ascii_digit, is_ascii_alphabetic, is_ascii_alphanumeric}
 use Rattle.opl_token.specs.declared.sign.Sign.{Sign}
@@ -23,6 +23,10 @@ is_word_start b = is_ascii_alphabetic b || b == 95
 -- what a word is made of: letters, digits and `_`
 abbrev pub is_word_byte : ℕ → Bool
 is_word_byte b = is_ascii_alphanumeric b || b == 95
+
+-- the byte `"`
+abbrev pub is_quote : ℕ → Bool
+is_quote b = b == 34
 
 -- the value of decimal digits
 abbrev pub number : List ℕ → ℕ
@@ -72,9 +76,18 @@ pub record IsNumber (text rest : List ℕ) : Type 0 where
   pub ends : begins is_ascii_digit rest ≡ false
   pub fits : number text < 2 ^ 127
 
+-- what may stand between the two `"` of a text: bytes 32 to 126 other than `"`
+abbrev pub is_text_byte : ℕ → Bool
+is_text_byte b = nat_le 32 b && nat_le b 126 && not (is_quote b)
+
+-- a text: `inner` between two `"`
+pub record IsText (text inner : List ℕ) : Type 0 where
+  pub spelt : text ≡ codes "\"" ++ (inner ++ codes "\"")
+  pub bytes : AllPass is_text_byte inner
+
 -- `text` is a lexeme of this kind where `rest` stands behind it
 abbrev pub IsLexeme : Kind → (text rest : List ℕ) → Type 0
 IsLexeme (kind.Word name) text rest = (text ≡ name) × IsWord text
 IsLexeme (kind.Number n) text rest = (n ≡ pos (number text)) × IsNumber text rest
-IsLexeme (kind.Text inner) text rest = ⊥
+IsLexeme (kind.Text inner) text rest = IsText text inner
 IsLexeme (kind.Sign s) text rest = text ≡ sign_text s

@@ -1,4 +1,5 @@
 pub mod Lexeme
+pub mod Comment
 pub mod Scan
 pub mod Longest
 pub mod Laws

@@ -9,6 +9,7 @@ use std::test::Fail;
 enum Expected {
     Word(&'static [u8]),
     Number(i128),
+    Text(&'static [u8]),
     Sign(Sign),
 }
 
@@ -16,6 +17,7 @@ fn is_expected(kind: &Kind, expected: Expected) -> bool {
     match expected {
         Expected::Word(word) => kind.is_word(word),
         Expected::Number(value) => matches!(kind, Kind::Number(found) if *found == value),
+        Expected::Text(text) => matches!(kind, Kind::Text(found) if found.as_slice() == text),
         Expected::Sign(sign) => kind.is_sign(sign),
     }
 }
@@ -155,6 +157,39 @@ fn longest_lexemes(rt: HostRuntime) {
 }
 
 #[test]
+fn comments_and_texts(rt: HostRuntime) {
+    use Expected::{Number, Text, Word};
+    let alloc = rt.alloc();
+    assert_tokens(&rt, alloc, b"// a", &[]);
+    assert_tokens(
+        &rt,
+        alloc,
+        b"a//b\rc\nd",
+        &[(0, Word(b"a")), (7, Word(b"d"))],
+    );
+    assert_tokens(
+        &rt,
+        alloc,
+        b"/**/1/* 2 * / 3 **/4",
+        &[(4, Number(1)), (19, Number(4))],
+    );
+    assert_tokens(
+        &rt,
+        alloc,
+        b"/* \xff\x00 // \n \" */ a",
+        &[(16, Word(b"a"))],
+    );
+    assert_tokens(&rt, alloc, b"// /*\nb", &[(6, Word(b"b"))]);
+    assert_tokens(
+        &rt,
+        alloc,
+        b"\"\"\" ~\"x",
+        &[(0, Text(b"")), (2, Text(b" ~")), (6, Word(b"x"))],
+    );
+    assert_tokens(&rt, alloc, b"\"// /* \\\"", &[(0, Text(b"// /* \\"))]);
+}
+
+#[test]
 fn faults(rt: HostRuntime) {
     let alloc = rt.alloc();
     assert_fault(&rt, alloc, b"a\0b", ScanFault::BadByte(1));
@@ -162,8 +197,16 @@ fn faults(rt: HostRuntime) {
     assert_fault(&rt, alloc, b"x\xc3\xa4", ScanFault::BadByte(1));
     assert_fault(&rt, alloc, b"1 # 2", ScanFault::BadByte(2));
     assert_fault(&rt, alloc, b"1 \\ 2", ScanFault::BadByte(2));
-    assert_fault(&rt, alloc, b"\"a\"", ScanFault::BadByte(0));
-    assert_fault(&rt, alloc, b"x // y", ScanFault::BadByte(2));
+    assert_fault(&rt, alloc, b"1 / 2", ScanFault::BadByte(2));
+    assert_fault(&rt, alloc, b"a /* b", ScanFault::OpenComment(2));
+    assert_fault(&rt, alloc, b"a /*/ b", ScanFault::OpenComment(2));
+    assert_fault(&rt, alloc, b"/**/ /* *", ScanFault::OpenComment(5));
+    assert_fault(&rt, alloc, b"/* a */ */", ScanFault::BadByte(9));
+    assert_fault(&rt, alloc, b"x \"a", ScanFault::OpenString(2));
+    assert_fault(&rt, alloc, b"\"a\tb\"", ScanFault::OpenString(0));
+    assert_fault(&rt, alloc, b"\"a\x7f\"", ScanFault::OpenString(0));
+    assert_fault(&rt, alloc, b"\"a\" \"", ScanFault::OpenString(4));
+    assert_fault(&rt, alloc, b"\"// a", ScanFault::OpenString(0));
     assert_fault(
         &rt,
         alloc,

@@ -1,32 +1,44 @@
 use Rattle.std.proofs.Common.{◌≡◌, ◌<◌, ℕ, ◌+◌, length, drop, Some, ap, sym, ◌∙◌, subst, arith, List}
-use Rattle.opl_token.specs.Lexeme.{is_blank}
-use Rattle.opl_token.specs.Longest.{lexeme_at}
+use Rattle.opl_token.specs.Longest.{gap_len, lexeme_at}
 use Rattle.opl_token.specs.Scan.{fault_at, StopsAt}
 use Rattle.opl_token.proofs.Lexemes.{found_within}
-use Rattle.opl_token.proofs.Scanning.{SoFar, blank_more, lexeme_more, stop, faults, rest_of, begins_rest}
+use Rattle.opl_token.proofs.Lists.{rest_of}
+use Rattle.opl_token.proofs.Scanning.{SoFar, gap_more, lexeme_more, stop, faults}
 use Rattle.opl_token.proofs.scanner.scan.Goals as goal
 
-found : (c : goal.In_ok-push) → lexeme_at (drop c.loop-at.at c.args.bytes.now) ≡ Some c.in-Some.field-0
-found c = ap lexeme_at (sym (rest_of c.loop-at.at c.args.bytes.now)) ∙ sym c.in_ok-kind.ensures ∙ c.in-Some.is
+-- behind a blank or a comment
+skipped : (c : goal.Then-gap-gt0) → SoFar c.args.bytes.now (c.loop-at.at + c.gap_len-gap.result) c.loop-at.tokens.items
+skipped c =
+    let gap : gap_len (drop c.loop-at.at c.args.bytes.now) ≡ c.gap_len-gap.result = ap gap_len (sym (rest_of c.loop-at.at c.args.bytes.now)) ∙ sym c.gap_len-gap.ensures in
+    let some : 0 < c.gap_len-gap.result = c.if-gap-gt0.true in
+    subst (λ n. SoFar c.args.bytes.now (c.loop-at.at + n) c.loop-at.tokens.items) gap
+    (gap_more c.args.bytes.now c.loop-at.at c.loop-at.tokens.items c.loop-at.invariant (omega arith))
 
-pub loop-at-preserved-then-is_blank : goal.loop-at-preserved-then-is_blank
-loop-at-preserved-then-is_blank c =
-    blank_more c.args.bytes.now c.loop-at.at c.loop-at.tokens.items c.loop-at.invariant (begins_rest is_blank c.loop-at.at c.args.bytes.now c.loop-at-test.true ∙ sym c.if-is_blank.ensures)
+pub overflow_add-at : goal.overflow_add-at
+overflow_add-at c = let so_far : SoFar c.args.bytes.now (c.loop-at.at + c.gap_len-gap.result) c.loop-at.tokens.items = skipped c in omega (arith, so_far.within, c.requires)
+
+pub loop-at-preserved-then-gap-gt0 : goal.loop-at-preserved-then-gap-gt0
+loop-at-preserved-then-gap-gt0 c = skipped c
 
 pub returns-in_default : goal.returns-in_default
 returns-in_default c =
     let at : ℕ = c.loop-at.at in
     let bytes : List ℕ = c.args.bytes.now in
-    let no_blank = begins_rest is_blank at bytes c.loop-at-test.true ∙ sym c.if-is_blank.ensures in
+    let gap : gap_len (drop at bytes) ≡ c.gap_len-gap.result = ap gap_len (sym (rest_of at bytes)) ∙ sym c.gap_len-gap.ensures in
+    let none : gap_len (drop at bytes) ≡ 0 = gap ∙ omega (arith, c.if-gap-gt0.false) in
     let no_lexeme = ap lexeme_at (sym (rest_of at bytes)) ∙ sym c.in_ok-kind.ensures ∙ c.in_default.is in
-    let stopped : StopsAt bytes (fault_at at (drop at bytes)) = stop bytes at c.loop-at.tokens.items c.loop-at.invariant c.loop-at-test.true no_blank no_lexeme in
+    let stopped : StopsAt bytes (fault_at at (drop at bytes)) = stop bytes at c.loop-at.tokens.items c.loop-at.invariant c.loop-at-test.true none no_lexeme in
     faults bytes c.fault_at.result (subst (StopsAt bytes) (ap (fault_at at) (sym (rest_of at bytes)) ∙ sym c.fault_at.ensures) stopped)
 
-pub overflow_add-at-else-is_blank : goal.overflow_add-at-else-is_blank
-overflow_add-at-else-is_blank c =
-    let within = found_within (drop c.loop-at.at c.args.bytes.now) c.in-Some.field-0 (found c) in
-    let more : SoFar c.args.bytes.now (c.loop-at.at + c.in-Some.field-0.len) _ = lexeme_more c.args.bytes.now c.loop-at.at c.loop-at.tokens.items c.in-Some.field-0 c.loop-at.invariant (found c) in
-    omega (arith, more.within, c.requires)
+found : (c : goal.In_ok-push) → lexeme_at (drop c.loop-at.at c.args.bytes.now) ≡ Some c.in-Some.field-0
+found c = ap lexeme_at (sym (rest_of c.loop-at.at c.args.bytes.now)) ∙ sym c.in_ok-kind.ensures ∙ c.in-Some.is
+
+-- behind a lexeme
+more : (c : goal.In_ok-push) → SoFar c.args.bytes.now (c.loop-at.at + c.in-Some.field-0.len) c.push.new.self.items
+more c = rw c.in_ok-push.ensures.items (lexeme_more c.args.bytes.now c.loop-at.at c.loop-at.tokens.items c.in-Some.field-0 c.loop-at.invariant (found c))
+
+pub overflow_add-at-else-gap-gt0 : goal.overflow_add-at-else-gap-gt0
+overflow_add-at-else-gap-gt0 c = let so_far : SoFar c.args.bytes.now (c.loop-at.at + c.in-Some.field-0.len) c.push.new.self.items = more c in omega (arith, so_far.within, c.requires)
 
 pub loop-at-smaller : goal.loop-at-smaller
 loop-at-smaller c =
@@ -35,6 +47,4 @@ loop-at-smaller c =
     omega (arith, within.0)
 
 pub loop-at-preserved : goal.loop-at-preserved
-loop-at-preserved c =
-    let more = lexeme_more c.args.bytes.now c.loop-at.at c.loop-at.tokens.items c.in-Some.field-0 c.loop-at.invariant (found c) in
-    rw c.in_ok-push.ensures.items more
+loop-at-preserved c = more c
