@@ -1,12 +1,11 @@
 -- The list of parts that stand behind a sign each, with the sign once more at its end, or not.
-use Rattle.std.proofs.Common.{◌≡◌, ℕ, zero, suc, ◌<◌, ◌≤◌, Bool, true, false, cond, ◌⊎◌, inl, inr, List, [], ◌∷◌, ◌++◌, map, Option, Some, None, Result, Ok, Err, refl, sym, ap, ◌∙◌, subst, arith, append_assoc, append-nil}
+use Rattle.std.proofs.Common.{◌≡◌, ℕ, zero, suc, ◌<◌, ◌≤◌, Bool, true, false, cond, ◌⊎◌, inl, inr, List, [], ◌∷◌, ◌++◌, map, Option, Some, None, Ok, Err, refl, sym, ap, ◌∙◌, subst, arith, append_assoc, append-nil}
 use Rattle.opl_token.specs.declared.sign.Sign.{Sign}
 use Rattle.opl_token.specs.declared.token.Kind.{Kind}
-use Rattle.opl_tree.specs.Marks.{Part, Mark, place, token, behind as behind_marks, optional, sign as sign_part}
-use Rattle.opl_parse.specs.Input.{Input, Outcome, Parser, kind, next, left, place as place_at, and_then, ◌>>=◌, pure, refuse, seen, take_found, sign, is_sign, behind, behind_from}
-use Rattle.opl_parse.proofs.Outcomes.{ok_one, ok_not_err, Went, bind_ok, Broke, bind_err}
-use Rattle.opl_parse.proofs.Takes.{Takes, Split, takes_split, parts, parts-append, Begins, takes_begins, BeginSplit, begins_split, begins_left, begins_less, next_left_le, Written}
-use Rattle.opl_parse.proofs.Phrases.{Shape, Sound, Accepts, Sample, Good, Viable, Fault, Fails, AllFail, Any, pair, pair_shape, pair_good, pair_fails_at, maybe, maybe_shape, maybe_fits, maybe_ends, maybe_good, maybe_fails_at, mapped, mapped_shape, Same, mapped_good, mapped_fails_at, Passes, Reshaped, reshaped_good, reshaped_fails_at, Law}
+use Rattle.opl_tree.specs.Marks.{Mark, token, behind as behind_marks, optional, sign as sign_part}
+use Rattle.opl_parse.specs.Input.{Input, Outcome, Parser, kind, next, left, and_then, ◌>>=◌, pure, refuse, seen, take_found, sign, is_sign, behind, behind_from}
+use Rattle.opl_parse.proofs.Takes.{Takes, parts, parts-append, Begins, takes_begins, begins_split, begins_less, next_left_le}
+use Rattle.opl_parse.proofs.Phrases.{Shape, Good, Fails, AllFail, pair, pair_shape, pair_good, pair_fails_at, maybe, maybe_shape, maybe_good, maybe_fails_at, mapped, mapped_shape, Same, mapped_good, mapped_fails_at, Passes, Reshaped, reshaped_good, Law}
 use Rattle.opl_parse.proofs.Lists.{Shrinks, ListPart, all_fit, and_then_pure, shrinks, pair_same, maybe_same}
 use Rattle.opl_parse.proofs.Tokens.{is_sign_same, sign_shape, sign_law}
 

@@ -1,5 +1,5 @@
 -- The laws of each rule of the grammar.
-use Rattle.std.proofs.Common.{◌≡◌, ℕ, Bool, true, false, cond, ◌⊎◌, inl, inr, List, [], ◌∷◌, ◌++◌, map, Option, Some, None, Ok, Err, refl, sym, ap, ◌∙◌, subst, ℤ, codes, append-nil}
+use Rattle.std.proofs.Common.{◌≡◌, ℕ, Bool, true, false, cond, ◌⊎◌, inl, inr, List, [], ◌∷◌, ◌++◌, Option, Some, None, Ok, Err, refl, sym, ap, ◌∙◌, subst, ℤ, codes, append-nil}
 use Rattle.std.specs.Prelude.{is_some, ◌||◌}
 use Rattle.opl_token.specs.declared.sign.Sign.{Sign}
 use Rattle.opl_token.specs.declared.sign.Sign.TheVariants.{Semicolon, Range, OpenBrace, CloseBrace, Minus}
@@ -24,12 +24,12 @@ use Rattle.opl_tree.specs.declared.instruction.ItemsTree.TheVariants.{Empty, Sev
 use Rattle.opl_tree.specs.declared.model.ModelTree.{ModelTree}
 use Rattle.opl_tree.specs.Marks as marks
 use Rattle.opl_tree.specs.Marks.{Mark, place, token}
-use Rattle.opl_parse.specs.Input.{Input, Outcome, Parser, kind, next, place as place_at, and_then, ◌>>=◌, ◌>>◌, pure, here, one, seen, take_found, sign, word, eat, many, behind, is_sign, is_word, name_in, number_in, relation_in}
+use Rattle.opl_parse.specs.Input.{Input, Outcome, Parser, kind, next, place as place_at, and_then, ◌>>=◌, pure, one, seen, take_found, sign, word, eat, many, behind, is_sign, is_word, name_in, number_in, relation_in}
 use Rattle.opl_parse.specs.Rules.{name, number, operand, starts_item, compare, item, several, items, block, instr, variable, decl, starts_decl, model, nothing_left, stop_unless, finish, whole}
 use Rattle.opl_parse.proofs.Outcomes.{ok_one, ok_not_err, and_then_assoc}
-use Rattle.opl_parse.proofs.Phrases.{Shape, Fault, Law, Any, one_law, pair, pair_shape, pair_law, placed, placed_shape, placed_law, maybe, maybe_shape, maybe_law, either, either_shape, either_law, by_side, mapped, mapped_shape, mapped_law, Same, plain, Plain, plain_law, rule_law}
+use Rattle.opl_parse.proofs.Phrases.{Shape, Fault, Law, Any, pair, pair_shape, pair_law, placed, placed_shape, placed_law, maybe, maybe_shape, maybe_law, either, either_shape, either_law, by_side, mapped, mapped_shape, mapped_law, Same, plain, rule_law}
 use Rattle.opl_parse.proofs.Takes.{parts, Written, written_behind}
-use Rattle.opl_parse.proofs.Lists.{ListPart, Shrinks, shrinks, all_fit, many_shape, many_law}
+use Rattle.opl_parse.proofs.Lists.{ListPart, Shrinks, shrinks, all_fit, many_law}
 use Rattle.opl_parse.proofs.Behind.{Tail, tail_shape, behind_law}
 use Rattle.opl_parse.proofs.Tokens.{is_sign_true, is_word_true, sign_shape, word_shape, sign_law, word_law, name_law, number_law, relation_law}
 
@@ -304,7 +304,7 @@ abbrev instr_made : ℕ × (Unit {0} × (BlockTree × Unit {0})) → InstrTree
 instr_made c = Solve c.0 c.1.1.0
 
 abbrev instr_from : InstrTree → ℕ × (Unit {0} × (BlockTree × Unit {0}))
-instr_from (Solve at block) = (at, (tt, (block, tt)))
+instr_from (Solve at inner) = (at, (tt, (inner, tt)))
 
 instr_is : (i : Input) → instr i ≡ mapped instr_made (placed (pair (word (codes "solve")) (pair block (sign Semicolon)))) i
 unfolding instr
@@ -316,10 +316,10 @@ starts_instr k = is_word (codes "solve") k ≡ true
 instr_same : Same (placed_shape (pair_shape (word_shape (codes "solve")) (pair_shape (plain marks.marks_block starts_block) (sign_shape Semicolon)))) marks.marks_instr instr_made instr_from
 instr_same = record { there = there; back = λ c. refl; spelt = spelt } where
   there : (t : InstrTree) → instr_made (instr_from t) ≡ t
-  there (Solve at block) = refl
+  there (Solve at inner) = refl
 
   spelt : (t : InstrTree) → marks.marks_instr t ≡ (placed_shape (pair_shape (word_shape (codes "solve")) (pair_shape (plain marks.marks_block starts_block) (sign_shape Semicolon)))).marks (instr_from t)
-  spelt (Solve at block) = refl
+  spelt (Solve at inner) = refl
 
 pub instr_rule : Law instr (plain marks.marks_instr starts_instr)
 instr_rule = rule_law (placed_law (pair_law (word_law (codes "solve")) (pair_law block_rule (sign_law Semicolon) (λ b k h. tt)) (λ b k h. tt)))

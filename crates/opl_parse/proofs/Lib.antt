@@ -5,6 +5,7 @@ pub mod Grammar
 pub mod Lists
 pub mod Loops
 pub mod Outcomes
+pub mod Sizes
 pub mod Takes
 pub mod Texts
 pub mod Phrases

@@ -1,12 +1,12 @@
 -- Readers with what they read: the shape of a phrase, the laws of a reader, and how the laws carry over from parts to
 -- the whole. Each rule of the grammar is put together from these.
-use Rattle.std.proofs.Common.{◌≡◌, ℕ, Bool, true, false, cond, ◌⊎◌, inl, inr, List, [], ◌∷◌, ◌++◌, Option, Some, None, Result, Ok, Err, refl, sym, ap, ◌∙◌, subst}
+use Rattle.std.proofs.Common.{◌≡◌, ℕ, Bool, true, false, cond, ◌⊎◌, inl, inr, List, [], ◌∷◌, ◌++◌, Option, Some, None, Ok, Err, refl, sym, ap, ◌∙◌, subst}
 use Rattle.opl_tree.specs.Marks.{Part, Mark, place, token}
 use Rattle.opl_tree.specs.Spelling.{kind_of, IsProper}
 use Rattle.opl_token.specs.declared.token.Kind.{Kind}
-use Rattle.opl_parse.specs.Input.{Input, Outcome, Parser, kind, next, place as place_at, and_then, ◌>>=◌, pure, here, one, take_found}
-use Rattle.opl_parse.proofs.Outcomes.{ok_one, ok_not_err, Went, bind_ok, Broke, bind_err}
-use Rattle.opl_parse.proofs.Takes.{IsAt, Takes, Split, takes_split, takes_join, parts, parts-append, Begins, takes_begins, BeginSplit, begins_split, begins_join, same_front, before, before_at, put, begins_put}
+use Rattle.opl_parse.specs.Input.{Input, Outcome, Parser, kind, next, place as place_at, ◌>>=◌, pure, here, one, take_found}
+use Rattle.opl_parse.proofs.Outcomes.{ok_one, ok_not_err, bind_ok, Broke, bind_err}
+use Rattle.opl_parse.proofs.Takes.{Takes, takes_split, takes_join, parts, parts-append, Begins, takes_begins, begins_split, begins_join, same_front, before, before_at, put, begins_put}
 
 -- What a phrase is: what it writes, which of its values the reader is sure to take, before which tokens the reader
 -- stops behind a value, before which it stops in any case, and with which it begins, by those that may follow.
@@ -148,6 +148,9 @@ module _ {A B : Type 0} (p : Parser A) (s : Shape A) (q : Parser B) (t : Shape B
   stops_there : (i : Input) (b : B) (j : Input) → Takes (t.marks b) i j → t.ends b (kind j) → s.closes (kind i)
   stops_there i b j h e = meets b (kind i) (Q.front i b j (t.ends b) h e)
 
+  pair_ok : (i : Input) (a : A) (m : Input) (b : B) (j : Input) → p i ≡ Ok (a, m) → q m ≡ Ok (b, j) → pair p q i ≡ Ok ((a, b), j)
+  pair_ok i a m b j h k = rw (h, k) refl
+
   pub pair_good : Good (pair p q) (pair_shape s t)
   pair_good = record {
     sound = λ i c j h.
@@ -164,14 +167,13 @@ module _ {A B : Type 0} (p : Parser A) (s : Shape A) (q : Parser B) (t : Shape B
     complete = λ i c j fits h e.
         let w = takes_split (s.marks c.0) (t.marks c.1) i j h in
         let first = P.complete i c.0 w.mid fits.0 w.front (P.closing c.0 (kind w.mid) (stops_there w.mid c.1 j w.back e)) in
-        let second = Q.complete w.mid c.1 j fits.1 w.back e in
-        rw (first, second) refl;
+        pair_ok i c.0 w.mid c.1 j first (Q.complete w.mid c.1 j fits.1 w.back e);
     accepts = λ i c j fits h e.
         let w = begins_split (parts (s.marks c.0)) (parts (t.marks c.1)) i j (subst (λ ps. Begins ps i j) (parts-append (s.marks c.0) (t.marks c.1)) h) in
         let second = Q.accepts w.mid c.1 j fits.1 w.back e in
         let b = Q.sound w.mid second.value j second.is in
         let first = P.accepts i c.0 w.mid fits.0 w.front (P.closing c.0 (kind w.mid) (stops_there w.mid second.value j b.takes b.ends)) in
-        record { value = (first.value, second.value); is = rw (first.is, second.is) refl };
+        record { value = (first.value, second.value); is = pair_ok i first.value w.mid second.value j first.is second.is };
     front = λ i c j F h e.
         let w = takes_split (s.marks c.0) (t.marks c.1) i j h in
         P.front i c.0 w.mid (t.begins F) w.front (Q.front w.mid c.1 j F w.back e);

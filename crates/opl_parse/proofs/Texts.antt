@@ -1,19 +1,19 @@
 -- The tree of tokens and the reader of the whole: each is the other.
-use Rattle.std.proofs.Common.{◌≡◌, ℕ, Bool, true, false, ◌⊎◌, inl, inr, List, [], ◌∷◌, ◌++◌, map, Option, Some, None, Result, Ok, Err, refl, sym, ap, ◌∙◌, subst, append_assoc, append-nil}
+use Rattle.std.proofs.Common.{◌≡◌, ℕ, List, [], ◌∷◌, ◌++◌, map, Option, Some, None, Result, Ok, Err, refl, sym, ap, ◌∙◌, append_assoc, append-nil}
 use Rattle.opl_token.specs.declared.token.Kind.{Kind}
 use Rattle.opl_token.specs.declared.token.Token.{Token}
 use Rattle.opl_tree.specs.declared.model.ModelTree.{ModelTree}
 use Rattle.opl_tree.specs.declared.fault.SyntaxFault.{SyntaxFault}
 use Rattle.opl_tree.specs.declared.fault.SyntaxFault.TheVariants.{NotYet, OutOfMemory}
 use Rattle.opl_tree.specs.Marks.{Part, Mark, place, token, marks_model}
-use Rattle.opl_tree.specs.Spelling.{kind_of, kinds_of, IsProper, AllProper}
-use Rattle.opl_tree.specs.Reading.{kinds, place_of, AtPlaces, IsTreeOf, IsViable, IsStuck, IsUnfinished, Stops, StopsAt}
+use Rattle.opl_tree.specs.Spelling.{kind_of, kinds_of, AllProper, spelling, IsWellFormed}
+use Rattle.opl_tree.specs.Reading.{kinds, place_of, AtPlaces, IsTreeOf, IsViable, Stops, StopsAt}
 use Rattle.opl_parse.specs.Answers.{ParseAnswers}
-use Rattle.opl_parse.specs.Input.{Input, Outcome, first_kind, kind, next, place as place_at, Reads}
+use Rattle.opl_parse.specs.Input.{Input, first_kind, kind, next, Reads}
 use Rattle.opl_parse.specs.Rules.{whole}
-use Rattle.opl_parse.proofs.Outcomes.{ok_one, ok_not_err}
-use Rattle.opl_parse.proofs.Takes.{IsAt, Takes, Begins}
-use Rattle.opl_parse.proofs.Phrases.{Fault, Fails, Viable}
+use Rattle.opl_parse.proofs.Outcomes.{ok_not_err}
+use Rattle.opl_parse.proofs.Takes.{Takes, parts, Begins}
+use Rattle.opl_parse.proofs.Phrases.{Fault, Fails}
 use Rattle.opl_parse.proofs.Grammar.{whole_rule, whole_shape}
 
 abbrev pub start : List Token → ℕ → Input
@@ -25,9 +25,18 @@ first_same h = cc
 pub rest_same : {X : Type 0} {x y : X} {xs ys : List X} → x ∷ xs ≡ y ∷ ys → xs ≡ ys
 rest_same h = cc
 
+some_none : {X : Type 0} {x : X} → ◌≡◌ {A = Option X} (Some x) None → ⊥
+some_none h = cc
+
+kind_same : {x y : Kind} → ◌≡◌ {A = Option Kind} (Some x) (Some y) → x ≡ y
+kind_same h = cc
+
+cons_same : {X : Type 0} {x y : X} {xs ys : List X} → x ≡ y → xs ≡ ys → x ∷ xs ≡ y ∷ ys
+cons_same h k = cc
+
 -- ---- marks that are written by all tokens
 
-takes_all : (ms : List Mark) (ts : List Token) (end : ℕ) → AllProper ms → kinds_of ms ≡ kinds ts → AtPlaces ms ts end → Takes ms (start ts end) (start [] end)
+pub takes_all : (ms : List Mark) (ts : List Token) (end : ℕ) → AllProper ms → kinds_of ms ≡ kinds ts → AtPlaces ms ts end → Takes ms (start ts end) (start [] end)
 takes_all [] [] end p k h = refl
 takes_all [] (t ∷ ts) end p k h = cc
 takes_all (place at ∷ ms) ts end p k h = (sym h.0, takes_all ms ts end p k h.1)
@@ -42,26 +51,16 @@ record Wrote (ms : List Mark) (ts : List Token) (end : ℕ) (j : Input) : Type 0
 
 nothing_left : (ts : List Token) (end : ℕ) (j : Input) → start ts end ≡ j → kind j ≡ None → ts ≡ []
 nothing_left [] end j e h = refl
-nothing_left (t ∷ ts) end j e h = let some : Some t.kind ≡ kind j = ap kind e in absurd (some_none (some ∙ h)) where
-  some_none : {X : Type 0} {x : X} → ◌≡◌ {A = Option X} (Some x) None → ⊥
-  some_none h = cc
+nothing_left (t ∷ ts) end j e h = let some : Some t.kind ≡ kind j = ap kind e in absurd (some_none (some ∙ h))
 
 all_taken : (ms : List Mark) (ts : List Token) (end : ℕ) (j : Input) → Takes ms (start ts end) j → kind j ≡ None → Wrote ms ts end j
 all_taken [] ts end j t h = let e = nothing_left ts end j t h in record { formed = tt; spelt = ap kinds (sym e); placed = tt }
 all_taken (place at ∷ ms) ts end j t h =
     let r = all_taken ms ts end j t.1 h in record { formed = r.formed; spelt = r.spelt; placed = (sym t.0, r.placed) }
-all_taken (token q ∷ ms) [] end j t h = absurd (none_some t.0.0) where
-  none_some : {X : Type 0} {x : X} → ◌≡◌ {A = Option X} None (Some x) → ⊥
-  none_some h = cc
+all_taken (token q ∷ ms) [] end j t h = absurd (some_none (sym t.0.0))
 all_taken (token q ∷ ms) (u ∷ ts) end j t h =
     let r = all_taken ms ts end j t.1 h in
-    record { formed = (t.0.1, r.formed); spelt = both (kind_same t.0.0) r.spelt; placed = r.placed }
-  where
-    kind_same : {x y : Kind} → ◌≡◌ {A = Option Kind} (Some x) (Some y) → x ≡ y
-    kind_same h = cc
-
-    both : {x y : Kind} {xs ys : List Kind} → x ≡ y → ys ≡ xs → y ∷ ys ≡ x ∷ xs
-    both h k = cc
+    record { formed = (t.0.1, r.formed); spelt = cons_same (sym (kind_same t.0.0)) r.spelt; placed = r.placed }
 
 -- ---- the reader of the whole gives the tree
 
@@ -84,18 +83,10 @@ record Cut (ps : List Part) (ts : List Token) (j : Input) : Type 0 where
 
 begins_cut : (ps : List Part) (ts : List Token) (end : ℕ) (j : Input) → Begins ps (start ts end) j → Cut ps ts j
 begins_cut [] ts end j b = record { front = []; is = ap (λ (i : Input). i.tokens) b; same = refl }
-begins_cut (p ∷ ps) [] end j b = absurd (none_some b.0.0) where
-  none_some : {X : Type 0} {x : X} → ◌≡◌ {A = Option X} None (Some x) → ⊥
-  none_some h = cc
+begins_cut (p ∷ ps) [] end j b = absurd (some_none (sym b.0.0))
 begins_cut (p ∷ ps) (t ∷ ts) end j b =
     let c = begins_cut ps ts end j b.1 in
-    record { front = t ∷ c.front; is = ap (λ xs. t ∷ xs) c.is; same = both (kind_same b.0.0) c.same }
-  where
-    kind_same : {x y : Kind} → ◌≡◌ {A = Option Kind} (Some x) (Some y) → x ≡ y
-    kind_same h = cc
-
-    both : {x y : Kind} {xs ys : List Kind} → x ≡ y → xs ≡ ys → x ∷ xs ≡ y ∷ ys
-    both h k = cc
+    record { front = t ∷ c.front; is = ap (λ xs. t ∷ xs) c.is; same = cons_same (kind_same b.0.0) c.same }
 
 begins_end : (ps : List Part) (i j : Input) → Begins ps i j → j.end ≡ i.end
 begins_end [] i j b = sym (ap (λ (x : Input). x.end) b)
@@ -122,6 +113,28 @@ first_of_some : (ts : List Token) (k : Kind) (ks : List Kind) → kinds ts ≡ k
 first_of_some [] k ks h = cc
 first_of_some (t ∷ ts) k ks h = ap Some (first_same h)
 
+-- ---- a well-formed tree is spelt as some tokens that have a tree, whatever its places
+
+-- tokens of these kinds, all at one place
+bare : List Kind → List Token
+bare = map (λ (k : Kind). record { kind = k; at = 0 })
+
+bare_kinds : (ks : List Kind) → kinds (bare ks) ≡ ks
+unfolding bare
+bare_kinds [] = refl
+bare_kinds (k ∷ ks) = ap (λ ls. k ∷ ls) (bare_kinds ks)
+
+bare_begins : (ms : List Mark) → AllProper ms → Begins (parts ms) (start (bare (kinds_of ms)) 0) (start [] 0)
+unfolding bare
+bare_begins [] h = refl
+bare_begins (place at ∷ ms) h = bare_begins ms h
+bare_begins (token p ∷ ms) h = ((refl, h.0), bare_begins ms h.1)
+
+respelt : (t : ModelTree) → IsWellFormed t → (u : ModelTree) × IsTreeOf u (bare (spelling t)) 0
+respelt t h =
+    let x = whole_rule.good.accepts (start (bare (spelling t)) 0) t (start [] 0) (tt, tt) (bare_begins (marks_model t) h) refl in
+    (x.value, whole_tree (bare (spelling t)) 0 x.value (start [] 0) x.is)
+
 -- a reader that fails on what has a tree
 no_tree : (tokens : List Token) (end : ℕ) (t : ModelTree) → Fault (whole (start tokens end)) → IsTreeOf t tokens end → ⊥
 no_tree tokens end t f h = ok_not_err (sym (whole_reads tokens end t h) ∙ f.is)
@@ -137,27 +150,26 @@ module _ (tokens : List Token) (end at : ℕ) (f : Fails whole whole_shape (star
       let w = all_taken (marks_model v.value) v.whole.tokens v.whole.end (start [] 0) v.takes refl in
       let d = begins_cut f.front v.whole.tokens v.whole.end v.mid v.begins in
       record {
-        tokens = v.whole.tokens;
-        end = v.whole.end;
         tree = v.value;
-        is_tree = record { formed = w.formed; spelt = w.spelt; placed = w.placed };
+        formed = w.formed;
         rest = kinds v.mid.tokens;
-        begins = ap kinds d.is ∙ (kinds-append d.front v.mid.tokens ∙ ap (λ ks. ks ++ kinds v.mid.tokens) (d.same ∙ sym c.same));
+        begins = w.spelt ∙ (ap kinds d.is ∙ (kinds-append d.front v.mid.tokens ∙ ap (λ ks. ks ++ kinds v.mid.tokens) (d.same ∙ sym c.same)));
       }
 
-  -- whatever begins so, and goes on with the same token, has no tree
-  none_so : (ts : List Token) (e : ℕ) (t : ModelTree) (ks : List Kind) → kinds ts ≡ kinds c.front ++ ks → ((us : List Token) → kinds us ≡ ks → first_kind us ≡ kind f.stop) → IsTreeOf t ts e → ⊥
-  none_so ts e t ks h next h' =
-      let r = begins_again f.front (start tokens end) f.stop ts e ks f.begins (h ∙ ap (λ xs. xs ++ ks) c.same) in
-      no_tree ts e t (f.again (start ts e) r.mid r.begins (next r.mid.tokens r.rest)) h'
+  -- no well-formed tree's spelling begins so and goes on with the same token
+  none_so : (t : ModelTree) (ks : List Kind) → IsWellFormed t → spelling t ≡ kinds c.front ++ ks → ((us : List Token) → kinds us ≡ ks → first_kind us ≡ kind f.stop) → ⊥
+  none_so t ks formed h next =
+      let u = respelt t formed in
+      let r = begins_again f.front (start tokens end) f.stop (bare (spelling t)) 0 ks f.begins (bare_kinds (spelling t) ∙ (h ∙ ap (λ xs. xs ++ ks) c.same)) in
+      no_tree (bare (spelling t)) 0 u.0 (f.again (start (bare (spelling t)) 0) r.mid r.begins (next r.mid.tokens r.rest)) u.1
 
   stop_at : (back : List Token) → f.stop.tokens ≡ back → Stops c.front back end at
   stop_at [] h = (
-    (λ ts e t k. none_so ts e t [] (k ∙ sym (append-nil (kinds c.front))) (λ us l. first_of_none us l ∙ sym (ap first_kind h))),
+    (λ t formed k. none_so t [] formed (k ∙ sym (append-nil (kinds c.front))) (λ us l. first_of_none us l ∙ sym (ap first_kind h))),
     f.place ∙ (ap (λ ts. place_of ts f.stop.end) h ∙ begins_end f.front (start tokens end) f.stop f.begins),
   )
   stop_at (u ∷ us) h = (
-    (λ v. none_so v.tokens v.end v.tree (u.kind ∷ v.rest) (v.begins ∙ append_assoc (kinds c.front) (u.kind ∷ []) v.rest) (λ xs l. first_of_some xs u.kind v.rest l ∙ sym (ap first_kind h)) v.is_tree),
+    (λ v. none_so v.tree (u.kind ∷ v.rest) v.formed (v.begins ∙ append_assoc (kinds c.front) (u.kind ∷ []) v.rest) (λ xs l. first_of_some xs u.kind v.rest l ∙ sym (ap first_kind h))),
     f.place ∙ ap (λ ts. place_of ts f.stop.end) h,
   )
 

@@ -1,11 +1,10 @@
 -- The single tokens: signs, words, names, numbers and relations.
-use Rattle.std.proofs.Common.{◌≡◌, ℕ, Bool, true, false, cond, List, [], ◌∷◌, Option, Some, None, refl, sym, ap, ◌∙◌, subst, ℤ, pos, codes}
-use Rattle.std.specs.Str.{bytes_eq}
-use Rattle.std.specs.Prelude.{int_lt, negsuc, is_some}
+use Rattle.std.proofs.Common.{◌≡◌, ℕ, Bool, true, false, cond, List, [], Option, Some, None, refl, ap, subst, ℤ, pos}
+use Rattle.std.specs.Prelude.{negsuc, is_some}
 use Rattle.std.specs.Int.{IsNonNegative}
 use Rattle.std.specs.Option.{option_map}
 use Rattle.std.proofs.lemmas.Slice.Eq.{bytes_eq-Decides}
-use denote.Enum.Bare.{sameb, same_true, true_same}
+use denote.Enum.Bare.{same_true, true_same}
 use Rattle.opl_token.specs.contracts.sign.Sign.{the_type}
 use Rattle.opl_token.specs.declared.sign.Sign.{Sign}
 use Rattle.opl_token.specs.declared.sign.Sign.TheVariants.{Equal as equal, NotEqual as not_equal, Less as less, LessOrEqual as less_or_equal, Greater as greater, GreaterOrEqual as greater_or_equal}
@@ -14,9 +13,8 @@ use Rattle.opl_token.specs.declared.token.Kind.TheVariants.{Word, Number, Text, 
 use Rattle.opl_tree.specs.declared.expression.Relation.{Relation}
 use Rattle.opl_tree.specs.declared.expression.Relation.TheVariants.{Equal, NotEqual, Less, LessOrEqual, Greater, GreaterOrEqual}
 use Rattle.opl_tree.specs.Marks.{relation_sign, Part, sign as sign_part, word as word_part, name as name_part, number as number_part}
-use Rattle.opl_tree.specs.Spelling.{kind_of, IsProper}
 use Rattle.opl_tree.specs.Words.{is_reserved}
-use Rattle.opl_parse.specs.Input.{Input, Parser, kind, one, seen, sign, word, is_sign, is_word, same_sign, name_in, number_in, relation_of, relation_in}
+use Rattle.opl_parse.specs.Input.{one, seen, sign, word, is_sign, is_word, name_in, number_in, relation_of, relation_in}
 use Rattle.opl_parse.proofs.Phrases.{Shape, Law, Reads, one_shape, one_law}
 
 some_one : {X : Type 0} {x y : X} → ◌≡◌ {A = Option X} (Some x) (Some y) → x ≡ y

@@ -1,10 +1,10 @@
 -- The laws of trees and stops.
-use Rattle.std.proofs.Common.{◌≡◌, ℕ, suc, ◌≤◌, ◌<◌, ◌⊎◌, inl, inr, List, [], ◌∷◌, ◌++◌, map, length, Result, Ok, Err, refl, sym, ap, ◌∙◌, subst, arith, append_assoc, append-nil}
+use Rattle.std.proofs.Common.{◌≡◌, ℕ, ◌⊎◌, inl, inr, List, [], ◌∷◌, ◌++◌, Ok, Err, refl, sym, ap, ◌∙◌, subst, append_assoc, append-nil}
 use Rattle.opl_token.specs.declared.token.Kind.{Kind}
 use Rattle.opl_token.specs.declared.token.Token.{Token}
 use Rattle.opl_tree.specs.declared.model.ModelTree.{ModelTree}
-use Rattle.opl_tree.specs.Reading.{kinds, IsTreeOf, IsViable, IsStuck, IsUnfinished, Stops, StopsAt}
-use Rattle.opl_parse.specs.Input.{Input, Outcome}
+use Rattle.opl_tree.specs.Reading.{kinds, IsTreeOf, IsViable, Stops, StopsAt}
+use Rattle.opl_parse.specs.Input.{Outcome}
 use Rattle.opl_parse.specs.Laws.{OneTree, TreeOrStop, OneStop, ParseTotal}
 use Rattle.opl_parse.specs.Rules.{whole}
 use Rattle.opl_parse.proofs.Outcomes.{ok_one}
@@ -15,14 +15,12 @@ one_tree tokens end t u h k = let same : (t, start [] end) ≡ (u, start [] end)
 
 -- tokens that have a tree are stuck nowhere
 not_stuck : (tokens : List Token) (end : ℕ) (t : ModelTree) (at : ℕ) → IsTreeOf t tokens end → (front back : List Token) → tokens ≡ front ++ back → Stops front back end at → ⊥
-not_stuck tokens end t at h front [] e s = s.0 tokens end t (ap kinds (e ∙ append-nil front)) h
+not_stuck tokens end t at h front [] e s = s.0 t h.formed (h.spelt ∙ ap kinds (e ∙ append-nil front))
 not_stuck tokens end t at h front (u ∷ us) e s = s.0 (record {
-  tokens = tokens;
-  end = end;
   tree = t;
-  is_tree = h;
+  formed = h.formed;
   rest = kinds us;
-  begins = ap kinds e ∙ (kinds-append front (u ∷ us) ∙ sym (append_assoc (kinds front) (u.kind ∷ []) (kinds us)));
+  begins = h.spelt ∙ (ap kinds e ∙ (kinds-append front (u ∷ us) ∙ sym (append_assoc (kinds front) (u.kind ∷ []) (kinds us))));
 })
 
 pub tree_or_stop : TreeOrStop
@@ -32,7 +30,7 @@ tree_or_stop tokens end t at h s = not_stuck tokens end t at h s.front s.back s.
 
 -- a beginning of what is viable is viable
 viable_front : (ks ls : List Kind) → IsViable (ks ++ ls) → IsViable ks
-viable_front ks ls v = record { tokens = v.tokens; end = v.end; tree = v.tree; is_tree = v.is_tree; rest = ls ++ v.rest; begins = v.begins ∙ append_assoc ks ls v.rest }
+viable_front ks ls v = record { tree = v.tree; formed = v.formed; rest = ls ++ v.rest; begins = v.begins ∙ append_assoc ks ls v.rest }
 
 -- one beginning goes on with what stands behind another
 record GoesOn (front back other : List Token) : Type 0 where

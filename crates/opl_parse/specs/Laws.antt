@@ -1,10 +1,11 @@
 -- Laws of trees, stops and tokens.
 use Rattle.std.specs.Prelude.{◌≡◌, ℕ, ◌≤◌, List, All, length, ◌⊎◌}
 use Rattle.opl_token.specs.declared.token.Token.{Token}
+use Rattle.opl_token.specs.Laws.{NumberFits}
 use Rattle.opl_tree.specs.declared.model.ModelTree.{ModelTree}
 use Rattle.opl_tree.specs.Marks.{marks_model}
-use Rattle.opl_tree.specs.Reading.{IsTreeOf, StopsAt, kinds}
-use Rattle.opl_tree.specs.Sizes.{IsTextKind, NumbersFit, places_of, IsPlaceIn}
+use Rattle.opl_tree.specs.Reading.{IsTreeOf, StopsAt}
+use Rattle.opl_tree.specs.Sizes.{NumbersFit, places_of, IsPlaceIn}
 
 -- tokens have at most one tree
 abbrev pub OneTree : Type 0
@@ -28,7 +29,7 @@ FewDecls = (tokens : List Token) (end : ℕ) (t : ModelTree) → IsTreeOf t toke
 
 -- the tree of a text's tokens holds only numbers that a text can write
 abbrev pub NumbersWithin : Type 0
-NumbersWithin = (tokens : List Token) (end : ℕ) (t : ModelTree) → All IsTextKind (kinds tokens) → IsTreeOf t tokens end → NumbersFit t
+NumbersWithin = (tokens : List Token) (end : ℕ) (t : ModelTree) → All (λ token. NumberFits token.kind) tokens → IsTreeOf t tokens end → NumbersFit t
 
 -- each place in the tree is the place of a token, or the text's end
 abbrev pub PlacesWithin : Type 0

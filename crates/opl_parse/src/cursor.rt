@@ -73,14 +73,8 @@ impl<'a> Cursor<'a> {
         ensures { result ≡ spec.is_sign sign (spec.kind self.now) }
     {
         match self.tokens {
-            [
-                Token {
-                    kind: Kind::Sign(found),
-                    ..
-                },
-                ..
-            ] => *found == sign,
-            _ => false,
+            [token, ..] => token.kind.is_sign(sign),
+            [] => false,
         }
     }
 
@@ -89,14 +83,8 @@ impl<'a> Cursor<'a> {
         ensures { result ≡ spec.is_word word.now (spec.kind self.now) }
     {
         match self.tokens {
-            [
-                Token {
-                    kind: Kind::Word(found),
-                    ..
-                },
-                ..
-            ] => found.as_slice() == word,
-            _ => false,
+            [token, ..] => token.kind.is_word(word),
+            [] => false,
         }
     }
 

@@ -4,5 +4,7 @@
 mod cursor;
 pub mod laws;
 mod model;
+#[cfg(test)]
+mod tests;
 
 pub use model::parse_model;

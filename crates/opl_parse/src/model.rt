@@ -14,6 +14,7 @@ use opl_tree::{
 };
 use std::alloc::Global;
 
+/// `NAME`
 #[tactic(auto, unfolding(crate::specs::Rules::name))]
 fn name(alloc: Global, cursor: &mut Cursor<'_>) -> Result<NameTree, SyntaxFault>
     ensures { Reads (rules.name cursor.old) result cursor.new }
@@ -23,6 +24,7 @@ fn name(alloc: Global, cursor: &mut Cursor<'_>) -> Result<NameTree, SyntaxFault>
     Ok(NameTree { at, text })
 }
 
+/// `["-"] NUMBER`
 #[tactic(auto, unfolding(crate::specs::Rules::number))]
 fn number(cursor: &mut Cursor<'_>) -> Result<NumberTree, SyntaxFault>
     ensures { Reads (rules.number cursor.old) result cursor.new }
@@ -37,6 +39,7 @@ fn number(cursor: &mut Cursor<'_>) -> Result<NumberTree, SyntaxFault>
     })
 }
 
+/// `NAME | ["-"] NUMBER`
 #[tactic(auto, unfolding(crate::specs::Rules::operand))]
 fn operand(alloc: Global, cursor: &mut Cursor<'_>) -> Result<OperandTree, SyntaxFault>
     ensures { Reads (rules.operand cursor.old) result cursor.new }
@@ -48,12 +51,14 @@ fn operand(alloc: Global, cursor: &mut Cursor<'_>) -> Result<OperandTree, Syntax
     }
 }
 
+/// Whether an operand, and so an item, begins with the next token.
 fn starts_item(cursor: &Cursor<'_>) -> bool
     ensures { result ≡ rules.starts_item (steps.kind cursor.now) }
 {
     cursor.name().is_some() || cursor.number().is_some() || cursor.sees_sign(Sign::Minus)
 }
 
+/// `OPERAND ("=" | "<>" | "<" | "<=" | ">" | ">=") OPERAND`
 #[tactic(auto, unfolding(crate::specs::Rules::compare))]
 fn compare(alloc: Global, cursor: &mut Cursor<'_>) -> Result<CompareTree, SyntaxFault>
     ensures { Reads (rules.compare cursor.old) result cursor.new }
@@ -70,6 +75,7 @@ fn compare(alloc: Global, cursor: &mut Cursor<'_>) -> Result<CompareTree, Syntax
     })
 }
 
+/// A comparison.
 #[tactic(auto, unfolding(crate::specs::Rules::item))]
 fn item(alloc: Global, cursor: &mut Cursor<'_>) -> Result<ItemTree, SyntaxFault>
     ensures { Reads (rules.item cursor.old) result cursor.new }
@@ -77,6 +83,7 @@ fn item(alloc: Global, cursor: &mut Cursor<'_>) -> Result<ItemTree, SyntaxFault>
     Ok(ItemTree::Comparison(compare(alloc, cursor)?))
 }
 
+/// `"var" "int" NAME "in" NUMBER ".." NUMBER ";"`
 #[tactic(auto, unfolding(crate::specs::Rules::variable))]
 fn variable(alloc: Global, cursor: &mut Cursor<'_>) -> Result<VariableTree, SyntaxFault>
     ensures { Reads (rules.variable cursor.old) result cursor.new }
@@ -98,6 +105,7 @@ fn variable(alloc: Global, cursor: &mut Cursor<'_>) -> Result<VariableTree, Synt
     })
 }
 
+/// A declaration of a variable.
 #[tactic(auto, unfolding(crate::specs::Rules::decl))]
 fn decl(alloc: Global, cursor: &mut Cursor<'_>) -> Result<DeclTree, SyntaxFault>
     ensures { Reads (rules.decl cursor.old) result cursor.new }
@@ -105,6 +113,7 @@ fn decl(alloc: Global, cursor: &mut Cursor<'_>) -> Result<DeclTree, SyntaxFault>
     Ok(DeclTree::Variable(variable(alloc, cursor)?))
 }
 
+/// Declarations, as long as one begins.
 #[tactic(auto, unfolding(crate::specs::Input::many))]
 fn decls(alloc: Global, cursor: &mut Cursor<'_>) -> Result<Seq<DeclTree>, SyntaxFault>
     ensures { Reads (steps.many rules.starts_decl rules.decl cursor.old) result cursor.new }
@@ -131,6 +140,7 @@ fn more_items(alloc: Global, cursor: &mut Cursor<'_>) -> Result<(Seq<ItemTree>, 
     Ok((found, false))
 }
 
+/// `[ITEM (";" ITEM)* [";"]]`
 #[tactic(auto, unfolding(crate::specs::Rules::items, crate::specs::Rules::several))]
 fn items(alloc: Global, cursor: &mut Cursor<'_>) -> Result<ItemsTree, SyntaxFault>
     ensures { Reads (rules.items cursor.old) result cursor.new }
@@ -149,6 +159,7 @@ fn items(alloc: Global, cursor: &mut Cursor<'_>) -> Result<ItemsTree, SyntaxFaul
     })
 }
 
+/// `"{" ITEMS "}"`
 #[tactic(auto, unfolding(crate::specs::Rules::block))]
 fn block(alloc: Global, cursor: &mut Cursor<'_>) -> Result<BlockTree, SyntaxFault>
     ensures { Reads (rules.block cursor.old) result cursor.new }
@@ -160,6 +171,7 @@ fn block(alloc: Global, cursor: &mut Cursor<'_>) -> Result<BlockTree, SyntaxFaul
     Ok(BlockTree { at, items })
 }
 
+/// `"solve" BLOCK ";"`
 #[tactic(auto, unfolding(crate::specs::Rules::instr))]
 fn instr(alloc: Global, cursor: &mut Cursor<'_>) -> Result<InstrTree, SyntaxFault>
     ensures { Reads (rules.instr cursor.old) result cursor.new }
@@ -171,6 +183,7 @@ fn instr(alloc: Global, cursor: &mut Cursor<'_>) -> Result<InstrTree, SyntaxFaul
     Ok(InstrTree::Solve(at, block))
 }
 
+/// `DECL* INSTR`
 #[tactic(auto, unfolding(crate::specs::Rules::model))]
 fn model(alloc: Global, cursor: &mut Cursor<'_>) -> Result<ModelTree, SyntaxFault>
     ensures { Reads (rules.model cursor.old) result cursor.new }
@@ -181,6 +194,7 @@ fn model(alloc: Global, cursor: &mut Cursor<'_>) -> Result<ModelTree, SyntaxFaul
     Ok(ModelTree { at, decls, instr })
 }
 
+/// A model, and nothing behind it.
 #[tactic(auto, unfolding(crate::specs::Rules::whole))]
 fn whole(alloc: Global, cursor: &mut Cursor<'_>) -> Result<ModelTree, SyntaxFault>
     ensures { Reads (rules.whole cursor.old) result cursor.new }

@@ -48,16 +48,20 @@ abbrev pub optional : Sign → Bool → List Mark
 optional s true = token (sign s) ∷ []
 optional s false = []
 
+-- NAME
 abbrev pub marks_name : NameTree → List Mark
 marks_name t = place t.at ∷ token (name t.text) ∷ []
 
+-- NUMBER, or `-` and NUMBER
 abbrev pub marks_number : NumberTree → List Mark
 marks_number t = place t.at ∷ (optional Minus t.is_negative ++ token (number t.magnitude) ∷ [])
 
+-- NAME, or a number
 abbrev pub marks_operand : OperandTree → List Mark
 marks_operand (Name t) = marks_name t
 marks_operand (Number t) = marks_number t
 
+-- the sign of a relation
 abbrev pub relation_sign : Relation → Sign
 relation_sign Equal = equal
 relation_sign NotEqual = not_equal
@@ -70,6 +74,7 @@ relation_sign GreaterOrEqual = greater_or_equal
 abbrev pub marks_compare : CompareTree → List Mark
 marks_compare t = place t.at ∷ (marks_operand t.left ++ token (sign (relation_sign t.relation)) ∷ marks_operand t.right)
 
+-- a comparison
 abbrev pub marks_item : ItemTree → List Mark
 marks_item (Comparison t) = marks_compare t
 
@@ -90,6 +95,7 @@ marks_instr (Solve at block) = place at ∷ token (word (codes "solve")) ∷ (ma
 abbrev pub marks_variable : VariableTree → List Mark
 marks_variable t = place t.at ∷ token (word (codes "var")) ∷ token (word (codes "int")) ∷ (marks_name t.name ++ token (word (codes "in")) ∷ (marks_number t.low ++ token (sign Range) ∷ (marks_number t.high ++ token (sign Semicolon) ∷ [])))
 
+-- a declaration of a variable
 abbrev pub marks_decl : DeclTree → List Mark
 marks_decl (Variable t) = marks_variable t
 

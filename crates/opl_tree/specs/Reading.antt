@@ -29,30 +29,29 @@ pub record IsTreeOf (t : ModelTree) (tokens : List Token) (end : ℕ) : Type 0 w
   pub spelt : spelling t ≡ kinds tokens
   pub placed : AtPlaces (marks_model t) tokens end
 
--- some tokens that begin so have a tree
+-- the spelling of some well-formed tree begins so
 pub record IsViable (front : List Kind) : Type 0 where
-  pub tokens : List Token
-  pub end : ℕ
   pub tree : ModelTree
-  pub is_tree : IsTreeOf tree tokens end
+  pub formed : IsWellFormed tree
   pub rest : List Kind
-  pub begins : kinds tokens ≡ front ++ rest
+  pub begins : spelling tree ≡ front ++ rest
 
--- no tokens that begin so have a tree
+-- no well-formed tree's spelling begins so
 abbrev pub IsStuck : List Kind → Type 0
 IsStuck front = IsViable front → ⊥
 
--- no tokens that are just these have a tree
+-- no well-formed tree is spelt just so
 abbrev pub IsUnfinished : List Kind → Type 0
-IsUnfinished whole = (tokens : List Token) (end : ℕ) (t : ModelTree) → kinds tokens ≡ whole → IsTreeOf t tokens end → ⊥
+IsUnfinished whole = (t : ModelTree) → IsWellFormed t → spelling t ≡ whole → ⊥
 
--- Behind the tokens `front` it stops: at the next token, with which no model begins so, or at the end of the text,
--- where something is still missing.
+-- Behind the tokens `front` they stop: at the next token, with which no model goes on, or at the end of the text, where
+-- something is still missing.
 abbrev pub Stops : List Token → List Token → ℕ → ℕ → Type 0
 Stops front [] end at = IsUnfinished (kinds front) × (at ≡ end)
 Stops front (t ∷ ts) end at = IsStuck (kinds front ++ t.kind ∷ []) × (at ≡ t.at)
 
--- the place of the token that follows the longest beginning of the tokens that a model begins with, or `end` if none follows
+-- the place of the token that follows the longest beginning of the tokens with which a model's spelling begins, or
+-- `end` if none follows
 pub record StopsAt (tokens : List Token) (end at : ℕ) : Type 0 where
   pub front : List Token
   pub back : List Token

@@ -1,15 +1,12 @@
 -- The numbers and the places that stand in a tree.
-use Rattle.std.specs.Prelude.{◌≡◌, ℕ, ◌*◌, ◌-◌, ◌^◌, ℤ, pos, ◌≤ℤ◌, List, [], ◌∷◌, All, Contains, map, ◌⊎◌}
-use Rattle.std.specs.Int.{IsNonNegative}
-use Rattle.opl_token.specs.declared.token.Kind.{Kind}
-use Rattle.opl_token.specs.declared.token.Kind.TheVariants.{Word, Number as number_token, Text, Sign}
+use Rattle.std.specs.Prelude.{◌≡◌, ℕ, ℤ, List, [], ◌∷◌, All, Contains, map, ◌⊎◌}
+use Rattle.opl_token.specs.Laws.{NumberFits}
+use Rattle.opl_token.specs.declared.token.Kind.TheVariants.{Number as number_token}
 use Rattle.opl_token.specs.declared.token.Token.{Token}
 use Rattle.opl_tree.specs.declared.declaration.DeclTree.{DeclTree}
 use Rattle.opl_tree.specs.declared.declaration.DeclTree.TheVariants.{Variable}
-use Rattle.opl_tree.specs.declared.expression.NumberTree.{NumberTree}
 use Rattle.opl_tree.specs.declared.expression.OperandTree.{OperandTree}
 use Rattle.opl_tree.specs.declared.expression.OperandTree.TheVariants.{Name, Number}
-use Rattle.opl_tree.specs.declared.instruction.BlockTree.{BlockTree}
 use Rattle.opl_tree.specs.declared.instruction.InstrTree.{InstrTree}
 use Rattle.opl_tree.specs.declared.instruction.InstrTree.TheVariants.{Solve}
 use Rattle.opl_tree.specs.declared.instruction.ItemTree.{ItemTree}
@@ -19,32 +16,29 @@ use Rattle.opl_tree.specs.declared.instruction.ItemsTree.TheVariants.{Empty, Sev
 use Rattle.opl_tree.specs.declared.model.ModelTree.{ModelTree}
 use Rattle.opl_tree.specs.Marks.{Mark, place, token}
 
--- a number that a text can write: at least 0 and below 2 ^ 127
-pub record IsWritten (n : ℤ) : Type 0 where
-  pub low : IsNonNegative n
-  pub high : n ≤ℤ pos (2 ^ 127 - 1)
+-- a number that a text can write: from 0 to 2 ^ 127 - 1
+abbrev pub IsWritten : ℤ → Type 0
+IsWritten n = NumberFits (number_token n)
 
--- a token that a text can have
-abbrev pub IsTextKind : Kind → Type 0
-IsTextKind (Word w) = Unit {0}
-IsTextKind (number_token n) = IsWritten n
-IsTextKind (Text w) = Unit {0}
-IsTextKind (Sign s) = Unit {0}
-
+-- so is the number of an operand
 abbrev pub OperandFits : OperandTree → Type 0
 OperandFits (Name t) = Unit {0}
 OperandFits (Number t) = IsWritten t.magnitude
 
+-- and each number of an item
 abbrev pub ItemFits : ItemTree → Type 0
 ItemFits (Comparison t) = OperandFits t.left × OperandFits t.right
 
+-- of a list of items
 abbrev pub ItemsFit : ItemsTree → Type 0
 ItemsFit (Empty at) = Unit {0}
 ItemsFit (Several at first rest is_closed) = ItemFits first × All ItemFits rest
 
+-- of an instruction
 abbrev pub InstrFits : InstrTree → Type 0
 InstrFits (Solve at block) = ItemsFit block.items
 
+-- and of a declaration
 abbrev pub DeclFits : DeclTree → Type 0
 DeclFits (Variable t) = IsWritten t.low.magnitude × IsWritten t.high.magnitude
 

@@ -1,5 +1,5 @@
 -- How a tree is spelt, and when it is well formed.
-use Rattle.std.specs.Prelude.{◌≡◌, ℕ, ℤ, false, List, [], ◌∷◌, ◌++◌, All}
+use Rattle.std.specs.Prelude.{◌≡◌, false, List, [], ◌∷◌}
 use Rattle.std.specs.Int.{IsNonNegative}
 use Rattle.opl_token.specs.declared.token.Kind.{Kind}
 use Rattle.opl_token.specs.declared.token.Kind.TheVariants.{Word, Number, Sign}
@@ -37,5 +37,6 @@ AllProper [] = Unit {0}
 AllProper (place at ∷ ms) = AllProper ms
 AllProper (token p ∷ ms) = IsProper p × AllProper ms
 
+-- a tree of the grammar: its types say all but what its names and numbers are
 abbrev pub IsWellFormed : ModelTree → Type 0
 IsWellFormed t = AllProper (marks_model t)

@@ -6,6 +6,9 @@ mod expression;
 mod fault;
 mod instruction;
 mod model;
+mod spell;
+#[cfg(test)]
+mod tests;
 mod word;
 
 pub use declaration::{DeclTree, VariableTree};
@@ -15,4 +18,5 @@ pub use instruction::{BlockTree, InstrTree, ItemTree, ItemsTree};
 pub use model::ModelTree;
 pub use opl_list::Seq;
 pub use opl_token::Name;
+pub use spell::spell_model;
 pub use word::is_reserved;
