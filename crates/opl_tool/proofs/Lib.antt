@@ -3,7 +3,9 @@ pub mod Enumeration
 pub mod HeadlineLemmas
 pub mod JudgedLemmas
 pub mod LineLemmas
+pub mod Membership
 pub mod NamesLemmas
+pub mod Order
 pub mod PrintingLemmas
 pub mod ProblemLemmas
 pub mod ResolveLemmas

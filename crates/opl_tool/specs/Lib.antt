@@ -3,6 +3,7 @@ pub mod Ends
 pub mod Faults
 pub mod Headline
 pub mod Judged
+pub mod Laws
 pub mod Lines
 pub mod Meaning
 pub mod Names

@@ -5,6 +5,7 @@ mod answer;
 mod call;
 mod carry_out;
 mod constraint;
+pub mod laws;
 mod line;
 mod names;
 mod place;

@@ -1,0 +1,14 @@
+//! Laws of the definitions, as contracts of functions without effect.
+ghost use Rattle.opl_tool.specs.Laws.{InOrder, SolutionsAre};
+
+/// Each solution of a model stands once in the list of its solutions, and they stand in lexicographic order.
+#[tactic(auto, using(crate::proofs::Order::in_order))]
+pub fn in_order()
+    ensures { InOrder }
+{}
+
+/// An assignment stands in the list of a model's solutions exactly where each of its values is within the ends of its
+/// variable and every item holds.
+pub fn solutions_are()
+    ensures { SolutionsAre }
+{}
