@@ -141,7 +141,7 @@ fn spellings(rt: HostRuntime) -> Result<(), Fail> {
 }
 
 /// Texts that have no tree, with the place where they stop.
-const STOPS: [(&[u8], u32); 21] = [
+const STOPS: [(&[u8], u32); 23] = [
     (b"var int x in 1..2;\nsolve { x + 1 = 2; };", 29),
     (b"solve { x = = 1; };", 12),
     (b"solve {", 7),
@@ -163,6 +163,8 @@ const STOPS: [(&[u8], u32); 21] = [
     (b"var int x in 1.5; solve { };", 14),
     (b"var x in 1..2; solve { };", 4),
     (b"var int x in 1..2; range solve { };", 19),
+    (b"solve { \"a\" = 1; };", 8),
+    (b"solve { /* none */ } // no sign", 31),
 ];
 
 #[test]
