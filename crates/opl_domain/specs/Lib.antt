@@ -1,0 +1,4 @@
+pub mod Span
+pub mod Arithmetic
+pub mod Family
+pub mod Laws

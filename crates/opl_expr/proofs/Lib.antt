@@ -1,0 +1,6 @@
+pub mod Examples
+pub mod Inside
+pub mod Comparisons
+pub mod Narrower
+pub mod Ring
+pub mod SingleValues

@@ -1,0 +1,6 @@
+pub mod Forms
+pub mod Options
+pub mod Range
+pub mod Holds
+pub mod Solutions
+pub mod Laws

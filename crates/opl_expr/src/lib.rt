@@ -1,0 +1,15 @@
+//! Ground expressions and constraints: their forms, their ranges, and what they mean on assignments.
+#![tactic(auto)]
+
+mod copy;
+mod forms;
+pub mod laws;
+mod model;
+mod search;
+mod tables;
+
+pub use forms::{Ask, Cons, Expr, Op};
+pub use model::{Core, Goal};
+pub use opl_domain::OutOfMemory;
+pub use search::{Branch, Step};
+pub use tables::{Cell, Resource, Table, Use};

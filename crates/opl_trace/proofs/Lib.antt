@@ -1,0 +1,10 @@
+pub mod Tests
+pub mod Families
+pub mod StableFamilies
+pub mod Closures
+pub mod Budgets
+pub mod Performs
+pub mod Prefixes
+pub mod Enough
+pub mod Constraints
+pub mod SweepLaws

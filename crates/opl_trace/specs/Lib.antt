@@ -1,0 +1,13 @@
+pub mod Stable
+pub mod Closure
+pub mod ClosureLaws
+pub mod Statements
+pub mod Answers
+pub mod Elements
+pub mod Objective
+pub mod Run
+pub mod Marks
+pub mod Solutions
+pub mod Paths
+pub mod Sweeps
+pub mod SearchLaws

@@ -1,0 +1,68 @@
+//! Laws of stable families, of the closure and of searches. Each law is the contract of a function without effect.
+ghost use Rattle.opl_trace.specs.ClosureLaws.{UnionIsStable, ClosureIsGreatest, ClosureIsUnion, NoneLost};
+ghost use Rattle.opl_trace.specs.SearchLaws.{Prefix, Counted, Enough, RefutingIsMonotone, MomentIsClosure, SolutionsStay, SinglesHold, SweepsClose, SweepsTrace};
+
+/// The union of any stable families of the same variables is stable.
+pub fn unions_are_stable()
+    ensures { UnionIsStable }
+{}
+
+/// A family is the union of all stable families exactly where it is the greatest of them.
+pub fn closures_are_greatest()
+    ensures { ClosureIsGreatest }
+{}
+
+/// The closure is the union of all stable families, and it has failed exactly where there is none.
+pub fn closures_are_unions()
+    ensures { ClosureIsUnion }
+{}
+
+/// An assignment that the test spares lies in the closure.
+pub fn closures_lose_none()
+    ensures { NoneLost }
+{}
+
+/// The marks with some choices, without a Cut, are the first of those with one choice more.
+pub fn marks_are_prefixes()
+    ensures { Prefix }
+{}
+
+/// Each choice that a search makes is one less that is left.
+pub fn choices_are_counted()
+    ensures { Counted }
+{}
+
+/// Default search makes at most as many choices as the assignments of the declared sets have non-empty prefixes.
+pub fn prefixes_are_enough()
+    ensures { Enough }
+{}
+
+/// A family below one that refutes a constraint or the bound refutes one too.
+pub fn refuting_is_monotone()
+    ensures { RefutingIsMonotone }
+{}
+
+/// The sets of a moment are the union of all families that are stable for the constraints and the bound.
+pub fn moments_are_closures()
+    ensures { MomentIsClosure }
+{}
+
+/// An assignment on which all constraints and the bound hold lies in the sets of the moment.
+pub fn solutions_stay()
+    ensures { SolutionsStay }
+{}
+
+/// Where each variable has one value, all constraints and the bound hold on these values.
+pub fn single_values_hold()
+    ensures { SinglesHold }
+{}
+
+/// Sweeps give the closure.
+pub fn sweeps_close()
+    ensures { SweepsClose }
+{}
+
+/// A search by sweeps makes what the search makes.
+pub fn sweeps_trace()
+    ensures { SweepsTrace }
+{}
