@@ -1,6 +1,7 @@
 //! Tests of the whole call over files in memory.
 use crate::answer::Answer;
 use crate::call::run;
+use opl_list::{Boxed, Seq};
 use opl_outside::{MemoryShelf, MemorySink};
 use std::alloc::Global;
 use std::test::Fail;
@@ -269,5 +270,15 @@ fn bears_many_declarations(rt: HostRuntime) -> Result<(), Fail> {
     text.push_str(" x99999")?;
     let called = call(rt.alloc(), &SOLVE, text.as_bytes(), NONE)?;
     assert_eq!(rt; called.answer, Answer::Refused);
+    Ok(())
+}
+
+#[test]
+fn lists_and_boxes_hold_what_they_are_given(rt: HostRuntime) -> Result<(), Fail> {
+    let mut list = Seq::from_slice(rt.alloc(), &[3u8, 1])?;
+    list.push(2)?;
+    assert_eq!(rt; list.as_slice(), [3, 1, 2].as_slice());
+    let boxed = Boxed::new(rt.alloc(), 7u32)?;
+    assert_eq!(rt; boxed.into_inner(), 7);
     Ok(())
 }
