@@ -6,6 +6,7 @@ pub mod LineLemmas
 pub mod Membership
 pub mod NamesLemmas
 pub mod Order
+pub mod Outcomes
 pub mod PrintingLemmas
 pub mod ProblemLemmas
 pub mod ResolveLemmas

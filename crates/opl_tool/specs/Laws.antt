@@ -1,5 +1,8 @@
 -- What the list of solutions is, in other words: which assignments stand in it, and in which order.
-use Rattle.std.specs.Prelude.{◌≡◌, ◌⊎◌, ◌↔◌, true, List, [], ◌∷◌, ℤ, ◌≤ℤ◌, ◌<ℤ◌}
+use Rattle.std.specs.Prelude.{◌≡◌, ◌⊎◌, ◌↔◌, ℕ, true, List, [], ◌∷◌, ℤ, ◌≤ℤ◌, ◌<ℤ◌, Result}
+use Rattle.opl_outside.specs.Files.{Files}
+use Rattle.opl_tool.specs.declared.refusal.Refusal.{Refusal}
+use Rattle.opl_tool.specs.Judged.{Judged}
 use Rattle.std.specs.List.{AllPairs}
 use Rattle.opl_tree.specs.declared.model.ModelTree.{ModelTree}
 use Rattle.opl_tree.specs.declared.declaration.VariableTree.{VariableTree}
@@ -30,3 +33,8 @@ SolutionsAre = (m : ModelTree) (values : List ℤ) → IsAmong values (solutions
 -- each solution stands there once, and they stand in lexicographic order
 abbrev pub InOrder : Type 0
 InOrder = (m : ModelTree) → AllPairs Precedes (solutions m)
+
+-- whatever the words and the files are, they come to one outcome and to no other: a model, or a refusal
+abbrev pub OneOutcome : Type 0
+OneOutcome = (words : List (List ℕ)) (files : Files) →
+    (outcome : Result ModelTree Refusal) × Judged words files outcome × ((other : Result ModelTree Refusal) → Judged words files other → other ≡ outcome)

@@ -1,5 +1,5 @@
 //! Laws of the definitions, as contracts of functions without effect.
-ghost use Rattle.opl_tool.specs.Laws.{InOrder, SolutionsAre};
+ghost use Rattle.opl_tool.specs.Laws.{InOrder, OneOutcome, SolutionsAre};
 
 /// Each solution of a model stands once in the list of its solutions, and they stand in lexicographic order.
 #[tactic(auto, using(crate::proofs::Order::in_order))]
@@ -11,4 +11,9 @@ pub fn in_order()
 /// variable and every item holds.
 pub fn solutions_are()
     ensures { SolutionsAre }
+{}
+
+/// Whatever the words and the files are, they come to one outcome: a model that is accepted, or a first fault.
+pub fn one_outcome()
+    ensures { OneOutcome }
 {}
