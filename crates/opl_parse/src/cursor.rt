@@ -34,13 +34,6 @@ impl<'a> Cursor<'a> {
         Cursor { tokens, end }
     }
 
-    /// How many tokens are left.
-    pub fn left(&self) -> usize
-        ensures { result ≡ spec.left self.now }
-    {
-        self.tokens.len()
-    }
-
     /// The place of the next token, or the text's length where none is left.
     pub fn place(&self) -> u32
         ensures { result ≡ spec.place self.now }

@@ -8,3 +8,4 @@ pub mod Prefixes
 pub mod Enough
 pub mod Constraints
 pub mod SweepLaws
+pub mod Examples
