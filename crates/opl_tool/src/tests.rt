@@ -4,6 +4,7 @@ use crate::call::run;
 use opl_list::{Boxed, Seq};
 use opl_outside::{MemoryShelf, MemorySink};
 use std::alloc::Global;
+use std::process::Abort;
 use std::test::Fail;
 
 /// What a call answered, and what it put on its sinks.
@@ -213,63 +214,94 @@ fn line_of_byte(byte: u8) -> &'static str {
     }
 }
 
-#[test]
-fn names_the_fault_of_each_byte(rt: HostRuntime) -> Result<(), Fail> {
-    for byte in 0..=255u8 {
-        let called = call(rt.alloc(), &SOLVE, &[byte], NONE)?;
-        assert_eq!(rt; called.answer, Answer::Refused, "{byte}");
-        assert_eq!(rt;
-            called.err.as_slice(),
-            line_of_byte(byte).as_bytes(),
-            "{byte}"
-        );
-    }
+/// A call whose one answer is a refusal with this line.
+fn is_refused(rt: &impl Abort, alloc: Global, text: &[u8], line: &str) -> Result<(), Fail> {
+    let called = call(alloc, &SOLVE, text, NONE)?;
+    assert_eq!(rt; called.answer, Answer::Refused, "{line}");
+    assert_eq!(rt; called.out.as_slice(), b"".as_slice(), "{line}");
+    assert_eq!(rt; called.err.as_slice(), line.as_bytes());
     Ok(())
 }
 
-#[test]
-fn bears_long_files(rt: HostRuntime) -> Result<(), Fail> {
-    let mut digits = String::from_str(rt.alloc(), "solve { 1 = ")?;
-    for _ in 0..10_000u32 {
-        digits.push_str("7")?;
-    }
-    let called = call(rt.alloc(), &SOLVE, digits.as_bytes(), NONE)?;
-    assert_eq!(rt;
-        called.err.as_slice(),
-        b"refused: NumberTooLarge m.mod 12\n".as_slice()
-    );
-
-    let mut named = String::from_str(rt.alloc(), "var int ")?;
-    let mut shown = String::from_str(rt.alloc(), "Solution 1\n")?;
-    for _ in 0..100_000u32 {
-        named.push_str("n")?;
-        shown.push_str("n")?;
-    }
-    named.push_str(" in 5..5; solve { };")?;
-    shown.push_str(" = 5\nSolutions: 1\nEnd\n")?;
-    let called = call(rt.alloc(), &SOLVE, named.as_bytes(), NONE)?;
+/// A call that prints this text.
+fn is_done(rt: &impl Abort, alloc: Global, text: &[u8], shown: &[u8]) -> Result<(), Fail> {
+    let called = call(alloc, &SOLVE, text, NONE)?;
     assert_eq!(rt; called.answer, Answer::Done);
-    assert!(rt; called.out.as_slice() == shown.as_bytes());
+    assert!(rt; called.out.as_slice() == shown);
     Ok(())
 }
 
-#[test]
-fn bears_many_declarations(rt: HostRuntime) -> Result<(), Fail> {
-    let mut text = String::new(rt.alloc());
-    let mut shown = String::from_str(rt.alloc(), "Solution 1\n")?;
-    for x in 0..100_000u32 {
-        text.push_str(format!(in rt.alloc(); "var int x{x} in 1..1;\n")?.as_str())?;
-        shown.push_str(format!(in rt.alloc(); "x{x} = 1\n")?.as_str())?;
+/// This many times the same text.
+fn repeated(alloc: Global, text: &str, times: u32) -> Result<String, Fail> {
+    let mut all = String::new(alloc);
+    for _ in 0..times {
+        all.push_str(text)?;
     }
-    text.push_str("solve { x99999 = 1 };")?;
+    Ok(all)
+}
+
+/// A model of so many declarations, and its one solution.
+fn many_declarations(alloc: Global, count: u32) -> Result<(String, String), Fail> {
+    let mut text = String::new(alloc);
+    let mut shown = String::from_str(alloc, "Solution 1\n")?;
+    for x in 0..count {
+        text.push_str(format!(in alloc; "var int x{x} in 1..1;\n")?.as_str())?;
+        shown.push_str(format!(in alloc; "x{x} = 1\n")?.as_str())?;
+    }
+    text.push_str("solve { };")?;
     shown.push_str("Solutions: 1\nEnd\n")?;
-    let called = call(rt.alloc(), &SOLVE, text.as_bytes(), NONE)?;
-    assert_eq!(rt; called.answer, Answer::Done);
-    assert!(rt; called.out.as_slice() == shown.as_bytes());
+    Ok((text, shown))
+}
 
-    text.push_str(" x99999")?;
-    let called = call(rt.alloc(), &SOLVE, text.as_bytes(), NONE)?;
-    assert_eq!(rt; called.answer, Answer::Refused);
+#[test]
+fn bears_hostile_files(rt: HostRuntime) -> Result<(), Fail> {
+    is_refused(&rt, rt.alloc(), b"", "refused: NotYet m.mod 0\n")?;
+    for byte in 0..=255u8 {
+        is_refused(&rt, rt.alloc(), &[byte], line_of_byte(byte))?;
+    }
+
+    let digits = repeated(rt.alloc(), "7", 10_000)?;
+    is_refused(
+        &rt,
+        rt.alloc(),
+        digits.as_bytes(),
+        "refused: NumberTooLarge m.mod 0\n",
+    )?;
+
+    let name = repeated(rt.alloc(), "n", 100_000)?;
+    let text = format!(in rt.alloc(); "var int {name} in 5..5; solve {{ }};")?;
+    let shown = format!(in rt.alloc(); "Solution 1\n{name} = 5\nSolutions: 1\nEnd\n")?;
+    is_done(&rt, rt.alloc(), text.as_bytes(), shown.as_bytes())?;
+
+    let (text, shown) = many_declarations(rt.alloc(), 100_000)?;
+    is_done(&rt, rt.alloc(), text.as_bytes(), shown.as_bytes())?;
+
+    let least = b"var int x in -4611686018427387904..-4611686018427387904; solve { };";
+    is_done(
+        &rt,
+        rt.alloc(),
+        least,
+        b"Solution 1\nx = -4611686018427387904\nSolutions: 1\nEnd\n",
+    )?;
+    let greatest = b"var int x in 4611686018427387904..4611686018427387904; solve { };";
+    is_done(
+        &rt,
+        rt.alloc(),
+        greatest,
+        b"Solution 1\nx = 4611686018427387904\nSolutions: 1\nEnd\n",
+    )?;
+    is_refused(
+        &rt,
+        rt.alloc(),
+        b"var int x in -4611686018427387905..0; solve { };",
+        "refused: NotYet m.mod 13\n",
+    )?;
+    is_refused(
+        &rt,
+        rt.alloc(),
+        b"var int x in 0..4611686018427387905; solve { };",
+        "refused: NotYet m.mod 16\n",
+    )?;
     Ok(())
 }
 
