@@ -4,13 +4,12 @@
 ghost use Rattle.std.specs.Prelude.{◌≡◌};
 ghost use Rattle.opl.specs.Status.{status_of};
 
+use opl_outside::{RealShelf, RealSink, Sink};
+use opl_tool::{Answer, run};
 use std::env;
 use std::io::{self, ErrorKind};
 use std::process::ExitCode;
 use std::rt::Env;
-
-use opl_outside::{RealShelf, RealSink, Sink};
-use opl_tool::{Answer, run};
 
 /// The status with which the program ends.
 fn status(answer: Answer) -> u8

@@ -1,9 +1,9 @@
 -- The search for the next places, from the last place to the first.
-use Rattle.std.proofs.Common.{◌≡◌, refl, sym, ap, ◌∙◌, subst, ◌-◌, ℕ, zero, suc, ◌+◌, ◌≤◌, ◌<◌, nat_lt, true, false, List, [], ◌∷◌, ◌++◌, map, length, take, drop, get_or, set, Some, None, arith}
+use Rattle.std.proofs.Common.{◌≡◌, refl, ap, ◌∙◌, subst, ◌-◌, ℕ, zero, suc, ◌≤◌, ◌<◌, nat_lt, true, false, List, [], ◌∷◌, ◌++◌, map, length, take, drop, get_or, set, Some, None, arith}
 use Rattle.std.proofs.Math.Seq.{drop-length, take-length}
 use Rattle.std.proofs.lemmas.List.{append-nil}
 use Rattle.std.proofs.lemmas.Bool.Decides.{nat_tests}
-use Rattle.opl_tool.specs.Places.{at_first, stepped, carried, next, Advances}
+use Rattle.opl_tool.specs.Places.{at_first, stepped, next, Advances}
 use Rattle.opl_tool.specs.declared.place.Place.{Place}
 
 -- the places from number `at` on stood on their last values and are back on their first

@@ -1,5 +1,5 @@
 -- From how the work of a call ends to what the call promises.
-use Rattle.std.proofs.Common.{◌≡◌, ◌≢◌, ◌⊎◌, ◌<◌, ◌+◌, refl, sym, ap, ◌∙◌, subst, ℕ, zero, suc, ℤ, List, [], ◌∷◌, ◌++◌, Option, Some, None, Result, Ok, Err, IfSome, IfErr, inl, inr, arith}
+use Rattle.std.proofs.Common.{◌≡◌, ◌≢◌, ◌⊎◌, ◌<◌, refl, sym, ap, ◌∙◌, subst, ℕ, zero, suc, ℤ, List, [], ◌∷◌, ◌++◌, Option, Some, None, Result, Ok, Err, IfSome, IfErr, inl, inr, arith}
 use Rattle.std.proofs.lemmas.List.{append-nil}
 use Rattle.opl_outside.specs.Becomes.{Becomes}
 use Rattle.opl_outside.specs.Files.{Files}
@@ -10,14 +10,14 @@ use Rattle.opl_tool.specs.declared.refusal.Refusal.{Refusal}
 use Rattle.opl_tool.specs.declared.stop.Stop.{Stop}
 use Rattle.opl_tool.specs.declared.stop.Stop.TheVariants.{Refused, ReadFault, WriteFault, OutOfMemory}
 use Rattle.opl_tool.specs.Ends.{Call, Solved, Stopped, Ends}
-use Rattle.opl_tool.specs.Headline.{Answers, IsRefused, HasSolution, HasNone, IsFree, Exactly, ShownBy, Shows}
+use Rattle.opl_tool.specs.Headline.{Answers, IsRefused, HasSolution, HasNone, Exactly, Shows}
 use Rattle.opl_tool.specs.Judged.{Judged}
 use Rattle.opl_tool.specs.Lines.{refusal_text, stop_text}
 use Rattle.opl_tool.specs.Meaning.{solutions}
 use Rattle.opl_tool.specs.Printing.{GainsFront}
 use Rattle.opl_tool.specs.Text.{counted, count_from, text_of}
 use Rattle.opl_tool.proofs.JudgedLemmas.{judged_one}
-use Rattle.opl_tool.proofs.PrintingLemmas.{becomes_so, becomes_same}
+use Rattle.opl_tool.proofs.PrintingLemmas.{becomes_same}
 
 counted_some : (n : ℕ) → 0 < counted n
 counted_some n = omega arith

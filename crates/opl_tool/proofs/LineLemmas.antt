@@ -1,5 +1,5 @@
 -- A line whose `put` failed.
-use Rattle.std.proofs.Common.{◌≡◌, sym, subst, ℕ, List, Option, Result, Ok, Err, inl, inr}
+use Rattle.std.proofs.Common.{◌≡◌, ℕ, List, Option, Err, inr}
 use Rattle.opl_outside.specs.Counts.{Counts}
 use Rattle.opl_outside.specs.Written.{Puts}
 use Rattle.opl_outside.specs.declared.error.OutsideError.{OutsideError}

@@ -1,13 +1,11 @@
 -- The numbers of variables by their names, as one variable after another is declared.
-use Rattle.std.proofs.Common.{◌≡◌, refl, sym, ap, ◌∙◌, ℕ, zero, suc, ◌+◌, Bool, true, false, cond, List, [], ◌∷◌, ◌++◌, length, Option, Some, None, is_some, if◌then◌else◌, arith, subst, map, take, drop, get_or, ◌<◌, add-one}
+use Rattle.std.proofs.Common.{◌≡◌, refl, sym, ap, ◌∙◌, ℕ, suc, ◌+◌, Bool, true, false, List, [], ◌∷◌, ◌++◌, length, Option, Some, None, is_some, if◌then◌else◌, arith, subst, map, take, drop, get_or, ◌<◌, add-one}
 use Rattle.std.specs.Str.{bytes_eq}
-use Rattle.std.specs.HashMap.{HashMap}
 use Rattle.std.proofs.lemmas.Slice.Eq.{bytes_eq-Decides}
 use Rattle.std.proofs.Math.Seq.{take-suc, drop-cons}
 use Rattle.std.proofs.lemmas.List.{map-append, length-map, length-take}
 use Rattle.opl_tree.specs.declared.declaration.DeclTree.{DeclTree}
 use Rattle.opl_tree.specs.declared.declaration.VariableTree.{VariableTree}
-use Rattle.opl_tool.specs.declared.refusal.Refusal.{Refusal}
 use Rattle.opl_tool.specs.declared.refusal.Refusal.TheVariants.{Duplicate}
 use Rattle.opl_tool.specs.Meaning.{variable_of}
 use Rattle.opl_tool.specs.Faults.{number_from, number_of, first_twice}

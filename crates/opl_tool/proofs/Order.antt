@@ -1,10 +1,9 @@
 -- A product of declared sets is in lexicographic order.
-use Rattle.std.proofs.Common.{◌≡◌, refl, ℕ, zero, suc, ◌+◌, ◌<◌, List, [], ◌∷◌, ◌++◌, map, length, ℤ, pos, ◌+ℤ◌, ◌<ℤ◌, inl, inr, arith}
+use Rattle.std.proofs.Common.{refl, ℕ, zero, suc, List, [], ◌∷◌, ◌++◌, map, ℤ, pos, ◌+ℤ◌, ◌<ℤ◌, inl, inr, arith}
 use Rattle.std.specs.List.{All, AllPairs, flat_map}
-use Rattle.std.proofs.lemmas.List.Elements.{All-nil, All-cons, All-append, All-map}
+use Rattle.std.proofs.lemmas.List.Elements.{All-nil, All-append, All-map}
 use Rattle.std.proofs.lemmas.List.Kept.{AllPairs-cons, AllPairs-filter}
 use Rattle.std.proofs.lemmas.Int.{ints}
-use Rattle.opl_tree.specs.declared.model.ModelTree.{ModelTree}
 use Rattle.opl_tree.specs.declared.declaration.VariableTree.{VariableTree}
 use Rattle.opl_tool.specs.Laws.{Precedes, InOrder}
 use Rattle.opl_tool.specs.Meaning.{whole_numbers, declared_set, number_value, size_between, product, satisfies, solutions, variables}

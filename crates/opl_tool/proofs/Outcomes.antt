@@ -1,5 +1,5 @@
 -- Words and files come to an outcome.
-use Rattle.std.proofs.Common.{◌≡◌, ◌≢◌, ◌⊎◌, ◌<◌, ◌≤◌, refl, sym, ap, ◌∙◌, ℕ, Bool, true, false, nat_lt, List, [], ◌∷◌, length, codes, Option, Some, None, Result, Ok, Err, IsSomeAnd, inl, inr, arith}
+use Rattle.std.proofs.Common.{◌≡◌, ◌≢◌, ◌⊎◌, ◌<◌, ◌≤◌, refl, sym, ap, ◌∙◌, ℕ, Bool, true, false, nat_lt, List, [], ◌∷◌, length, codes, Option, Some, None, Result, Ok, Err, inl, inr, arith}
 use Rattle.std.specs.Str.{bytes_eq}
 use Rattle.std.proofs.lemmas.Slice.Eq.{bytes_eq-Decides}
 use Rattle.std.proofs.lemmas.Bool.Decides.{nat_tests}
@@ -15,7 +15,7 @@ use Rattle.opl_tree.specs.Reading.{IsTreeOf, StopsAt}
 use Rattle.opl_tool.specs.declared.refusal.Refusal.{Refusal}
 use Rattle.opl_tool.specs.declared.refusal.Refusal.TheVariants.{Words, Absent, TooLong, BadByte, OpenComment, OpenString, NumberTooLarge, NotYet}
 use Rattle.opl_tool.specs.Faults.{model_fault}
-use Rattle.opl_tool.specs.Judged.{IsSolve, Named, Held, refusal_of_scan, Scanned, Parsed, Resolved, Read, Fetched, Judged}
+use Rattle.opl_tool.specs.Judged.{IsSolve, Named, Held, Scanned, Parsed, Resolved, Fetched, Judged}
 use Rattle.opl_tool.specs.Laws.{OneOutcome}
 use Rattle.opl_tool.specs.Stage.{Stage, Then}
 use Rattle.opl_tool.proofs.JudgedLemmas.{judged_one}

@@ -1,5 +1,5 @@
 -- Text behind text, and fronts of texts.
-use Rattle.std.proofs.Common.{◌≡◌, refl, sym, ap, ◌∙◌, ℕ, List, [], ◌∷◌, ◌++◌, take, drop, append_assoc, Option, Some, None, Result, Ok, Err}
+use Rattle.std.proofs.Common.{◌≡◌, refl, sym, ap, ◌∙◌, ℕ, List, [], ◌++◌, take, drop, append_assoc, Option, Some, None, Ok, Err}
 use Rattle.std.proofs.lemmas.List.{append-nil, take-append-drop}
 use Rattle.opl_outside.specs.Becomes.{Becomes}
 use Rattle.opl_outside.specs.Written.{Puts}

@@ -1,6 +1,5 @@
 -- The problem of a model has the model's solutions.
-use Rattle.std.proofs.Common.{◌≡◌, refl, sym, ap, ◌∙◌, subst, ℕ, Bool, true, false, ◌&&◌, cond, List, [], ◌∷◌, map, filter, length, ℤ, Option, Some, None, Result, Ok, Err, Vec}
-use Rattle.std.specs.List.{list_all}
+use Rattle.std.proofs.Common.{◌≡◌, refl, sym, ap, ◌∙◌, subst, ℕ, Bool, cond, List, [], ◌∷◌, map, filter, length, ℤ, Option, Some, None, Result, Ok, Err, Vec}
 use Rattle.std.proofs.lemmas.List.{length-map}
 use Rattle.std.specs.declared.alloc.Global.{Global}
 use Rattle.opl_tree.specs.declared.model.ModelTree.{ModelTree}
@@ -8,11 +7,11 @@ use Rattle.opl_tree.specs.declared.instruction.ItemTree.{ItemTree}
 use Rattle.opl_tool.specs.declared.constraint.Constraint.{Constraint}
 use Rattle.opl_tool.specs.declared.place.Place.{Place}
 use Rattle.opl_tool.specs.declared.refusal.Refusal.{Refusal}
-use Rattle.opl_tool.specs.Constraints.{constraint_holds, all_hold}
-use Rattle.opl_tool.specs.Faults.{number_of, far_end, first_twice, first_unknown, model_fault}
-use Rattle.opl_tool.specs.Meaning.{variables, variable_of, items_of, holds, satisfies, solutions, product, declared_set}
-use Rattle.opl_tool.specs.Places.{remaining, set_of, at_first}
-use Rattle.opl_tool.specs.Problem.{assignments, FitsModel, Poses, Accepts, Posed}
+use Rattle.opl_tool.specs.Constraints.{all_hold}
+use Rattle.opl_tool.specs.Faults.{number_of, far_end, first_twice, model_fault}
+use Rattle.opl_tool.specs.Meaning.{variables, variable_of, items_of, satisfies, solutions, product, declared_set}
+use Rattle.opl_tool.specs.Places.{remaining, set_of}
+use Rattle.opl_tool.specs.Problem.{assignments, FitsModel, Accepts, Posed}
 use Rattle.opl_tool.specs.Resolve.{found_onto, Found}
 use Rattle.opl_tool.specs.Stage.{Gives}
 use Rattle.opl_tree.specs.declared.declaration.DeclTree.{DeclTree}

@@ -1,5 +1,5 @@
 -- Comparisons with the numbers of variables hold where the items do, and are refused where a name is not declared.
-use Rattle.std.proofs.Common.{◌≡◌, refl, sym, ap, ◌∙◌, ℕ, zero, suc, ◌+◌, ◌-◌, ◌≤◌, Bool, true, false, ◌&&◌, List, [], ◌∷◌, ◌++◌, get_or, ℤ, pos, Option, Some, None, Result, Ok, Err, is_some, if◌then◌else◌, arith, subst}
+use Rattle.std.proofs.Common.{◌≡◌, refl, sym, ◌∙◌, ℕ, suc, ◌+◌, ◌-◌, ◌≤◌, Bool, true, false, ◌&&◌, List, [], ◌∷◌, ◌++◌, get_or, ℤ, pos, Option, Some, None, Result, Ok, Err, if◌then◌else◌, arith}
 use Rattle.std.specs.Str.{bytes_eq}
 use Rattle.std.specs.List.{list_all}
 use Rattle.std.proofs.lemmas.List.Folds.{list_all-append}
@@ -14,9 +14,8 @@ use Rattle.opl_tree.specs.declared.expression.OperandTree.TheVariants.{Name, Num
 use Rattle.opl_tool.specs.declared.constraint.Operand.{Operand}
 use Rattle.opl_tool.specs.declared.constraint.Constraint.{Constraint}
 use Rattle.opl_tool.specs.declared.refusal.Refusal.{Refusal}
-use Rattle.opl_tool.specs.declared.refusal.Refusal.TheVariants.{Unknown}
-use Rattle.opl_tool.specs.Meaning.{value_named, operand_value, relates, holds}
-use Rattle.opl_tool.specs.Faults.{number_from, number_of, first_of, unknown_name, unknown_in, first_unknown}
+use Rattle.opl_tool.specs.Meaning.{value_named, operand_value, holds}
+use Rattle.opl_tool.specs.Faults.{number_from, number_of, unknown_name, unknown_in, first_unknown}
 use Rattle.opl_tool.specs.Constraints.{value_in, constraint_holds}
 use Rattle.opl_tool.specs.Resolve.{and_then, found_variable, found_operand, found_constraint, found_onto}
 

@@ -1,5 +1,5 @@
 -- What is shown so far, and what is left to be shown.
-use Rattle.std.proofs.Common.{◌≡◌, refl, sym, ap, ◌∙◌, ℕ, zero, suc, ◌+◌, ◌<◌, Bool, true, false, cond, List, [], ◌∷◌, ◌++◌, map, filter, length, append_assoc, ℤ, Option, Some, None, Result, Ok, Err, if◌then◌else◌, arith, subst}
+use Rattle.std.proofs.Common.{◌≡◌, refl, sym, ap, ◌∙◌, ℕ, ◌<◌, Bool, true, false, List, [], ◌∷◌, ◌++◌, map, filter, length, append_assoc, ℤ, Option, Ok, Err, if◌then◌else◌, arith}
 use Rattle.std.proofs.lemmas.List.{append-nil}
 use Rattle.std.proofs.lemmas.List.Elements.{filter-append}
 use Rattle.opl_outside.specs.Becomes.{Becomes}
@@ -8,7 +8,7 @@ use Rattle.opl_tool.specs.declared.place.Place.{Place}
 use Rattle.opl_tool.specs.declared.stop.Stop.{Stop}
 use Rattle.opl_tool.specs.declared.stop.Stop.TheVariants.{Refused, ReadFault, WriteFault, OutOfMemory}
 use Rattle.opl_tool.specs.Places.{value_of, next, remaining, Advances}
-use Rattle.opl_tool.specs.Printing.{GainsFront, GainsBy, CountsWrite, Prints}
+use Rattle.opl_tool.specs.Printing.{GainsFront, CountsWrite, Prints}
 use Rattle.opl_tool.specs.Text.{solution_texts, count_from, solution_text, counted}
 use Rattle.opl_tool.proofs.Enumeration.{left_after, remaining-next}
 use Rattle.opl_tool.proofs.PrintingLemmas.{becomes_then, becomes_so, becomes_same}

@@ -1,5 +1,5 @@
 -- A model's whole text is its solutions and the closing lines.
-use Rattle.std.proofs.Common.{◌≡◌, refl, sym, subst, ℕ, List, [], ◌++◌, filter, Option, Some, None, Result, Ok, Err, Vec}
+use Rattle.std.proofs.Common.{◌≡◌, refl, sym, subst, ℕ, List, [], filter, Option, None, Ok, Err, Vec}
 use Rattle.std.proofs.lemmas.List.{append-nil}
 use Rattle.std.specs.declared.alloc.Global.{Global}
 use Rattle.opl_tree.specs.declared.model.ModelTree.{ModelTree}

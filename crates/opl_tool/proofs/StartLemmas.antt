@@ -1,5 +1,5 @@
 -- The places at which the enumeration begins are those of the declared sets.
-use Rattle.std.proofs.Common.{◌≡◌, refl, sym, ap, ◌∙◌, ℕ, zero, suc, ◌+◌, ◌≤◌, ◌<◌, List, [], ◌∷◌, ◌++◌, map, length, take, drop, get_or, ℤ, pos, ◌+ℤ◌, unsigned_abs, Option, Some, None, arith, add-one, drop-cons, subst, to_z, of_z, FitsSigned}
+use Rattle.std.proofs.Common.{◌≡◌, refl, ℕ, zero, suc, ◌+◌, ◌<◌, List, [], ◌∷◌, map, length, drop, get_or, ℤ, Option, Some, None, arith, add-one, drop-cons, subst, to_z, of_z, FitsSigned}
 use Rattle.std.specs.Int.{w128}
 use Rattle.std.proofs.lemmas.Int.{to_z-of_z}
 use Rattle.std.specs.List.{flat_map}
@@ -7,9 +7,8 @@ use Rattle.opl_tree.specs.declared.declaration.DeclTree.{DeclTree}
 use Rattle.opl_tree.specs.declared.declaration.VariableTree.{VariableTree}
 use Rattle.opl_tool.specs.declared.place.Place.{Place}
 use Rattle.opl_tool.specs.declared.refusal.Refusal.{Refusal}
-use Rattle.opl_tool.specs.Meaning.{variable_of, whole_numbers, size_between, declared_set, product, number_value}
+use Rattle.opl_tool.specs.Meaning.{variable_of, whole_numbers, declared_set, product, number_value}
 use Rattle.opl_tool.specs.Faults.{far_end, far_number, first_of}
-use Rattle.opl_tool.specs.Places.{at_first, set_of}
 use Rattle.opl_tool.specs.Start.{IsPlaceBetween, IsPlaceOf}
 
 same_numbers : (low high : ℤ) (m n : ℕ) → low ≡ high → m ≡ n → whole_numbers low m ≡ whole_numbers high n

@@ -1,15 +1,10 @@
 -- Comparisons whose names are replaced by the numbers of their variables.
-use Rattle.std.specs.Prelude.{ℕ, Bool, List, [], ◌∷◌, map, ℤ, pos, get_or, position, unwrap_or, bytes_eq}
+use Rattle.std.specs.Prelude.{Bool, List, ℤ, pos, get_or}
 use Rattle.std.specs.List.{list_all}
-use Rattle.opl_tree.specs.declared.declaration.VariableTree.{VariableTree}
-use Rattle.opl_tree.specs.declared.instruction.ItemTree.{ItemTree}
-use Rattle.opl_tree.specs.declared.instruction.ItemTree.TheVariants.{Comparison}
-use Rattle.opl_tree.specs.declared.expression.OperandTree.{OperandTree}
-use Rattle.opl_tree.specs.declared.expression.OperandTree.TheVariants as tree
 use Rattle.opl_tool.specs.declared.constraint.Operand.{Operand}
 use Rattle.opl_tool.specs.declared.constraint.Operand.TheVariants.{Variable, Number}
 use Rattle.opl_tool.specs.declared.constraint.Constraint.{Constraint}
-use Rattle.opl_tool.specs.Meaning.{relates, number_value}
+use Rattle.opl_tool.specs.Meaning.{relates}
 
 -- the value of an operand under an assignment
 abbrev pub value_in : List ℤ → Operand → ℤ

@@ -1,6 +1,5 @@
 -- Why a model's tree is refused: an end that is too far, a name declared twice, a name that is not declared.
-use Rattle.std.specs.Prelude.{ℕ, ◌+◌, ◌^◌, nat_lt, Bool, List, [], ◌∷◌, ◌++◌, Option, Some, None, unsigned_abs, position, bytes_eq, is_some, if◌then◌else◌}
-use Rattle.std.specs.List.{list_any}
+use Rattle.std.specs.Prelude.{ℕ, ◌+◌, ◌^◌, nat_lt, Bool, List, [], ◌∷◌, ◌++◌, Option, Some, None, unsigned_abs, bytes_eq, is_some, if◌then◌else◌}
 use Rattle.opl_tree.specs.declared.model.ModelTree.{ModelTree}
 use Rattle.opl_tree.specs.declared.declaration.VariableTree.{VariableTree}
 use Rattle.opl_tree.specs.declared.instruction.ItemTree.{ItemTree}

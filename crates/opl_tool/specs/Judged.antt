@@ -1,5 +1,5 @@
 -- What the words and files of a call come to: the model that is solved, or the first refusal.
-use Rattle.std.specs.Prelude.{◌≡◌, ◌⊎◌, ◌<◌, ◌≤◌, ℕ, List, [], ◌∷◌, length, codes, Option, Some, None, Result, Ok, Err, IsSomeAnd}
+use Rattle.std.specs.Prelude.{◌≡◌, ◌⊎◌, ◌<◌, ◌≤◌, ℕ, List, [], ◌∷◌, length, codes, Option, Some, None, Ok, Err, IsSomeAnd}
 use Rattle.opl_outside.specs.Files.{Files, max_bytes}
 use Rattle.opl_token.specs.declared.fault.ScanFault.{ScanFault}
 use Rattle.opl_token.specs.declared.fault.ScanFault.TheVariants as scan

@@ -1,5 +1,5 @@
 -- What a model means: its decision variables with their declared sets, and its solutions.
-use Rattle.std.specs.Prelude.{ℕ, zero, suc, ◌+◌, Bool, true, false, not, List, [], ◌∷◌, map, filter, ℤ, bytes_eq, pos, ◌+ℤ◌, ◌-ℤ◌, neg_ℤ, int_lt, int_le, unsigned_abs, if◌then◌else◌}
+use Rattle.std.specs.Prelude.{ℕ, zero, suc, ◌+◌, Bool, not, List, [], ◌∷◌, map, filter, ℤ, bytes_eq, pos, ◌+ℤ◌, ◌-ℤ◌, neg_ℤ, int_lt, int_le, unsigned_abs, if◌then◌else◌}
 use Rattle.std.specs.Ordering.{int_eq}
 use Rattle.std.specs.List.{flat_map, list_all}
 use Rattle.opl_tree.specs.declared.model.ModelTree.{ModelTree}
@@ -16,7 +16,6 @@ use Rattle.opl_tree.specs.declared.instruction.ItemTree.TheVariants.{Comparison}
 use Rattle.opl_tree.specs.declared.expression.NumberTree.{NumberTree}
 use Rattle.opl_tree.specs.declared.expression.OperandTree.{OperandTree}
 use Rattle.opl_tree.specs.declared.expression.OperandTree.TheVariants.{Name, Number}
-use Rattle.opl_tree.specs.declared.expression.CompareTree.{CompareTree}
 use Rattle.opl_tree.specs.declared.expression.Relation.{Relation}
 use Rattle.opl_tree.specs.declared.expression.Relation.TheVariants.{Equal, NotEqual, Less, LessOrEqual, Greater, GreaterOrEqual}
 

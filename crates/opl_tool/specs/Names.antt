@@ -1,5 +1,5 @@
 -- The numbers of a model's variables by their names.
-use Rattle.std.specs.Prelude.{◌≡◌, ℕ, List, [], Option, Some, None, Result, Ok, Err, bytes_eq, if◌then◌else◌}
+use Rattle.std.specs.Prelude.{◌≡◌, ℕ, List, [], Option, Some, None, Ok, Err, bytes_eq, if◌then◌else◌}
 use Rattle.std.specs.HashMap.{get_by, HashMap}
 use Rattle.std.proofs.Common.{Bor}
 use Rattle.opl_tree.specs.declared.declaration.VariableTree.{VariableTree}

@@ -1,5 +1,5 @@
 -- The enumeration of a product of sets, from one place to the next.
-use Rattle.std.specs.Prelude.{ℕ, zero, suc, ◌+◌, ◌-◌, nat_lt, Bool, true, false, ◌≡◌, List, [], ◌∷◌, ◌++◌, map, ℤ, pos, ◌+ℤ◌, Option, Some, None, if◌then◌else◌}
+use Rattle.std.specs.Prelude.{suc, ◌+◌, ◌-◌, nat_lt, Bool, true, false, ◌≡◌, List, [], ◌∷◌, ◌++◌, map, ℤ, pos, ◌+ℤ◌, Option, Some, None, if◌then◌else◌}
 use Rattle.std.specs.List.{flat_map}
 use Rattle.opl_tool.specs.Meaning.{whole_numbers, product}
 use Rattle.opl_tool.specs.declared.place.Place.{Place}

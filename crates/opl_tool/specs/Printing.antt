@@ -1,5 +1,5 @@
 -- What printing does to a sink.
-use Rattle.std.specs.Prelude.{◌≡◌, ⊤, ℕ, List, ◌++◌, Option, Result, Ok, Err}
+use Rattle.std.specs.Prelude.{◌≡◌, ℕ, List, ◌++◌, Option, Result, Ok, Err}
 use Rattle.opl_outside.specs.Becomes.{Becomes}
 use Rattle.opl_outside.specs.Counts.{Rose}
 use Rattle.opl_outside.specs.declared.error.OutsideError.{OutsideError}

@@ -1,5 +1,5 @@
 -- A model made ready for the enumeration.
-use Rattle.std.specs.Prelude.{◌≡◌, List, [], filter, map, length, ℤ, Option, Some, None, Result, Ok, Err, Vec}
+use Rattle.std.specs.Prelude.{◌≡◌, List, [], filter, length, ℤ, Option, Some, None, Ok, Err, Vec}
 use Rattle.std.specs.declared.alloc.Global.{Global}
 use Rattle.opl_tree.specs.declared.model.ModelTree.{ModelTree}
 use Rattle.opl_tool.specs.declared.place.Place.{Place}

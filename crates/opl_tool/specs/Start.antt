@@ -1,9 +1,9 @@
 -- Where the enumeration of a model's assignments begins.
-use Rattle.std.specs.Prelude.{◌≡◌, ◌+◌, suc, List, [], map, ℤ, Option, Some, None, Vec}
+use Rattle.std.specs.Prelude.{◌≡◌, suc, List, [], map, ℤ, Option, Some, None, Vec}
 use Rattle.std.specs.declared.alloc.Global.{Global}
 use Rattle.opl_tree.specs.declared.declaration.VariableTree.{VariableTree}
 use Rattle.opl_tool.specs.declared.place.Place.{Place}
-use Rattle.opl_tool.specs.Meaning.{whole_numbers, size_between, declared_set, product}
+use Rattle.opl_tool.specs.Meaning.{size_between, declared_set, product}
 use Rattle.opl_tool.specs.Places.{at_first, set_of}
 
 -- a place at the first of the whole numbers from `low` to `high`, or none where there are none

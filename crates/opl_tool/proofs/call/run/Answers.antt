@@ -1,4 +1,4 @@
-use Rattle.opl_tool.specs.Lines.{file_in, Tells}
+use Rattle.opl_tool.specs.Lines.{Tells}
 use Rattle.opl_tool.proofs.HeadlineLemmas.{refused-exactly, solved-exactly, unsolved-exactly, shows-text, shows-nothing, tells-refusal}
 use Rattle.opl_tool.proofs.call.run.Goals as goal
 

@@ -1,4 +1,4 @@
-use Rattle.std.proofs.Common.{◌≡◌, map, length, filter, if◌then◌else◌}
+use Rattle.std.proofs.Common.{map, length, filter, if◌then◌else◌}
 use Rattle.opl_tool.specs.Constraints.{all_hold}
 use Rattle.opl_tool.specs.Meaning.{variable_of}
 use Rattle.opl_tool.specs.Places.{remaining}
