@@ -4,3 +4,7 @@ pub mod Comparisons
 pub mod Narrower
 pub mod Ring
 pub mod SingleValues
+pub mod Plain
+pub mod Bounds
+pub mod Parts
+pub mod Cells

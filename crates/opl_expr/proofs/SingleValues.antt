@@ -214,7 +214,7 @@ some_points f g h (o ∷ os) = more_points f g h o os
 -- ---- tables
 
 -- none of the list is true
-abbrev none : List Bool → Bool
+abbrev pub none : List Bool → Bool
 none [] = true
 none (b ∷ bs) = cond b false (none bs)
 
@@ -228,7 +228,7 @@ none_one [] e = refl
 none_one (true ∷ bs) e = cc
 none_one (false ∷ bs) e = none_one bs e
 
-none_append : (xs ys : List Bool) → none xs ≡ true → none ys ≡ true → none (xs ++ ys) ≡ true
+pub none_append : (xs ys : List Bool) → none xs ≡ true → none ys ≡ true → none (xs ++ ys) ≡ true
 none_append [] ys e f = f
 none_append (true ∷ xs) ys e f = cc
 none_append (false ∷ xs) ys e f = none_append xs ys e f
@@ -243,15 +243,15 @@ none_then_one [] ys e f = f
 none_then_one (true ∷ xs) ys e f = cc
 none_then_one (false ∷ xs) ys e f = none_then_one xs ys e f
 
-not_any : (cs : List Bool) → none (map (λ c. false && c) cs) ≡ true
+pub not_any : (cs : List Bool) → none (map (λ c. false && c) cs) ≡ true
 not_any [] = refl
 not_any (c ∷ cs) = not_any cs
 
-same_all : (cs : List Bool) → map (λ c. true && c) cs ≡ cs
+pub same_all : (cs : List Bool) → map (λ c. true && c) cs ≡ cs
 same_all [] = refl
 same_all (c ∷ cs) = ap (λ r. c ∷ r) (same_all cs)
 
-flat_none : (cs bs : List Bool) → none bs ≡ true → none (flat_map (λ b. map (λ c. b && c) cs) bs) ≡ true
+pub flat_none : (cs bs : List Bool) → none bs ≡ true → none (flat_map (λ b. map (λ c. b && c) cs) bs) ≡ true
 flat_none cs [] e = refl
 flat_none cs (true ∷ bs) e = cc
 flat_none cs (false ∷ bs) e = none_append (map (λ c. false && c) cs) (flat_map (λ b. map (λ c. b && c) cs) bs) (not_any cs) (flat_none cs bs e)
@@ -270,7 +270,7 @@ taken_one : (ms : List (List Bool)) → AllOne ms → one_at_most (taken ms) ≡
 taken_one [] o = refl
 taken_one (m ∷ ms) o = flat_one (taken ms) m (taken_one ms o.1) o.0
 
-chosen_none : (bs : List Bool) (cs : List Cell) → none bs ≡ true → chosen bs cs ≡ []
+pub chosen_none : (bs : List Bool) (cs : List Cell) → none bs ≡ true → chosen bs cs ≡ []
 chosen_none [] cs e = refl
 chosen_none (b ∷ bs) [] e = refl
 chosen_none (true ∷ bs) (c ∷ cs) e = cc
@@ -284,20 +284,20 @@ chosen_one (false ∷ bs) (c ∷ cs) e = chosen_one bs cs e
 
 -- ---- which index a subscript is
 
-absent : (v : ℤ) (dim : List ℤ) → member v dim ≡ false → none (map (int_eq v) dim) ≡ true
+pub absent : (v : ℤ) (dim : List ℤ) → member v dim ≡ false → none (map (int_eq v) dim) ≡ true
 absent v [] e = refl
 absent v (w ∷ dim) e = elim (int_eq v w) as (λ b. cond b true (member v dim) ≡ false → cond b false (none (map (int_eq v) dim)) ≡ true) [ true ↦ λ f. cc | false ↦ λ f. absent v dim f ] e
 
-not_true : (b : Bool) → not b ≡ true → b ≡ false
+pub not_true : (b : Bool) → not b ≡ true → b ≡ false
 not_true true e = cc
 not_true false e = refl
 
-both : (x y : Bool) → (x && y) ≡ true → (x ≡ true) × (y ≡ true)
+pub both : (x y : Bool) → (x && y) ≡ true → (x ≡ true) × (y ≡ true)
 both true true e = (refl, refl)
 both true false e = cc
 both false y e = cc
 
-none_index : (dim : List ℤ) → none (map (is_index None) dim) ≡ true
+pub none_index : (dim : List ℤ) → none (map (is_index None) dim) ≡ true
 none_index [] = refl
 none_index (v ∷ dim) = none_index dim
 

@@ -1,8 +1,11 @@
 -- The value of an expression, and whether a constraint holds, on a whole assignment: the list of the variables' values.
-use Rattle.std.specs.Prelude.{ℕ, Bool, true, false, cond, ◌&&◌, ◌||◌, not, List, [], ◌∷◌, ℤ, pos, ◌+ℤ◌, ◌*ℤ◌, neg_ℤ, int_div, int_rem, int_le, int_lt, unsigned_abs, slice_index_or, Option, Some, None}
+use Rattle.std.specs.Prelude.{ℕ, suc, Bool, true, false, cond, ◌&&◌, ◌||◌, not, List, [], ◌∷◌, ℤ, pos, ◌+ℤ◌, ◌*ℤ◌, neg_ℤ, int_div, int_rem, int_le, int_lt, unsigned_abs, slice_index_or, Option, Some, None}
 use Rattle.std.specs.Ordering.{int_eq}
 use Rattle.opl_domain.specs.Span.{smaller, larger}
+use Rattle.opl_expr.specs.declared.forms.Op.{Op}
+use Rattle.opl_expr.specs.declared.forms.Op.TheVariants.{Eq, Ne, Lt, Le, Gt, Ge}
 use Rattle.opl_expr.specs.declared.tables.Cell.{Cell}
+use Rattle.opl_expr.specs.declared.tables.Use.{Use}
 use Rattle.opl_expr.specs.declared.tables.Cell.TheVariants as cell
 use Rattle.opl_expr.specs.Forms.{Relation, Term, Terms, Fact, Facts}
 use Rattle.opl_expr.specs.Forms.Relation.{equal, at_most, below}
@@ -29,6 +32,15 @@ relates equal x y = int_eq x y
 relates at_most x y = int_le x y
 relates below x y = int_lt x y
 
+-- a comparison of two numbers, as it is written
+abbrev pub op_relates : Op → ℤ → ℤ → Bool
+op_relates Eq x y = int_eq x y
+op_relates Ne x y = not (int_eq x y)
+op_relates Lt x y = int_lt x y
+op_relates Le x y = int_le x y
+op_relates Gt x y = int_lt y x
+op_relates Ge x y = int_le y x
+
 -- a subscript has a value, and that is the index
 abbrev pub is_index : Option ℤ → ℤ → Bool
 is_index None i = false
@@ -40,6 +52,23 @@ cell_value a (cell.Var x) = value_at a x
 
 abbrev pub same : Bool → Bool → Bool
 same b c = cond b c (not c)
+
+-- the activity of a use runs at time t
+abbrev pub is_active : List ℤ → ℤ → Use → Bool
+is_active a t u = int_le (value_at a u.start) t && int_lt t (value_at a u.start +ℤ value_at a u.duration)
+
+-- what the uses demand at time t
+abbrev pub demand_of : List ℤ → ℤ → Use → ℤ
+demand_of a t u = cond (is_active a t u) u.demand (pos 0)
+
+abbrev pub total_demand : List ℤ → ℤ → List Use → ℤ
+total_demand a t [] = pos 0
+total_demand a t (u ∷ uses) = demand_of a t u +ℤ total_demand a t uses
+
+-- the place of a number in a list, if it is there
+abbrev pub place_in : ℤ → List ℤ → Option ℕ
+place_in v [] = None
+place_in v (w ∷ others) = cond (int_eq v w) (Some 0) (lift1 suc (place_in v others))
 
 module _ (a : List ℤ) where
   abbrev mutual

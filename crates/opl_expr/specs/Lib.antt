@@ -4,3 +4,4 @@ pub mod Range
 pub mod Holds
 pub mod Solutions
 pub mod Laws
+pub mod Sound

@@ -43,3 +43,8 @@ combined f a (Some b) = f a b
 abbrev pub joined : {A : Type 0} → (A → A → A) → List A → Option A
 joined f [] = None
 joined f (a ∷ others) = Some (combined f a (joined f others))
+
+-- all of a list, with a result r behind the last
+abbrev pub lift_onto : {A : Type 0} → (A → A → A) → List (Option A) → Option A → Option A
+lift_onto f [] r = r
+lift_onto f (a ∷ others) r = lift f a (lift_onto f others r)

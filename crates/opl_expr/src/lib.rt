@@ -2,12 +2,17 @@
 #![tactic(auto)]
 
 mod copy;
+mod eval;
 mod forms;
 pub mod laws;
 mod model;
+mod numbers;
 mod search;
 mod tables;
+#[cfg(test)]
+mod tests;
 
+pub use eval::{holds, value};
 pub use forms::{Ask, Cons, Expr, Op};
 pub use model::{Core, Goal};
 pub use opl_domain::OutOfMemory;

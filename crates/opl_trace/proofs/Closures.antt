@@ -9,7 +9,7 @@ use Rattle.opl_expr.specs.Laws.{singles}
 use Rattle.opl_trace.specs.Stable.{IsMonotone, IsStable, IsStableWithin, IsInStable, IsStableUnion}
 use Rattle.opl_trace.specs.Closure.{families, is_some, spares, is_stable, is_in_stable, restrict, closure}
 use Rattle.opl_trace.specs.ClosureLaws.{ClosesTo, ClosureIsUnion, IsBelowSome, NoneLost}
-use Rattle.opl_trace.proofs.Tests.{not_from_false, all_member, all_from}
+use Rattle.opl_trace.proofs.Passing.{not_from_false, all_member, all_from}
 use Rattle.opl_trace.proofs.Families.{any_family, from_family, below_restrict, restrict_within, has_restrict, from_restrict, length-restrict}
 use Rattle.opl_trace.proofs.StableFamilies.{stable_alike, below_union, singles_stable}
 

@@ -22,15 +22,15 @@ use Rattle.opl_trace.specs.Objective.{bound}
 use Rattle.opl_trace.specs.Solutions.{satisfies}
 use Rattle.opl_trace.specs.Run.{is_dead, closed}
 use Rattle.opl_trace.specs.SearchLaws.{RefutingIsMonotone, MomentIsClosure, SolutionsStay, SinglesHold, clear_all}
-use Rattle.opl_trace.proofs.Tests.{or_left, or_right}
+use Rattle.opl_trace.proofs.Passing.{or_left, or_right}
 use Rattle.opl_trace.proofs.StableFamilies.{greatest_from_union}
 use Rattle.opl_trace.proofs.Closures.{closure_is, none_lost}
 
-record IsPoint (k : ℤ) (a : Span) : Type 0 where
-  low_is : a.low ≡ k
-  high_is : a.high ≡ k
+pub record IsPoint (k : ℤ) (a : Span) : Type 0 where
+  pub low_is : a.low ≡ k
+  pub high_is : a.high ≡ k
 
-point_tells : (k : ℤ) (a : Span) → is_point k a ≡ true → IsPoint k a
+pub point_tells : (k : ℤ) (a : Span) → is_point k a ≡ true → IsPoint k a
 point_tells k a h =
     elim (int_eq a.low k) as (λ b. int_eq a.low k ≡ b → cond b (int_eq a.high k) false ≡ true → IsPoint k a) [
       | true ↦ λ e i. record { low_is = (Decides-int_eq a.low k).0 e; high_is = (Decides-int_eq a.high k).0 i }

@@ -8,7 +8,7 @@ use Rattle.opl_domain.proofs.Members.{member_cases, member_first, member_later, 
 use Rattle.opl_domain.proofs.Sets.{set_of-past, length-only, only_here, only_there}
 use Rattle.opl_expr.specs.Laws.{singles}
 use Rattle.opl_trace.specs.Closure.{sublists, families, restrict}
-use Rattle.opl_trace.proofs.Tests.{any_left, any_right, from_any_append, any_map, any_flat, from_any_flat, or_left}
+use Rattle.opl_trace.proofs.Passing.{any_left, any_right, from_any_append, any_map, any_flat, from_any_flat, or_left}
 
 pub below_self : (F : Family) → Below F F
 below_self F = record { sub = λ x v h. h; same = refl }

@@ -1,4 +1,4 @@
-pub mod Tests
+pub mod Passing
 pub mod Families
 pub mod StableFamilies
 pub mod Closures
@@ -9,3 +9,7 @@ pub mod Enough
 pub mod Constraints
 pub mod SweepLaws
 pub mod Examples
+pub mod StoredSets
+pub mod Removals
+pub mod Smaller
+pub mod Posting

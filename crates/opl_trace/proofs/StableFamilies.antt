@@ -4,7 +4,7 @@ use Rattle.opl_domain.specs.Family.{Family, has, only, Below, Full}
 use Rattle.opl_expr.specs.Laws.{singles}
 use Rattle.opl_trace.specs.Stable.{IsMonotone, IsStable, IsStableWithin, IsStableUnion, IsGreatestStable}
 use Rattle.opl_trace.specs.ClosureLaws.{UnionIsStable, ClosureIsGreatest}
-use Rattle.opl_trace.proofs.Tests.{false_unless}
+use Rattle.opl_trace.proofs.Passing.{false_unless}
 use Rattle.opl_trace.proofs.Families.{has_at, only_full, only_below_only, singles_full, singles_only}
 
 -- a family below one that isn't dead

@@ -13,7 +13,7 @@ use Rattle.opl_trace.specs.Run.{is_dead, closed}
 use Rattle.opl_trace.specs.Marks.{searched, trace}
 use Rattle.opl_trace.specs.Sweeps.{size, round, or_next, failed, sweeps, swept, swept_sets}
 use Rattle.opl_trace.specs.SearchLaws.{SweepsClose, SweepsTrace}
-use Rattle.opl_trace.proofs.Tests.{not_from_false}
+use Rattle.opl_trace.proofs.Passing.{not_from_false}
 use Rattle.opl_trace.proofs.Families.{has_at, only_full, only_below_only, filter_shorter, has_restrict, from_restrict, restrict_below, length-restrict}
 use Rattle.opl_trace.proofs.StableFamilies.{spared_above, greatest_from_union}
 use Rattle.opl_trace.proofs.Closures.{stable_is, stable_from, any_stable, union_is, in_stable_from}
@@ -21,7 +21,7 @@ use Rattle.opl_trace.proofs.Constraints.{dead_monotone}
 
 -- ---- sizes
 
-restrict_smaller : (keeps : ℕ → ℤ → Bool) (F : Family) → size (restrict keeps F) ≤ size F
+pub restrict_smaller : (keeps : ℕ → ℤ → Bool) (F : Family) → size (restrict keeps F) ≤ size F
 restrict_smaller keeps [] = omega arith
 restrict_smaller keeps (vs ∷ F) = omega (arith, filter_shorter (keeps zero) vs, restrict_smaller (λ x. keeps (suc x)) F)
 
@@ -33,7 +33,7 @@ filter_same p (w ∷ vs) v h m =
       | false ↦ λ e k. absurd (omega (arith, filter_shorter p vs))
     ] refl h
 
-restrict_same : (keeps : ℕ → ℤ → Bool) (F : Family) (x : ℕ) (v : ℤ) → size (restrict keeps F) ≡ size F → has F x v ≡ true → keeps x v ≡ true
+pub restrict_same : (keeps : ℕ → ℤ → Bool) (F : Family) (x : ℕ) (v : ℤ) → size (restrict keeps F) ≡ size F → has F x v ≡ true → keeps x v ≡ true
 unfolding set_of
 restrict_same keeps [] x v h m = cc
 restrict_same keeps (vs ∷ F) zero v h m = filter_same (keeps zero) vs v (omega (arith, filter_shorter (keeps zero) vs, restrict_smaller (λ y. keeps (suc y)) F)) m
@@ -49,15 +49,15 @@ filter_twice p q (v ∷ vs) = elim (p v) as (λ b. filter q (cond b (v ∷ filte
   | false ↦ filter_twice p q vs
 ]
 
-restrict_twice : (p q : ℕ → ℤ → Bool) (F : Family) → restrict q (restrict p F) ≡ restrict (λ x v. p x v && q x v) F
+pub restrict_twice : (p q : ℕ → ℤ → Bool) (F : Family) → restrict q (restrict p F) ≡ restrict (λ x v. p x v && q x v) F
 restrict_twice p q [] = refl
 restrict_twice p q (vs ∷ F) = rw (filter_twice (p zero) (q zero) vs, restrict_twice (λ x. p (suc x)) (λ x. q (suc x)) F) refl
 
-filter_all : (vs : List ℤ) → filter (λ v. true) vs ≡ vs
+pub filter_all : (vs : List ℤ) → filter (λ v. true) vs ≡ vs
 filter_all [] = refl
 filter_all (v ∷ vs) = ap (λ ws. v ∷ ws) (filter_all vs)
 
-restrict_all : (F : Family) → restrict (λ x v. true) F ≡ F
+pub restrict_all : (F : Family) → restrict (λ x v. true) F ≡ F
 restrict_all [] = refl
 restrict_all (vs ∷ F) = rw (filter_all vs, restrict_all F) refl
 
@@ -92,10 +92,10 @@ round_ends dead F G m s b e = record {
 -- ---- sweeps
 
 -- C is stable, and has those values of F that pass a test
-record IsPart (dead : Family → Bool) (F C : Family) : Type 0 where
-  stable : IsStable dead C
-  keeps : ℕ → ℤ → Bool
-  is_kept : C ≡ restrict keeps F
+pub record IsPart (dead : Family → Bool) (F C : Family) : Type 0 where
+  pub stable : IsStable dead C
+  pub keeps : ℕ → ℤ → Bool
+  pub is_kept : C ≡ restrict keeps F
 
 part_self : (dead : Family → Bool) (F : Family) → is_stable dead F ≡ true → IsPart dead F F
 part_self dead F e = record { stable = stable_is dead F e; keeps = λ x v. true; is_kept = sym (restrict_all F) }
@@ -124,7 +124,7 @@ record Reaches (o : Option Family) (G : Family) : Type 0 where
   is : o ≡ Some family
   above : Below G family
 
-is_less : (i j : ℕ) → i ≤ j → (i < j) ⊎ (i ≡ j)
+pub is_less : (i j : ℕ) → i ≤ j → (i < j) ⊎ (i ≡ j)
 is_less i j h = grind arith
 
 round_less : (dead : Family → Bool) (F G : Family) → IsMonotone dead → IsStable dead G → Below G F → is_stable dead F ≡ false → size (round dead F) < size F
@@ -145,13 +145,13 @@ sweeps_reach dead (suc n) F G m i s b =
       | false ↦ λ e. sweeps_reach dead n (round dead F) G m (omega (arith, round_less dead F G m s b e)) s (round_keeps dead F G m s b)
     ] refl
 
-same_tests : (b c : Bool) → (b ≡ true → c ≡ true) → (c ≡ true → b ≡ true) → b ≡ c
+pub same_tests : (b c : Bool) → (b ≡ true → c ≡ true) → (c ≡ true → b ≡ true) → b ≡ c
 same_tests true c h k = sym (h refl)
 same_tests false true h k = k refl
 same_tests false false h k = refl
 
 -- a part of D above all that is in stable families has just that
-part_is : (dead : Family → Bool) (D C : Family) → IsMonotone dead → IsPart dead D C → Below (restrict (is_in_stable dead D) D) C → C ≡ restrict (is_in_stable dead D) D
+pub part_is : (dead : Family → Bool) (D C : Family) → IsMonotone dead → IsPart dead D C → Below (restrict (is_in_stable dead D) D) C → C ≡ restrict (is_in_stable dead D) D
 part_is dead D C m p b =
     let below : Below C D = subst (λ G. Below G D) (sym p.is_kept) (restrict_below p.keeps D) in
     p.is_kept ∙ restrict_alike p.keeps (is_in_stable dead D) D (λ x v h.

@@ -1,4 +1,5 @@
 pub mod Stable
+pub mod Between
 pub mod Closure
 pub mod ClosureLaws
 pub mod Statements
@@ -10,4 +11,5 @@ pub mod Marks
 pub mod Solutions
 pub mod Paths
 pub mod Sweeps
+pub mod Removals
 pub mod SearchLaws

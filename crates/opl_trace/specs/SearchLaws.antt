@@ -1,12 +1,13 @@
 -- What is proved of searches.
-use Rattle.std.specs.Prelude.{◌≡◌, ℕ, suc, ◌+◌, ◌≤◌, Bool, true, false, List, ◌++◌, ℤ, Option, Some, None}
+use Rattle.std.specs.Prelude.{◌≡◌, ℕ, suc, ◌+◌, ◌≤◌, Bool, true, false, List, [], ◌∷◌, ◌++◌, ℤ, Option, Some, None}
 use Rattle.std.specs.List.{list_all}
-use Rattle.opl_domain.specs.Family.{Family, Below}
+use Rattle.opl_domain.specs.Family.{Family, has, Below}
 use Rattle.opl_expr.specs.Laws.{singles, clear_fact}
 use Rattle.opl_expr.specs.Forms.{Fact}
 use Rattle.opl_trace.specs.Stable.{IsMonotone}
 use Rattle.opl_trace.specs.Closure.{closure}
 use Rattle.opl_trace.specs.ClosureLaws.{ClosesTo, IsBelowSome}
+use Rattle.opl_trace.specs.Answers.{is_value}
 use Rattle.opl_trace.specs.Objective.{Objective, bound}
 use Rattle.opl_trace.specs.Solutions.{satisfies}
 use Rattle.opl_trace.specs.Sweeps.{swept, swept_trace}
@@ -67,3 +68,17 @@ SweepsClose = (dead : Family → Bool) (D : Family) → IsMonotone dead → swep
 -- a search by sweeps makes what the search makes
 abbrev pub SweepsTrace : Type 0
 SweepsTrace = (goal : Option Objective) (D : Family) (section : Option Statement) (P : List Fact) (n : ℕ) → swept_trace goal D section P n ≡ trace goal D section P n
+
+-- more constraints leave fewer values: where their closure hasn't failed, that of fewer hasn't, and has all its values
+pub record IsWider (o : Option Family) (F : Family) : Type 0 where
+  pub family : Family
+  pub is : o ≡ Some family
+  pub above : Below F family
+
+abbrev pub PostingNarrows : Type 0
+PostingNarrows = (goal : Option Objective) (D : Family) (P Q : List Fact) (b : Option ℤ) (C : Family) → closed goal D (P ++ Q) b ≡ Some C → IsWider (closed goal D P b) C
+
+-- once `x = v` is posted, x has no other value
+abbrev pub PostedIsSingle : Type 0
+PostedIsSingle = (goal : Option Objective) (D : Family) (P : List Fact) (b : Option ℤ) (x : ℕ) (v w : ℤ) (C : Family) →
+    closed goal D (P ++ is_value x v ∷ []) b ≡ Some C → has C x w ≡ true → w ≡ v

@@ -1,6 +1,6 @@
 //! Laws of stable families, of the closure and of searches. Each law is the contract of a function without effect.
 ghost use Rattle.opl_trace.specs.ClosureLaws.{UnionIsStable, ClosureIsGreatest, ClosureIsUnion, NoneLost};
-ghost use Rattle.opl_trace.specs.SearchLaws.{Prefix, Counted, Enough, RefutingIsMonotone, MomentIsClosure, SolutionsStay, SinglesHold, SweepsClose, SweepsTrace};
+ghost use Rattle.opl_trace.specs.SearchLaws.{Prefix, Counted, Enough, RefutingIsMonotone, MomentIsClosure, SolutionsStay, SinglesHold, SweepsClose, SweepsTrace, PostingNarrows, PostedIsSingle};
 
 /// The union of any stable families of the same variables is stable.
 pub fn unions_are_stable()
@@ -65,4 +65,14 @@ pub fn sweeps_close()
 /// A search by sweeps makes what the search makes.
 pub fn sweeps_trace()
     ensures { SweepsTrace }
+{}
+
+/// More constraints leave fewer values.
+pub fn posting_narrows()
+    ensures { PostingNarrows }
+{}
+
+/// Once `x = v` is posted, `x` has no other value.
+pub fn posted_values_are_single()
+    ensures { PostedIsSingle }
 {}

@@ -1,4 +1,11 @@
 //! What propagation and search are to compute: stable families, the closure, and their laws.
 #![tactic(auto)]
 
+mod closing;
 pub mod laws;
+mod sets;
+#[cfg(test)]
+mod tests;
+
+pub use closing::{Test, closed};
+pub use sets::Sets;

@@ -1,0 +1,6 @@
+pub mod Deep
+pub mod ExpressionSteps
+pub mod InstructionSteps
+pub mod SearchSteps
+pub mod Spelt
+pub mod TypeSteps

@@ -1,0 +1,15 @@
+pub mod Capped
+pub mod DeclarationMarks
+pub mod Depth
+pub mod ExpressionDepth
+pub mod ExpressionFold
+pub mod ExpressionMarks
+pub mod InstructionFold
+pub mod ItemMarks
+pub mod Marks
+pub mod Reading
+pub mod SearchFold
+pub mod SearchMarks
+pub mod Spelling
+pub mod TypeFold
+pub mod Words
