@@ -16,17 +16,9 @@ use Rattle.opl_trace.specs.Objective.{Objective}
 use Rattle.opl_trace.specs.Statements.{Statement, Branch, statements_of, branches_of}
 use Rattle.opl_trace.specs.Statements.Statement.{post, try, try_all, for_all, once, while, generate, rank}
 use Rattle.opl_trace.specs.Statements.Branch.{branch}
-use Rattle.opl_trace.specs.Run.{Mark, Out, choices, is_dead, within}
-use Rattle.opl_trace.specs.Run.Mark.{choice, leaf, solution, cut}
+use Rattle.opl_trace.specs.Run.{Out, choices, is_dead, within}
+use Rattle.opl_trace.specs.Marks.{solved}
 use Rattle.opl_trace.specs.Sweeps.{swept, swept_trace}
-
--- the solutions among the marks
-abbrev solved : List Mark → List (List ℤ)
-solved [] = []
-solved (choice ∷ ms) = solved ms
-solved (leaf P ∷ ms) = solved ms
-solved (solution a ∷ ms) = a ∷ solved ms
-solved (cut ∷ ms) = solved ms
 
 -- the solutions, the number of choices, and whether there is a Cut
 record Seen : Type 0 where

@@ -13,3 +13,5 @@ pub mod StoredSets
 pub mod Removals
 pub mod Smaller
 pub mod Posting
+pub mod Products
+pub mod Found

@@ -95,7 +95,7 @@ not_dead dead F G x v m s b h d =
     let i = s.each x v (has_at G x v h) h in
     cc
 
-one_member : (vs : List ℤ) (v w : ℤ) → length vs ≡ 1 → member v vs ≡ true → member w vs ≡ true → w ≡ v
+pub one_member : (vs : List ℤ) (v w : ℤ) → length vs ≡ 1 → member v vs ≡ true → member w vs ≡ true → w ≡ v
 one_member [] v w e h k = cc
 one_member (u ∷ []) v w e h k = elim (member_cases v u [] h) [
   | inl i ↦ elim (member_cases w u [] k) [ inl j ↦ j ∙ sym i | inr n ↦ cc ]
@@ -113,13 +113,13 @@ single_fails dead D F x v m k d e = none_closed dead D m (λ G s b.
 -- ---- the cut
 
 -- two places are the same
-abbrev is_place : ℕ → ℕ → Bool
+abbrev pub is_place : ℕ → ℕ → Bool
 is_place zero zero = true
 is_place zero (suc x) = false
 is_place (suc y) zero = false
 is_place (suc y) (suc x) = is_place y x
 
-place_is : (y x : ℕ) → is_place y x ≡ true → y ≡ x
+pub place_is : (y x : ℕ) → is_place y x ≡ true → y ≡ x
 place_is zero zero h = refl
 place_is zero (suc x) h = cc
 place_is (suc y) zero h = cc

@@ -7,6 +7,7 @@ use Rattle.opl_expr.specs.Options.{lift1}
 use Rattle.opl_expr.specs.Solutions.{base, declared}
 use Rattle.opl_trace.specs.Objective.{Objective}
 use Rattle.opl_trace.specs.Statements.{Statement, statement}
+use Rattle.opl_trace.specs.Run.Mark.{choice, leaf, solution, cut}
 use Rattle.opl_trace.specs.Run.{Mark, Out, Rest, marks_of, closed, whole_leaf, label, perform}
 
 -- n numbers from x on
@@ -48,3 +49,11 @@ core_marks default core n = marks_of (core_trace default core n)
 abbrev pub prefixes : Family → ℕ
 prefixes [] = zero
 prefixes (vs ∷ D) = length vs * (1 + prefixes D)
+
+-- the solutions among marks
+abbrev pub solved : List Mark → List (List ℤ)
+solved [] = []
+solved (choice ∷ ms) = solved ms
+solved (leaf P ∷ ms) = solved ms
+solved (solution a ∷ ms) = a ∷ solved ms
+solved (cut ∷ ms) = solved ms

@@ -1,7 +1,7 @@
 -- What is proved of searches.
 use Rattle.std.specs.Prelude.{◌≡◌, ℕ, suc, ◌+◌, ◌≤◌, Bool, true, false, List, [], ◌∷◌, ◌++◌, ℤ, Option, Some, None}
-use Rattle.std.specs.List.{list_all}
-use Rattle.opl_domain.specs.Family.{Family, has, Below}
+use Rattle.std.specs.List.{list_all, filter}
+use Rattle.opl_domain.specs.Family.{Family, IsRising, set_of, has, Below}
 use Rattle.opl_expr.specs.Laws.{singles, clear_fact}
 use Rattle.opl_expr.specs.Forms.{Fact}
 use Rattle.opl_trace.specs.Stable.{IsMonotone}
@@ -9,11 +9,11 @@ use Rattle.opl_trace.specs.Closure.{closure}
 use Rattle.opl_trace.specs.ClosureLaws.{ClosesTo, IsBelowSome}
 use Rattle.opl_trace.specs.Answers.{is_value}
 use Rattle.opl_trace.specs.Objective.{Objective, bound}
-use Rattle.opl_trace.specs.Solutions.{satisfies}
+use Rattle.opl_trace.specs.Solutions.{satisfies, product}
 use Rattle.opl_trace.specs.Sweeps.{swept, swept_trace}
 use Rattle.opl_trace.specs.Statements.{Statement}
 use Rattle.opl_trace.specs.Run.{Mark, Out, marks_of, choices, is_dead, closed}
-use Rattle.opl_trace.specs.Marks.{trace, prefixes}
+use Rattle.opl_trace.specs.Marks.{trace, prefixes, solved}
 
 -- the marks of the one but its Cut are the first of the other; where there was no Cut there are no others
 pub record IsContinued (o p : Out) : Type 0 where
@@ -82,3 +82,9 @@ PostingNarrows = (goal : Option Objective) (D : Family) (P Q : List Fact) (b : O
 abbrev pub PostedIsSingle : Type 0
 PostedIsSingle = (goal : Option Objective) (D : Family) (P : List Fact) (b : Option ℤ) (x : ℕ) (v w : ℤ) (C : Family) →
     closed goal D (P ++ is_value x v ∷ []) b ≡ Some C → has C x w ≡ true → w ≡ v
+
+-- without an objective, default search without a Cut makes exactly the assignments of the declared sets on which all
+-- constraints hold, in lexicographic order
+abbrev pub AllFound : Type 0
+AllFound = (D : Family) (P : List Fact) (n : ℕ) → ((x : ℕ) → IsRising (set_of D x)) → clear_all P ≡ true →
+    (trace None D None P n).is_cut ≡ false → solved (trace None D None P n).marks ≡ filter (satisfies P) (product D)

@@ -1,6 +1,6 @@
 //! Laws of stable families, of the closure and of searches. Each law is the contract of a function without effect.
 ghost use Rattle.opl_trace.specs.ClosureLaws.{UnionIsStable, ClosureIsGreatest, ClosureIsUnion, NoneLost};
-ghost use Rattle.opl_trace.specs.SearchLaws.{Prefix, Counted, Enough, RefutingIsMonotone, MomentIsClosure, SolutionsStay, SinglesHold, SweepsClose, SweepsTrace, PostingNarrows, PostedIsSingle};
+ghost use Rattle.opl_trace.specs.SearchLaws.{Prefix, Counted, Enough, RefutingIsMonotone, MomentIsClosure, SolutionsStay, SinglesHold, SweepsClose, SweepsTrace, PostingNarrows, PostedIsSingle, AllFound};
 
 /// The union of any stable families of the same variables is stable.
 pub fn unions_are_stable()
@@ -75,4 +75,9 @@ pub fn posting_narrows()
 /// Once `x = v` is posted, `x` has no other value.
 pub fn posted_values_are_single()
     ensures { PostedIsSingle }
+{}
+
+/// Without an objective, default search without a Cut makes exactly the solutions, in lexicographic order.
+pub fn default_search_finds_all()
+    ensures { AllFound }
 {}
