@@ -1,8 +1,0 @@
-use Rattle.std.proofs.Common.{◌≡◌, ◌++◌, map, drop}
-use Rattle.opl_model_tree.specs.DeclarationMarks as marks
-use Rattle.opl_model_tree.specs.Marks.{joined}
-use Rattle.opl_model_tree.specs.Spelling.{kinds_of}
-use Rattle.opl_model_tree.proofs.spell.declaration.spell_more_fields.Given as goal
-
-abbrev pub invariant-loop-field : goal.invariant-loop-field
-invariant-loop-field l = l.out ++ kinds_of (joined (map marks.marks_field (drop l.field-index l.fields))) ≡ l.fn.out ++ kinds_of (joined (map marks.marks_field l.fields))

@@ -1,8 +1,0 @@
-use Rattle.std.proofs.Common.{◌≡◌, ◌++◌, map, drop}
-use Rattle.opl_token.specs.declared.sign.Sign.TheVariants.{Comma}
-use Rattle.opl_model_tree.specs.Marks.{behind, marks_name}
-use Rattle.opl_model_tree.specs.Spelling.{kinds_of}
-use Rattle.opl_model_tree.proofs.spell.part.spell_more_names.Given as goal
-
-abbrev pub invariant-loop-name : goal.invariant-loop-name
-invariant-loop-name l = l.out ++ kinds_of (behind Comma (map marks_name (drop l.name-index l.names))) ≡ l.fn.out ++ kinds_of (behind Comma (map marks_name l.names))
