@@ -51,11 +51,11 @@ refuted_falls (Some a) (Some b) i h =
     let p = point_tells (pos 0) b (not_possible (is_point (pos 0) b) h) in
     rw (point_from (pos 0) a (omega (arith, ints, i.0.least, i.0.most, p.low_is, p.high_is)) (omega (arith, ints, i.1.least, i.1.most, p.low_is, p.high_is))) refl
 
-refuted_is : (b : Bool) → cond b false true ≡ true → b ≡ false
+pub refuted_is : (b : Bool) → cond b false true ≡ true → b ≡ false
 refuted_is true h = cc
 refuted_is false h = refl
 
-refuted_from : (b : Bool) → b ≡ false → cond b false true ≡ true
+pub refuted_from : (b : Bool) → b ≡ false → cond b false true ≡ true
 refuted_from true h = cc
 refuted_from false h = refl
 

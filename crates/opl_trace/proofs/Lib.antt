@@ -15,3 +15,5 @@ pub mod Smaller
 pub mod Posting
 pub mod Products
 pub mod Found
+pub mod Better
+pub mod Improving

@@ -50,7 +50,7 @@ pub closed_stable : (goal : Option Objective) (D : Family) (P : List Fact) (b : 
 closed_stable goal D P b C e =
     (greatest_from_union (is_dead goal P b) D C (dead_monotone goal P b) (subst (λ o. ClosesTo (is_dead goal P b) D o) e (moment_is_closure goal D P b))).is_stable
 
-wider : (goal : Option Objective) (D : Family) (P : List Fact) (b : Option ℤ) (F : Family) (o : Option Family) → ClosesTo (is_dead goal P b) D o → IsStableWithin (is_dead goal P b) D F → IsWider o F
+pub wider : (goal : Option Objective) (D : Family) (P : List Fact) (b : Option ℤ) (F : Family) (o : Option Family) → ClosesTo (is_dead goal P b) D o → IsStableWithin (is_dead goal P b) D F → IsWider o F
 wider goal D P b F None c s = absurd (c F s)
 wider goal D P b F (Some C) c s = record { family = C; is = refl; above = (greatest_from_union (is_dead goal P b) D C (dead_monotone goal P b) c).most F s }
 

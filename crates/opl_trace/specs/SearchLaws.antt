@@ -2,13 +2,14 @@
 use Rattle.std.specs.Prelude.{◌≡◌, ℕ, suc, ◌+◌, ◌≤◌, Bool, true, false, List, [], ◌∷◌, ◌++◌, ℤ, Option, Some, None}
 use Rattle.std.specs.List.{list_all, filter}
 use Rattle.opl_domain.specs.Family.{Family, IsRising, set_of, has, Below}
-use Rattle.opl_expr.specs.Laws.{singles, clear_fact}
+use Rattle.opl_expr.specs.Laws.{singles, clear, clear_fact}
+use Rattle.opl_expr.specs.Holds.{value}
 use Rattle.opl_expr.specs.Forms.{Fact}
 use Rattle.opl_trace.specs.Stable.{IsMonotone}
 use Rattle.opl_trace.specs.Closure.{closure}
 use Rattle.opl_trace.specs.ClosureLaws.{ClosesTo, IsBelowSome}
 use Rattle.opl_trace.specs.Answers.{is_value}
-use Rattle.opl_trace.specs.Objective.{Objective, bound}
+use Rattle.opl_trace.specs.Objective.{Objective, bound, improving}
 use Rattle.opl_trace.specs.Solutions.{satisfies, product}
 use Rattle.opl_trace.specs.Sweeps.{swept, swept_trace}
 use Rattle.opl_trace.specs.Statements.{Statement}
@@ -88,3 +89,13 @@ PostedIsSingle = (goal : Option Objective) (D : Family) (P : List Fact) (b : Opt
 abbrev pub AllFound : Type 0
 AllFound = (D : Family) (P : List Fact) (n : ℕ) → ((x : ℕ) → IsRising (set_of D x)) → clear_all P ≡ true →
     (trace None D None P n).is_cut ≡ false → solved (trace None D None P n).marks ≡ filter (satisfies P) (product D)
+
+-- an objective, if there is one, has a value where all constraints hold
+abbrev pub Defines : Option Objective → List Fact → Type 0
+Defines None P = Unit {0}
+Defines (Some g) P = (a : List ℤ) → satisfies P a ≡ true → (v : ℤ) × (value a g.term ≡ Some v)
+
+-- default search without a Cut makes exactly those of these assignments that are better than all before them
+abbrev pub BestFound : Type 0
+BestFound = (g : Objective) (D : Family) (P : List Fact) (n : ℕ) → ((x : ℕ) → IsRising (set_of D x)) → clear_all P ≡ true → clear g.term ≡ true →
+    Defines (Some g) P → (trace (Some g) D None P n).is_cut ≡ false → solved (trace (Some g) D None P n).marks ≡ improving (Some g) (filter (satisfies P) (product D))

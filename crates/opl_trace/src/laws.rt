@@ -1,6 +1,6 @@
 //! Laws of stable families, of the closure and of searches. Each law is the contract of a function without effect.
 ghost use Rattle.opl_trace.specs.ClosureLaws.{UnionIsStable, ClosureIsGreatest, ClosureIsUnion, NoneLost};
-ghost use Rattle.opl_trace.specs.SearchLaws.{Prefix, Counted, Enough, RefutingIsMonotone, MomentIsClosure, SolutionsStay, SinglesHold, SweepsClose, SweepsTrace, PostingNarrows, PostedIsSingle, AllFound};
+ghost use Rattle.opl_trace.specs.SearchLaws.{Prefix, Counted, Enough, RefutingIsMonotone, MomentIsClosure, SolutionsStay, SinglesHold, SweepsClose, SweepsTrace, PostingNarrows, PostedIsSingle, AllFound, BestFound};
 
 /// The union of any stable families of the same variables is stable.
 pub fn unions_are_stable()
@@ -80,4 +80,9 @@ pub fn posted_values_are_single()
 /// Without an objective, default search without a Cut makes exactly the solutions, in lexicographic order.
 pub fn default_search_finds_all()
     ensures { AllFound }
+{}
+
+/// With an objective, default search without a Cut makes exactly the solutions that are better than all before them.
+pub fn default_search_finds_the_best()
+    ensures { BestFound }
 {}
