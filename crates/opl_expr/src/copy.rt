@@ -20,7 +20,7 @@ fn expressions(alloc: Global, parts: &[Expr]) -> Result<Seq<Expr>, OutOfMemory>
 
 /// Copies of constraints, in their order.
 #[cycle(copies)]
-fn constraints(alloc: Global, parts: &[Cons]) -> Result<Seq<Cons>, OutOfMemory>
+pub fn constraints(alloc: Global, parts: &[Cons]) -> Result<Seq<Cons>, OutOfMemory>
     ensures { IfOk result (λ r. r ≡ parts.now) }
 {
     let mut copies = Seq::new(alloc);

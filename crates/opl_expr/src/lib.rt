@@ -2,6 +2,7 @@
 #![tactic(auto)]
 
 mod copy;
+mod copy_core;
 mod eval;
 mod forms;
 pub mod laws;
