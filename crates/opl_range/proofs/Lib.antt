@@ -1,2 +1,5 @@
 pub mod Bounds
 pub mod Weights
+pub mod Ends
+pub mod Plain
+pub mod Parts

@@ -1,4 +1,7 @@
 //! Ranges of expressions and constraints over a view, without taking memory.
 #![tactic(auto)]
 
+mod coefficients;
+mod hulls;
 pub mod laws;
+mod rows;
