@@ -14,7 +14,7 @@ use Rattle.opl_domain.proofs.IntervalLaws.{abs_is_exact, div_is_exact}
 use Rattle.opl_expr.specs.Range.{flip, span_scale}
 use Rattle.opl_expr.proofs.Bounds.{abs_times}
 
-abs_div : (v w : ℤ) → unsigned_abs (int_div v w) ≤ unsigned_abs v
+pub abs_div : (v w : ℤ) → unsigned_abs (int_div v w) ≤ unsigned_abs v
 abs_div (pos a) (pos b) = omega (arith, div-le_self a b)
 abs_div (pos a) (negsuc b) = omega (arith, ints, div-le_self a (suc b))
 abs_div (negsuc a) (pos b) = omega (arith, ints, div-le_self (suc a) b)

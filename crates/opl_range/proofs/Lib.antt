@@ -3,3 +3,5 @@ pub mod Weights
 pub mod Ends
 pub mod Plain
 pub mod Parts
+pub mod Roots
+pub mod Minus

@@ -40,7 +40,7 @@ in_declared [] whole x v m = cc
 in_declared (p ∷ sets) whole zero v m = within_set p whole v m
 in_declared (p ∷ sets) whole (suc x) v m = in_declared sets whole x v m
 
-has_declared : (core : Core) (x : ℕ) (v : ℤ) → has (declared core) x v ≡ true → unsigned_abs v ≤ var_magnitude core.sets x
+pub has_declared : (core : Core) (x : ℕ) (v : ℤ) → has (declared core) x v ≡ true → unsigned_abs v ≤ var_magnitude core.sets x
 unfolding declared set_of
 has_declared core x v m = in_declared core.sets core.sets x v m
 

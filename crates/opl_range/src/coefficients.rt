@@ -7,7 +7,7 @@ ghost use Rattle.opl_expr.specs.Sound.{IsSmall, IsSoundTerm};
 use opl_expr::{Core, Expr};
 
 /// The sum of two numbers.
-fn added(x: i128, y: i128) -> i128
+pub fn added(x: i128, y: i128) -> i128
     requires { IsSmall (unsigned_abs x + unsigned_abs y) }
     ensures { result ≡ x +ℤ y }
 {

@@ -2,6 +2,9 @@
 #![tactic(auto)]
 
 mod coefficients;
+mod comparisons;
+mod differences;
 mod hulls;
 pub mod laws;
 mod rows;
+mod zeros;

@@ -1,5 +1,5 @@
 //! Arithmetic of intervals that may be missing: a result is missing where a part of it is.
-ghost use Rattle.std.specs.Prelude.{◌≡◌, ◌+◌, ◌*◌, ◌&&◌, ℤ, pos, cond, unsigned_abs, true, false, Some};
+ghost use Rattle.std.specs.Prelude.{◌≡◌, ◌+◌, ◌*◌, ◌&&◌, ℤ, pos, cond, unsigned_abs, int_le, int_lt, true, false, Some};
 ghost use Rattle.opl_domain.specs.Span.{Span, magnitude, point, is_point};
 ghost use Rattle.opl_domain.specs.Arithmetic.{span_add, span_neg, span_mul, span_div, span_rem, span_abs, span_min, span_max, span_hull};
 ghost use Rattle.opl_expr.specs.Options.{lift, lift1, bind, bind1, combined};
@@ -133,6 +133,22 @@ pub fn verdict(surely: bool, never: bool) -> Interval
     } else {
         Interval::new(0, 1)
     }
+}
+
+/// The range of being at most 0.
+pub fn at_most_zero(a: Interval) -> Interval
+    ensures { result ≡ verdict (int_le a.high (pos 0)) (int_lt (pos 0) a.low) }
+{
+    let (low, high) = (a.lo(), a.hi());
+    verdict(high <= 0, low > 0)
+}
+
+/// The range of being below 0.
+pub fn below_zero(a: Interval) -> Interval
+    ensures { result ≡ verdict (int_lt a.high (pos 0)) (int_le (pos 0) a.low) }
+{
+    let (low, high) = (a.lo(), a.hi());
+    verdict(high < 0, low >= 0)
 }
 
 /// 1 minus a truth, end by end.
