@@ -5,3 +5,4 @@ pub mod Plain
 pub mod Parts
 pub mod Roots
 pub mod Minus
+pub mod Compare

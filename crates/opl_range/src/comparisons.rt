@@ -2,6 +2,7 @@
 ghost use Rattle.std.specs.Prelude.{◌≡◌, ◌+◌, unsigned_abs, length, Some};
 ghost use Rattle.opl_domain.specs.Family.{Below};
 ghost use Rattle.opl_expr.specs.Forms.{Relation, Fact, compared};
+ghost use Rattle.opl_expr.specs.Forms.Relation.{below};
 ghost use Rattle.opl_expr.specs.Options.{lift1};
 ghost use Rattle.opl_expr.specs.Range.{coef, pure, rest, ends, may_be, fact_range};
 ghost use Rattle.opl_expr.specs.Solutions.{declared};
@@ -44,7 +45,7 @@ fn below<V: View>(core: &Core, a: &Expr, b: &Expr, rest: Option<Interval>, view:
     requires sound { CanCompare core.now a.now b.now }
     requires within { Below (V.family view.now) (declared core.now) }
     requires rest { rest ≡ rest_between (V.family view.now) core.now a.now b.now }
-    ensures { result ≡ fact_range (V.family view.now) (Fact.cmp Relation.below (term_of core.now a.now) (term_of core.now b.now)) }
+    ensures { result ≡ fact_range (V.family view.now) (Fact.cmp below (term_of core.now a.now) (term_of core.now b.now)) }
 {
     let rest = rest?;
     let whole = with_variables(core, a, b, rest, view);
@@ -81,25 +82,26 @@ pub fn compared<V: View>(core: &Core, op: Op, a: &Expr, first: Option<Interval>,
 }
 
 /// The range of an expression, from what it has beside its variables.
-pub fn range_of_rest<V: View>(core: &Core, e: &Expr, rest: Option<Interval>, view: &V) -> Option<Interval>
+pub fn range_of_rest<V: View>(core: &Core, e: &Expr, beside: Option<Interval>, view: &V) -> Option<Interval>
     requires sound { IsSoundTerm core.now.sets (term_of core.now e.now) }
     requires within { Below (V.family view.now) (declared core.now) }
-    requires rest { rest ≡ rest (V.family view.now) (term_of core.now e.now) }
-    ensures { result ≡ ends (V.family view.now) (term_of core.now e.now) rest }
+    requires beside { beside ≡ rest (V.family view.now) (term_of core.now e.now) }
+    ensures { result ≡ ends (V.family view.now) (term_of core.now e.now) beside }
 {
-    let rest = rest?;
-    Some(with_variables(core, e, &Expr::Const(0), rest, view))
+    let beside = beside?;
+    let zero = Expr::Const(0);
+    Some(with_variables(core, e, &zero, beside, view))
 }
 
-/// Whether an expression may equal a number; `rest` is what it has beside its variables.
-pub fn may_be<V: View>(core: &Core, e: &Expr, rest: Option<Interval>, i: i128, view: &V) -> bool
+/// Whether an expression may equal a number; `beside` is what it has beside its variables.
+pub fn may_be<V: View>(core: &Core, e: &Expr, beside: Option<Interval>, i: i128, view: &V) -> bool
     requires sound { IsSoundTerm core.now.sets (term_of core.now e.now) }
     requires small { IsSmall (term_magnitude core.now.sets (term_of core.now e.now) + unsigned_abs i) }
     requires within { Below (V.family view.now) (declared core.now) }
-    requires rest { rest ≡ rest (V.family view.now) (term_of core.now e.now) }
+    requires beside { beside ≡ rest (V.family view.now) (term_of core.now e.now) }
     ensures { result ≡ may_be (V.family view.now) (record { coef = coef (term_of core.now e.now); pure = pure (term_of core.now e.now); rest = rest (V.family view.now) (term_of core.now e.now) }) i }
 {
     let index = Expr::Const(i);
-    let difference = rest_of_difference(core, e, &index, rest, Some(Interval::point(i)), view);
+    let difference = rest_of_difference(core, e, &index, beside, Some(Interval::point(i)), view);
     rows::is_possible(equal(core, e, &index, difference, view))
 }

@@ -1,6 +1,7 @@
 //! Whether the difference of two expressions can be zero, by the values of its variables where it has one or two.
-ghost use Rattle.std.specs.Prelude.{◌≡◌, ◌≢◌, ◌<◌, ◌≤◌, ◌+◌, ◌&&◌, ◌||◌, ◌+ℤ◌, ◌*ℤ◌, pos, negsuc, cond, unsigned_abs, int_div, int_rem, length, Some, None};
+ghost use Rattle.std.specs.Prelude.{◌≡◌, ◌≢◌, ◌<◌, ◌≤◌, ◌+◌, ◌&&◌, ◌||◌, ◌+ℤ◌, ◌*ℤ◌, pos, negsuc, cond, unsigned_abs, int_div, int_rem, true, false, length, Some, None};
 ghost use Rattle.std.specs.Ordering.{int_eq};
+ghost use Rattle.opl_domain.specs.Span.{is_point};
 ghost use Rattle.opl_domain.specs.Family.{has, Below};
 ghost use Rattle.opl_expr.specs.Range.{with_variables, never_zero};
 ghost use Rattle.opl_expr.specs.Solutions.{declared};
@@ -184,8 +185,10 @@ pub fn never_zero<V: View>(core: &Core, a: &Expr, b: &Expr, rest: Interval, whol
     requires within { Below (V.family view.now) (declared core.now) }
     requires rest { Some rest ≡ rest_between (V.family view.now) core.now a.now b.now }
     requires whole { whole ≡ with_variables (V.family view.now) (between core.now a.now b.now) (length (V.family view.now)) rest }
-    ensures { result ≡ never_zero (V.family view.now) (between core.now a.now b.now) (length (V.family view.now)) (is_pure_between core.now a.now b.now) rest }
+    ensures value { result ≡ never_zero (V.family view.now) (between core.now a.now b.now) (length (V.family view.now)) (is_pure_between core.now a.now b.now) rest }
+    ensures apart { is_point (pos 0) whole ≡ true → result ≡ false }
 {
+    let _vars = view.vars();
     match zero_of_linear(core, a, b, rest.lo(), view) {
         None => misses_zero(whole),
         Some(found) => !found,
