@@ -6,3 +6,5 @@ pub mod Parts
 pub mod Roots
 pub mod Minus
 pub mod Compare
+pub mod Tables
+pub mod Demands

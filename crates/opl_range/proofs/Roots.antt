@@ -45,7 +45,7 @@ any_member p v (x ∷ xs) h = rw (h x, any_member p v xs h) (or_is (int_eq v x) 
 
 -- ---- variables with coefficient 0
 
-zero_times : (v : ℤ) → pos 0 *ℤ v ≡ pos 0
+pub zero_times : (v : ℤ) → pos 0 *ℤ v ≡ pos 0
 zero_times (pos n) = omega (arith, ints)
 zero_times (negsuc n) = omega (arith, ints)
 

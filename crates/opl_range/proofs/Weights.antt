@@ -82,7 +82,7 @@ weight_scale sets k c (suc n) =
     omega (arith, weight_scale sets k c n, t, u)
 
 -- the coefficients of one variable alone
-one_of : (x y : ℕ) → ((nat_eq x y ≡ true) × (x ≡ y)) ⊎ ((nat_eq x y ≡ false) × (x ≢ y))
+pub one_of : (x y : ℕ) → ((nat_eq x y ≡ true) × (x ≡ y)) ⊎ ((nat_eq x y ≡ false) × (x ≢ y))
 one_of x y = elim (nat_eq x y) as (λ b. nat_eq x y ≡ b → ((b ≡ true) × (x ≡ y)) ⊎ ((b ≡ false) × (x ≢ y))) [
   | true ↦ λ e. inl (refl, (Decides-eqb x y).0 e)
   | false ↦ λ e. inr (refl, λ s. let t = (Decides-eqb x y).1 s in cc)
@@ -214,7 +214,7 @@ mutual
       let p = lift_parts f (fact_range F c) (lift_all f (point k) (fact_ranges F cs)) r e in
       subst IsTruth (sym p.4) (h p.0 p.1 (fact_truth F c p.0 p.2) (all_truth F f h k t cs p.1 p.3))
 
-truth_bound : (r : Span) → IsTruth r → magnitude r ≤ 1
+pub truth_bound : (r : Span) → IsTruth r → magnitude r ≤ 1
 truth_bound r t = omega (arith, ints, t.low_least, t.low_most, t.high_least, t.high_most)
 
 -- ---- cells

@@ -6,5 +6,9 @@ mod comparisons;
 mod differences;
 mod hulls;
 pub mod laws;
+mod ranges;
 mod rows;
+mod uses;
 mod zeros;
+
+pub use ranges::{cons_range, range, refuted};

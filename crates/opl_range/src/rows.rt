@@ -200,6 +200,14 @@ pub fn same(a: Option<Interval>, b: Option<Interval>) -> Option<Interval>
     Some(agree(a, b))
 }
 
+/// True where an interval is there.
+pub fn known(a: Option<Interval>) -> Option<Interval>
+    ensures { result ≡ lift1 (λ u. point (pos 1)) a }
+{
+    let _a = a?;
+    Some(Interval::point(1))
+}
+
 /// Whether 0 isn't in the interval.
 pub fn misses_zero(a: Interval) -> bool
     ensures { result ≡ misses_zero a }
