@@ -98,7 +98,7 @@ add_zero : (a : Span) → span_add a (point (pos 0)) ≡ a
 unfolding span_add
 add_zero a = span_ext (record { low = a.low +ℤ pos 0; high = a.high +ℤ pos 0 }) a (omega (arith, ints)) (omega (arith, ints))
 
-zero_add : (a : Span) → span_add (point (pos 0)) a ≡ a
+pub zero_add : (a : Span) → span_add (point (pos 0)) a ≡ a
 unfolding span_add
 zero_add a = span_ext (record { low = pos 0 +ℤ a.low; high = pos 0 +ℤ a.high }) a (omega (arith, ints)) (omega (arith, ints))
 
@@ -106,7 +106,7 @@ add_swapped : (a b : Span) → span_add a b ≡ span_add b a
 unfolding span_add
 add_swapped a b = made (a.low +ℤ b.low) (a.high +ℤ b.high) (b.low +ℤ a.low) (b.high +ℤ a.high) (omega (arith, ints)) (omega (arith, ints))
 
-neg_zero : span_neg (point (pos 0)) ≡ point (pos 0)
+pub neg_zero : span_neg (point (pos 0)) ≡ point (pos 0)
 unfolding span_neg
 neg_zero = refl
 

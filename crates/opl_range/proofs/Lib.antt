@@ -8,3 +8,5 @@ pub mod Minus
 pub mod Compare
 pub mod Tables
 pub mod Demands
+pub mod Arms
+pub mod Pairs

@@ -107,7 +107,7 @@ no_counts p z c (suc n) b =
 nonzeros : (c : ℕ → ℤ) (n x : ℕ) → IsLastVariable c n x → count is_nonzero c n ≡ suc (count is_nonzero c x)
 nonzeros c n x v = skip_counts is_nonzero refl c n x v.below v.behind ∙ rw (to_nonzero (c x) v.nonzero) (omega arith)
 
-none_of : (c : ℕ → ℤ) (n : ℕ) → IsLast c n None → is_one_or_two c n ≡ false
+pub none_of : (c : ℕ → ℤ) (n : ℕ) → IsLast c n None → is_one_or_two c n ≡ false
 none_of c n b = rw (no_counts is_nonzero refl c n b) refl
 
 one_of : (c : ℕ → ℤ) (n x : ℕ) → IsLastVariable c n x → IsLast c x None → is_one_or_two c n ≡ true

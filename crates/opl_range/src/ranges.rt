@@ -21,6 +21,7 @@ use opl_list::Seq;
 
 /// What an expression has beside its variables: its constant, and the scaled ranges of the parts that aren't linear.
 #[cycle(ranges)]
+#[tactic(none)]
 fn rest_of<V: View>(core: &Core, e: &Expr, view: &V) -> Option<Interval>
     requires sound { IsSoundTerm core.now.sets (term core.now.tables core.now.resources e.now) }
     requires within { Below (V.family view.now) (declared core.now) }
@@ -63,6 +64,7 @@ fn rest_of<V: View>(core: &Core, e: &Expr, view: &V) -> Option<Interval>
 
 /// The same of a sum.
 #[cycle(ranges)]
+#[tactic(none)]
 fn sum<V: View>(core: &Core, parts: &[Expr], view: &V) -> Option<Interval>
     requires sound { IsSoundTerm core.now.sets (Term.sum (terms_of (map (term core.now.tables core.now.resources) parts.now))) }
     requires within { Below (V.family view.now) (declared core.now) }
@@ -79,6 +81,7 @@ fn sum<V: View>(core: &Core, parts: &[Expr], view: &V) -> Option<Interval>
 
 /// The range of the least of expressions.
 #[cycle(ranges)]
+#[tactic(none)]
 fn least<V: View>(core: &Core, parts: &[Expr], view: &V) -> Option<Interval>
     requires sound { IsSoundTerm core.now.sets (Term.least (terms_of (map (term core.now.tables core.now.resources) parts.now))) }
     requires within { Below (V.family view.now) (declared core.now) }
@@ -96,6 +99,7 @@ fn least<V: View>(core: &Core, parts: &[Expr], view: &V) -> Option<Interval>
 
 /// The range of the greatest of expressions.
 #[cycle(ranges)]
+#[tactic(none)]
 fn greatest<V: View>(core: &Core, parts: &[Expr], view: &V) -> Option<Interval>
     requires sound { IsSoundTerm core.now.sets (Term.greatest (terms_of (map (term core.now.tables core.now.resources) parts.now))) }
     requires within { Below (V.family view.now) (declared core.now) }
@@ -113,6 +117,7 @@ fn greatest<V: View>(core: &Core, parts: &[Expr], view: &V) -> Option<Interval>
 
 /// The hull of the cells that the subscripts may reach; none where they may reach none.
 #[cycle(ranges)]
+#[tactic(none)]
 fn cells<V: View>(core: &Core, dims: &[Seq<i128>], parts: &[Expr], cells: &[Cell], view: &V) -> Option<Interval>
     requires sound { AreSoundTerms core.now.sets (terms_of (map (term core.now.tables core.now.resources) parts.now)) }
     requires subscripts { FitDimensions core.now.sets dims.now (terms_of (map (term core.now.tables core.now.resources) parts.now)) }
@@ -143,6 +148,7 @@ fn cells<V: View>(core: &Core, dims: &[Seq<i128>], parts: &[Expr], cells: &[Cell
 
 /// The range of a constraint over the sets of a view; none where it is surely undefined.
 #[cycle(ranges)]
+#[tactic(none)]
 pub fn cons_range<V: View>(core: &Core, c: &Cons, view: &V) -> Option<Interval>
     requires sound { IsSoundFact core.now.sets (fact core.now.tables core.now.resources c.now) }
     requires within { Below (V.family view.now) (declared core.now) }
@@ -181,6 +187,7 @@ pub fn cons_range<V: View>(core: &Core, c: &Cons, view: &V) -> Option<Interval>
 
 /// The range of all constraints holding.
 #[cycle(ranges)]
+#[tactic(none)]
 fn all<V: View>(core: &Core, parts: &[Cons], view: &V) -> Option<Interval>
     requires sound { AreSoundFacts core.now.sets (facts_of (map (fact core.now.tables core.now.resources) parts.now)) }
     requires within { Below (V.family view.now) (declared core.now) }
@@ -197,6 +204,7 @@ fn all<V: View>(core: &Core, parts: &[Cons], view: &V) -> Option<Interval>
 
 /// The range of some constraint holding.
 #[cycle(ranges)]
+#[tactic(none)]
 fn any<V: View>(core: &Core, parts: &[Cons], view: &V) -> Option<Interval>
     requires sound { AreSoundFacts core.now.sets (facts_of (map (fact core.now.tables core.now.resources) parts.now)) }
     requires within { Below (V.family view.now) (declared core.now) }
@@ -213,6 +221,7 @@ fn any<V: View>(core: &Core, parts: &[Cons], view: &V) -> Option<Interval>
 
 /// The range of expressions being there and differing pairwise.
 #[cycle(ranges)]
+#[tactic(none)]
 fn all_differ<V: View>(core: &Core, parts: &[Expr], view: &V) -> Option<Interval>
     requires sound { AreSoundFacts core.now.sets (facts_of (all_different (map (term core.now.tables core.now.resources) parts.now))) }
     requires within { Below (V.family view.now) (declared core.now) }
