@@ -3,22 +3,25 @@ use Rattle.std.proofs.Common.{◌≡◌, ℕ, zero, suc, ◌+◌, ◌-◌, ◌*�
 use Rattle.std.specs.Prelude.{Option, Some, None, unsigned_abs, slice_get}
 use Rattle.std.proofs.Math.Nat.{mul-le-mul}
 use Rattle.opl_domain.specs.Span.{Span, magnitude, point}
-use Rattle.opl_domain.specs.Arithmetic.{span_add, span_neg, span_mul, span_div, span_rem, span_abs, span_min, span_max}
+use Rattle.opl_domain.specs.Arithmetic.{span_add, span_neg, span_mul, span_div, span_rem, span_abs, span_min, span_max, span_hull}
 use Rattle.opl_domain.specs.Family.{Family, Below}
 use Rattle.opl_expr.specs.declared.model.Core.{Core}
 use Rattle.opl_expr.specs.declared.forms.Expr.{Expr}
 use Rattle.opl_expr.specs.declared.forms.Expr.TheVariants as E
 use Rattle.opl_expr.specs.declared.forms.Cons.{Cons}
-use Rattle.opl_expr.specs.Forms.{Term, Terms, Fact, Facts, terms_of, facts_of, term, fact, product, constant_value}
-use Rattle.opl_expr.specs.Options.{lift, lift1, bind, bind1, lift_all, lift_some}
-use Rattle.opl_expr.specs.Range.{span_scale, rest, ends, range, linears, range_of_linear, fact_range, fact_ranges}
+use Rattle.opl_expr.specs.declared.forms.Op.{Op}
+use Rattle.opl_expr.specs.declared.tables.Cell.{Cell}
+use Rattle.opl_expr.specs.Forms.{Term, Terms, Fact, Facts, terms_of, facts_of, term, fact, compared, product, constant_value}
+use Rattle.opl_expr.specs.Options.{lift, lift1, bind, bind1, lift_some, joined}
+use Rattle.opl_expr.specs.Range.{span_scale, flip, same_truth, taken, chosen, masks, cell_range, may_be, rest, ends, range, linears, range_of_linear, fact_range}
 use Rattle.opl_expr.specs.Solutions.{declared}
 use Rattle.opl_expr.specs.Sound.{IsSmall, term_magnitude, sum_magnitude, IsSoundTerm, AreSoundTerms, IsSoundFact}
 use Rattle.opl_expr.proofs.Bounds.{lift1_parts, sound_small}
-use Rattle.opl_expr.proofs.Parts.{sum_loop}
+use Rattle.opl_expr.proofs.Parts.{sum_loop, any_default, sound_compared}
 use Rattle.opl_expr.proofs.Plain.{term_Neg, term_Mul, term_Div, term_Rem, term_Abs}
 use Rattle.opl_range.specs.Between.{term_of}
-use Rattle.opl_range.proofs.Weights.{hulls_small, rest_bound, range_bound}
+use Rattle.opl_range.proofs.Weights.{hulls_small, rest_bound, range_bound, fact_truth}
+use Rattle.opl_range.proofs.Demands.{max_zero}
 use Rattle.opl_range.proofs.Parts.{part_before, scaled_small, product_left, product_right, product_whole}
 use Rattle.opl_range.proofs.Compare.{rest_small}
 
@@ -122,3 +125,51 @@ module _ (core : Core) (F : Family) where
       → x ≡ lift_some f (map (range_of_linear F) (linears F (terms_of (map (term_of core) (drop (length xs - 1) xs)))))
   extreme_last f xs e r x h i j k =
       k ∙ ap (ends F (term_of core e)) j ∙ ap (λ ys. lift_some f (map (range_of_linear F) (linears F (terms_of (map (term_of core) ys))))) (sym (last_one xs e h i))
+
+  pub by_form : (e : Expr) (t : Term) (q : Option Span) → term_of core e ≡ t → q ≡ rest F t → q ≡ rest F (term_of core e)
+  by_form e t q i j = j ∙ ap (rest F) (sym i)
+
+  pub by_fact : (c : Cons) (t : Fact) (q : Option Span) → fact core.tables core.resources c ≡ t → q ≡ fact_range F t → q ≡ fact_range F (fact core.tables core.resources c)
+  by_fact c t q i j = j ∙ ap (fact_range F) (sym i)
+
+  pub and_more : (xs : List Cons) (L : ℕ) (c : Cons) (r q found : Option Span) → 0 < L → L ≤ length xs → c ≡ get_or xs (L - 1) c → r ≡ fact_range F (fact core.tables core.resources c)
+      → found ≡ fact_range F (Fact.and (facts_of (map (fact core.tables core.resources) (drop L xs)))) → q ≡ lift span_min r found → q ≡ fact_range F (Fact.and (facts_of (map (fact core.tables core.resources) (drop (L - 1) xs))))
+  and_more xs L c r q found p h i j k l =
+      l ∙ ap (λ o. lift span_min o found) j ∙ ap (lift span_min (fact_range F (fact core.tables core.resources c))) k ∙ ap (λ ys. fact_range F (Fact.and (facts_of (map (fact core.tables core.resources) ys)))) (sym (part_before xs L c p h i))
+
+  pub or_more : (xs : List Cons) (L : ℕ) (c : Cons) (r q found : Option Span) → 0 < L → L ≤ length xs → c ≡ get_or xs (L - 1) c → r ≡ fact_range F (fact core.tables core.resources c)
+      → found ≡ fact_range F (Fact.or (facts_of (map (fact core.tables core.resources) (drop L xs)))) → q ≡ lift span_max r found → q ≡ fact_range F (Fact.or (facts_of (map (fact core.tables core.resources) (drop (L - 1) xs))))
+  or_more xs L c r q found p h i j k l =
+      l ∙ ap (λ o. lift span_max o found) j ∙ ap (lift span_max (fact_range F (fact core.tables core.resources c))) k ∙ ap (λ ys. fact_range F (Fact.or (facts_of (map (fact core.tables core.resources) ys)))) (sym (part_before xs L c p h i))
+
+  or_end : (c : Fact) → lift span_max (fact_range F c) (Some (point (pos 0))) ≡ fact_range F c
+  or_end c = elim (fact_range F c) as (λ o. fact_range F c ≡ o → lift span_max o (Some (point (pos 0))) ≡ o) [ None ↦ λ e. refl | Some r ↦ λ e. ap Some (max_zero r (fact_truth F c r e)) ] refl
+
+  pub imp_arm : (a b p s : Cons) (x y z q : Option Span) → p ≡ a → s ≡ b → x ≡ fact_range F (fact core.tables core.resources p) → y ≡ lift1 flip x → z ≡ fact_range F (fact core.tables core.resources s) → q ≡ lift span_max y z
+      → q ≡ fact_range F (Fact.or (Facts.more_facts (Fact.not (fact core.tables core.resources a)) (Facts.more_facts (fact core.tables core.resources b) Facts.no_facts)))
+  imp_arm a b p s x y z q i j k l m n =
+      n ∙ ap (λ o. lift span_max o z) (l ∙ ap (lift1 flip) (k ∙ ap (λ c. fact_range F (fact core.tables core.resources c)) i))
+      ∙ ap (lift span_max (lift1 flip (fact_range F (fact core.tables core.resources a)))) (m ∙ ap (λ c. fact_range F (fact core.tables core.resources c)) j ∙ sym (or_end (fact core.tables core.resources b)))
+
+  pub iff_arm : (a b p s : Cons) (x z q : Option Span) → p ≡ a → s ≡ b → x ≡ fact_range F (fact core.tables core.resources p) → z ≡ fact_range F (fact core.tables core.resources s) → q ≡ lift same_truth x z
+      → q ≡ fact_range F (Fact.iff (fact core.tables core.resources a) (fact core.tables core.resources b))
+  iff_arm a b p s x z q i j k m n =
+      n ∙ ap (λ o. lift same_truth o z) (k ∙ ap (λ c. fact_range F (fact core.tables core.resources c)) i)
+      ∙ ap (lift same_truth (fact_range F (fact core.tables core.resources a))) (m ∙ ap (λ c. fact_range F (fact core.tables core.resources c)) j)
+
+  pub cells_same : (D d : List (List ℤ)) (P p : List Expr) (C c : List Cell) → d ≡ D → p ≡ P → c ≡ C
+      → joined span_hull (map (cell_range F) (chosen (taken (masks (may_be F) d (linears F (terms_of (map (term_of core) p))))) c)) ≡ joined span_hull (map (cell_range F) (chosen (taken (masks (may_be F) D (linears F (terms_of (map (term_of core) P))))) C))
+  cells_same D d P p C c i j k = rw (i, j, k) refl
+
+pub one_place : (xs : List Expr) (k : ℕ) (a b : Expr) → k < length xs → a ≡ get_or xs k a → b ≡ get_or xs k b → a ≡ b
+one_place xs k a b h i j = i ∙ any_default xs k a b h ∙ sym j
+
+module _ (core : Core) (op : Op) (a b : Expr) where
+  pub cmp_first : (p : Expr) → p ≡ a → IsSoundFact core.sets (compared op (term_of core a) (term_of core b)) → IsSoundTerm core.sets (term_of core p)
+  cmp_first p i s = subst (λ z. IsSoundTerm core.sets (term_of core z)) (sym i) (sound_compared core.sets op (term_of core a) (term_of core b) s).first
+
+  pub cmp_second : (p : Expr) → p ≡ b → IsSoundFact core.sets (compared op (term_of core a) (term_of core b)) → IsSoundTerm core.sets (term_of core p)
+  cmp_second p i s = subst (λ z. IsSoundTerm core.sets (term_of core z)) (sym i) (sound_compared core.sets op (term_of core a) (term_of core b) s).second
+
+  pub cmp_same : (p q : Expr) → p ≡ a → q ≡ b → IsSoundFact core.sets (compared op (term_of core a) (term_of core b)) → IsSoundFact core.sets (compared op (term_of core p) (term_of core q))
+  cmp_same p q i j s = subst (λ z. IsSoundFact core.sets (compared op (term_of core z) (term_of core q))) (sym i) (subst (λ z. IsSoundFact core.sets (compared op (term_of core a) (term_of core z))) (sym j) s)

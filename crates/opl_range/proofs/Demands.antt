@@ -7,7 +7,7 @@ use Rattle.std.specs.Prelude.{FitsSigned}
 use Rattle.std.proofs.Common.{to_z, of_z}
 use mir.Syntax.{w64, w128}
 use Rattle.opl_domain.specs.Span.{Span, smaller, larger, magnitude, point, least_of, hull_of}
-use Rattle.opl_domain.specs.Arithmetic.{span_add, span_neg, span_min}
+use Rattle.opl_domain.specs.Arithmetic.{span_add, span_neg, span_min, span_max}
 use Rattle.opl_domain.specs.Family.{Family, set_of, hull, Below}
 use Rattle.opl_domain.proofs.Members.{least_member, greatest_is}
 use Rattle.opl_domain.proofs.Numbers.{smaller_tells, larger_tells}
@@ -319,3 +319,7 @@ capacity_fits core F r t total p n w s i j k =
 
 pub point_is : (t : ℤ) (p : Span) → FitsSigned w64 t → p ≡ point (to_z w128 (of_z w128 (to_z w64 (of_z w64 t)))) → p ≡ point t
 point_is t p f e = e ∙ ap point (omega (arith, ints, to_z-of_z w64 t f))
+
+pub max_zero : (a : Span) → IsTruth a → span_max a (point (pos 0)) ≡ a
+unfolding span_max
+max_zero a t = span_ext (record { low = larger a.low (pos 0); high = larger a.high (pos 0) }) a (larger_back a.low (pos 0) t.low_least) (larger_back a.high (pos 0) t.high_least)

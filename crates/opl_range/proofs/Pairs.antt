@@ -22,11 +22,11 @@ surely_zero : (F : Family) (c : ℕ → ℤ) (n : ℕ) (p : Bool) → ((x : ℕ)
 unfolding compare never_zero with_variables
 surely_zero F c n p h =
     let w : span_add (point (pos 0)) (weighted F c n) ≡ point (pos 0) = ap (span_add (point (pos 0))) (weighted_zero F c n h) ∙ zero_add (point (pos 0)) in
-    rw (w, none_of c n (λ y i. h y)) (open p)
+    rw (w, none_of c n (λ y i. h y)) (at_zero p)
   where
-    open : (p : Bool) → verdict true (cond (p && false) (cond (has_zero F c (pos 0) n) false true) false) ≡ point (pos 1)
-    open true = refl
-    open false = refl
+    at_zero : (p : Bool) → verdict true (cond (p && false) (cond (has_zero F c (pos 0) n) false true) false) ≡ point (pos 1)
+    at_zero true = refl
+    at_zero false = refl
 
 nothing_left : (r : Span) → span_add (span_scale (pos 0) r) (span_neg (point (pos 0))) ≡ point (pos 0)
 nothing_left r = rw (scale_zero r, neg_zero) (zero_add (point (pos 0)))

@@ -99,8 +99,11 @@ module _ {X : Type 0} (F : Family) (f : X → Term) (dims : List (List ℤ)) (pa
     pub below : place < size
     pub same : bit (marks 0) cell ≡ bit (marks k) place
 
-  abbrev linear : X → Linear
+  abbrev pub linear : X → Linear
   linear x = record { coef = coef (f x); pure = pure (f x); rest = rest F (f x) }
+
+  pub whole_length : (n : ℕ) → length parts ≡ length dims → n ≡ keys dims → length (taken (marks 0)) ≡ n
+  whole_length n l e = length_taken (may_be F) dims (linears F (terms_of (map f parts))) (length_linears F f parts ∙ l) ∙ sym e
 
   pub reach_start : (cell n : ℕ) → n ≡ keys dims → cell < n → IsReached cell 0 n cell
   reach_start cell n e h = record { whole = e; below = h; same = refl }
@@ -219,3 +222,6 @@ index_fits sets f (x ∷ dims) (y ∷ parts) zero p dim d part s h e i g =
     let a : unsigned_abs (get_or dim p (pos 0)) ≤ greatest_abs x = subst (λ z. unsigned_abs (get_or dim p (pos 0)) ≤ greatest_abs z) e (abs_at dim p g) in
     omega (arith, s.0, a, ap (λ z. term_magnitude sets (f z)) i)
 index_fits sets f (x ∷ dims) (y ∷ parts) (suc k) p dim d part s h e i g = index_fits sets f dims parts k p dim d part s.1 (omega (arith, h)) e i g
+
+pub fit_same : {X : Type 0} (sets : List (ℤ × ℤ)) (f : X → Term) (D d : List (List ℤ)) (P p : List X) → d ≡ D → p ≡ P → FitDimensions sets D (terms_of (map f P)) → FitDimensions sets d (terms_of (map f p))
+fit_same sets f D d P p i j s = subst (λ z. FitDimensions sets z (terms_of (map f p))) (sym i) (subst (λ z. FitDimensions sets D (terms_of (map f z))) (sym j) s)
