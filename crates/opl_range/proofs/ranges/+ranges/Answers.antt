@@ -25,7 +25,7 @@ use Rattle.opl_range.proofs.ranges.+ranges.Goals as goal
 
 pub rest_of-sum-requires : goal.rest_of-sum-requires
 rest_of-sum-requires g t c κs within =
-    let core = c.args.core.now in let F = g.V.View.family c.args.view.now in (search (rules, the_lemmas), (sum_parts core.tables core.resources core.sets _ _ _ c.in-Sum.is c.as_slice.ensures c.requires.sound, c.requires.within))
+    let core = c.args.core.now in let F = g.V.View.family c.args.view.now in (search (rules, the_lemmas), (within, (sum_parts core.tables core.resources core.sets _ _ _ c.in-Sum.is c.as_slice.ensures c.requires.sound, c.requires.within)))
 
 pub rest_of-returns-in-Sum : goal.rest_of-returns-in-Sum
 rest_of-returns-in-Sum g t c =
@@ -45,7 +45,7 @@ rest_of-returns-in-Ask g t c =
 
 pub rest_of-rest_of-requires : goal.rest_of-rest_of-requires
 rest_of-rest_of-requires g t c κs within =
-    let core = c.args.core.now in let F = g.V.View.family c.args.view.now in (search (rules, the_lemmas), (neg_part core.tables core.resources core.sets _ _ _ c.in-Neg.is c.get.ensures c.requires.sound, c.requires.within))
+    let core = c.args.core.now in let F = g.V.View.family c.args.view.now in (search (rules, the_lemmas), (within, (neg_part core.tables core.resources core.sets _ _ _ c.in-Neg.is c.get.ensures c.requires.sound, c.requires.within)))
 
 pub rest_of-negative-requires : goal.rest_of-negative-requires
 rest_of-negative-requires g t c =
@@ -57,7 +57,7 @@ rest_of-returns-in-Neg g t c =
 
 pub rest_of-rest_of-requires-in-Some : goal.rest_of-rest_of-requires-in-Some
 rest_of-rest_of-requires-in-Some g t c κs within =
-    let core = c.args.core.now in let F = g.V.View.family c.args.view.now in (search (rules, the_lemmas), (mul_second core.tables core.resources core.sets _ _ _ _ c.in-Mul.is c.get-in-Some.ensures c.requires.sound, c.requires.within))
+    let core = c.args.core.now in let F = g.V.View.family c.args.view.now in (search (rules, the_lemmas), (within, (mul_second core.tables core.resources core.sets _ _ _ _ c.in-Mul.is c.get-in-Some.ensures c.requires.sound, c.requires.within)))
 
 pub rest_of-multiple-requires : goal.rest_of-multiple-requires
 rest_of-multiple-requires g t c =
@@ -69,7 +69,7 @@ rest_of-returns-in-Some g t c =
 
 pub rest_of-rest_of-requires-in-Some-constant : goal.rest_of-rest_of-requires-in-Some-constant
 rest_of-rest_of-requires-in-Some-constant g t c κs within =
-    let core = c.args.core.now in let F = g.V.View.family c.args.view.now in (search (rules, the_lemmas), (mul_first core.tables core.resources core.sets _ _ _ _ c.in-Mul.is c.get-in-Some-constant.ensures c.requires.sound, c.requires.within))
+    let core = c.args.core.now in let F = g.V.View.family c.args.view.now in (search (rules, the_lemmas), (within, (mul_first core.tables core.resources core.sets _ _ _ _ c.in-Mul.is c.get-in-Some-constant.ensures c.requires.sound, c.requires.within)))
 
 pub rest_of-multiple-requires-in-Some-constant : goal.rest_of-multiple-requires-in-Some-constant
 rest_of-multiple-requires-in-Some-constant g t c =
@@ -81,11 +81,11 @@ rest_of-returns-in-Some-constant g t c =
 
 pub rest_of-rest_of-requires-in-None-constant : goal.rest_of-rest_of-requires-in-None-constant
 rest_of-rest_of-requires-in-None-constant g t c κs within =
-    let core = c.args.core.now in let F = g.V.View.family c.args.view.now in (search (rules, the_lemmas), (mul_first core.tables core.resources core.sets _ _ _ _ c.in-Mul.is c.get-in-None-constant-2.ensures c.requires.sound, c.requires.within))
+    let core = c.args.core.now in let F = g.V.View.family c.args.view.now in (search (rules, the_lemmas), (within, (mul_first core.tables core.resources core.sets _ _ _ _ c.in-Mul.is c.get-in-None-constant-2.ensures c.requires.sound, c.requires.within)))
 
 pub rest_of-rest_of-requires-in-None-constant-2 : goal.rest_of-rest_of-requires-in-None-constant-2
 rest_of-rest_of-requires-in-None-constant-2 g t c κs within =
-    let core = c.args.core.now in let F = g.V.View.family c.args.view.now in (search (rules, the_lemmas), (mul_second core.tables core.resources core.sets _ _ _ _ c.in-Mul.is c.get-in-None-constant-4.ensures c.requires.sound, c.requires.within))
+    let core = c.args.core.now in let F = g.V.View.family c.args.view.now in (search (rules, the_lemmas), (within, (mul_second core.tables core.resources core.sets _ _ _ _ c.in-Mul.is c.get-in-None-constant-4.ensures c.requires.sound, c.requires.within)))
 
 pub rest_of-range_of_rest-requires-clause-sound : goal.rest_of-range_of_rest-requires-clause-sound
 rest_of-range_of_rest-requires-clause-sound g t c =
@@ -121,11 +121,11 @@ rest_of-returns-in-None-constant g t c =
 
 pub rest_of-rest_of-requires-in-Div : goal.rest_of-rest_of-requires-in-Div
 rest_of-rest_of-requires-in-Div g t c κs within =
-    let core = c.args.core.now in let F = g.V.View.family c.args.view.now in (search (rules, the_lemmas), (div_first core.tables core.resources core.sets _ _ _ _ c.in-Div.is c.get-in-Div-2.ensures c.requires.sound, c.requires.within))
+    let core = c.args.core.now in let F = g.V.View.family c.args.view.now in (search (rules, the_lemmas), (within, (div_first core.tables core.resources core.sets _ _ _ _ c.in-Div.is c.get-in-Div-2.ensures c.requires.sound, c.requires.within)))
 
 pub rest_of-rest_of-requires-in-Div-2 : goal.rest_of-rest_of-requires-in-Div-2
 rest_of-rest_of-requires-in-Div-2 g t c κs within =
-    let core = c.args.core.now in let F = g.V.View.family c.args.view.now in (search (rules, the_lemmas), (div_second core.tables core.resources core.sets _ _ _ _ c.in-Div.is c.get-in-Div-4.ensures c.requires.sound, c.requires.within))
+    let core = c.args.core.now in let F = g.V.View.family c.args.view.now in (search (rules, the_lemmas), (within, (div_second core.tables core.resources core.sets _ _ _ _ c.in-Div.is c.get-in-Div-4.ensures c.requires.sound, c.requires.within)))
 
 pub rest_of-range_of_rest-requires-in-Div-clause-sound : goal.rest_of-range_of_rest-requires-in-Div-clause-sound
 rest_of-range_of_rest-requires-in-Div-clause-sound g t c =
@@ -165,11 +165,11 @@ rest_of-returns-in-Div g t c =
 
 pub rest_of-rest_of-requires-in-Rem : goal.rest_of-rest_of-requires-in-Rem
 rest_of-rest_of-requires-in-Rem g t c κs within =
-    let core = c.args.core.now in let F = g.V.View.family c.args.view.now in (search (rules, the_lemmas), (rem_first core.tables core.resources core.sets _ _ _ _ c.in-Rem.is c.get-in-Rem-2.ensures c.requires.sound, c.requires.within))
+    let core = c.args.core.now in let F = g.V.View.family c.args.view.now in (search (rules, the_lemmas), (within, (rem_first core.tables core.resources core.sets _ _ _ _ c.in-Rem.is c.get-in-Rem-2.ensures c.requires.sound, c.requires.within)))
 
 pub rest_of-rest_of-requires-in-Rem-2 : goal.rest_of-rest_of-requires-in-Rem-2
 rest_of-rest_of-requires-in-Rem-2 g t c κs within =
-    let core = c.args.core.now in let F = g.V.View.family c.args.view.now in (search (rules, the_lemmas), (rem_second core.tables core.resources core.sets _ _ _ _ c.in-Rem.is c.get-in-Rem-4.ensures c.requires.sound, c.requires.within))
+    let core = c.args.core.now in let F = g.V.View.family c.args.view.now in (search (rules, the_lemmas), (within, (rem_second core.tables core.resources core.sets _ _ _ _ c.in-Rem.is c.get-in-Rem-4.ensures c.requires.sound, c.requires.within)))
 
 pub rest_of-range_of_rest-requires-in-Rem-clause-sound : goal.rest_of-range_of_rest-requires-in-Rem-clause-sound
 rest_of-range_of_rest-requires-in-Rem-clause-sound g t c =
@@ -209,7 +209,7 @@ rest_of-returns-in-Rem g t c =
 
 pub rest_of-rest_of-requires-in-Abs : goal.rest_of-rest_of-requires-in-Abs
 rest_of-rest_of-requires-in-Abs g t c κs within =
-    let core = c.args.core.now in let F = g.V.View.family c.args.view.now in (search (rules, the_lemmas), (abs_part core.tables core.resources core.sets _ _ _ c.in-Abs.is c.get-in-Abs-2.ensures c.requires.sound, c.requires.within))
+    let core = c.args.core.now in let F = g.V.View.family c.args.view.now in (search (rules, the_lemmas), (within, (abs_part core.tables core.resources core.sets _ _ _ c.in-Abs.is c.get-in-Abs-2.ensures c.requires.sound, c.requires.within)))
 
 pub rest_of-range_of_rest-requires-in-Abs-clause-sound : goal.rest_of-range_of_rest-requires-in-Abs-clause-sound
 rest_of-range_of_rest-requires-in-Abs-clause-sound g t c =
@@ -233,7 +233,7 @@ rest_of-returns-in-Abs g t c =
 
 pub rest_of-least-requires : goal.rest_of-least-requires
 rest_of-least-requires g t c κs within =
-    let core = c.args.core.now in let F = g.V.View.family c.args.view.now in (search (rules, the_lemmas), (least_parts core.tables core.resources core.sets _ _ _ c.in-Min.is c.as_slice-in-Min.ensures c.requires.sound, c.requires.within))
+    let core = c.args.core.now in let F = g.V.View.family c.args.view.now in (search (rules, the_lemmas), (within, (least_parts core.tables core.resources core.sets _ _ _ c.in-Min.is c.as_slice-in-Min.ensures c.requires.sound, c.requires.within)))
 
 pub rest_of-returns-in-Min : goal.rest_of-returns-in-Min
 rest_of-returns-in-Min g t c =
@@ -241,7 +241,7 @@ rest_of-returns-in-Min g t c =
 
 pub rest_of-greatest-requires : goal.rest_of-greatest-requires
 rest_of-greatest-requires g t c κs within =
-    let core = c.args.core.now in let F = g.V.View.family c.args.view.now in (search (rules, the_lemmas), (greatest_parts core.tables core.resources core.sets _ _ _ c.in-Max.is c.as_slice-in-Max.ensures c.requires.sound, c.requires.within))
+    let core = c.args.core.now in let F = g.V.View.family c.args.view.now in (search (rules, the_lemmas), (within, (greatest_parts core.tables core.resources core.sets _ _ _ c.in-Max.is c.as_slice-in-Max.ensures c.requires.sound, c.requires.within)))
 
 pub rest_of-returns-in-Max : goal.rest_of-returns-in-Max
 rest_of-returns-in-Max g t c =
@@ -249,7 +249,7 @@ rest_of-returns-in-Max g t c =
 
 pub rest_of-cons_range-requires : goal.rest_of-cons_range-requires
 rest_of-cons_range-requires g t c κs within =
-    let core = c.args.core.now in let F = g.V.View.family c.args.view.now in (search (rules, the_lemmas), (subst (λ z. IsSoundFact core.sets (fact core.tables core.resources z)) (sym c.get-in-Truth.ensures) (subst (IsSoundTerm core.sets) (ap (term_of core) c.in-Truth.is ∙ term_Truth core.tables core.resources c.in-Truth.c) c.requires.sound), c.requires.within))
+    let core = c.args.core.now in let F = g.V.View.family c.args.view.now in (search (rules, the_lemmas), (within, (subst (λ z. IsSoundFact core.sets (fact core.tables core.resources z)) (sym c.get-in-Truth.ensures) (subst (IsSoundTerm core.sets) (ap (term_of core) c.in-Truth.is ∙ term_Truth core.tables core.resources c.in-Truth.c) c.requires.sound), c.requires.within)))
 
 pub rest_of-returns-in-Truth : goal.rest_of-returns-in-Truth
 rest_of-returns-in-Truth g t c =
@@ -261,7 +261,7 @@ rest_of-returns-in-None-get g t c =
 
 pub rest_of-cells-requires : goal.rest_of-cells-requires
 rest_of-cells-requires g t c κs within =
-    let core = c.args.core.now in let F = g.V.View.family c.args.view.now in let s = subst (IsSoundTerm core.sets) (ap (term_of core) c.in-At.is ∙ term_At core.tables core.resources c.in-At.table c.in-At.parts ∙ ap (λ o. Term.at o (terms_of (map (term_of core) c.in-At.parts))) (sym c.in-Some-get.ensures.value)) c.requires.sound in (search (rules, the_lemmas), (subst (λ z. AreSoundTerms core.sets (terms_of (map (term_of core) z))) (sym c.as_slice-in-Some-get-2.ensures) s.3, (fit_same core.sets (term_of core) _ _ _ _ c.as_slice-in-Some-get.ensures c.as_slice-in-Some-get-2.ensures s.2, (ap length c.as_slice-in-Some-get-3.ensures ∙ s.1.0 ∙ sym (ap keys c.as_slice-in-Some-get.ensures), (ap (list_all (is_there (length core.sets))) c.as_slice-in-Some-get-3.ensures ∙ s.1.2, c.requires.within)))))
+    let core = c.args.core.now in let F = g.V.View.family c.args.view.now in let s = subst (IsSoundTerm core.sets) (ap (term_of core) c.in-At.is ∙ term_At core.tables core.resources c.in-At.table c.in-At.parts ∙ ap (λ o. Term.at o (terms_of (map (term_of core) c.in-At.parts))) (sym c.in-Some-get.ensures.value)) c.requires.sound in (search (rules, the_lemmas), (within, (subst (λ z. AreSoundTerms core.sets (terms_of (map (term_of core) z))) (sym c.as_slice-in-Some-get-2.ensures) s.3, (fit_same core.sets (term_of core) _ _ _ _ c.as_slice-in-Some-get.ensures c.as_slice-in-Some-get-2.ensures s.2, (ap length c.as_slice-in-Some-get-3.ensures ∙ s.1.0 ∙ sym (ap keys c.as_slice-in-Some-get.ensures), (ap (list_all (is_there (length core.sets))) c.as_slice-in-Some-get-3.ensures ∙ s.1.2, c.requires.within))))))
 
 pub rest_of-returns-in-Some-get : goal.rest_of-returns-in-Some-get
 rest_of-returns-in-Some-get g t c =
@@ -269,7 +269,7 @@ rest_of-returns-in-Some-get g t c =
 
 pub sum-rest_of-requires : goal.sum-rest_of-requires
 sum-rest_of-requires g t c κs within =
-    let core = c.args.core.now in let F = g.V.View.family c.args.view.now in (search (rules, the_lemmas), (sound_at core.sets (term_of core) c.args.parts.now (c.loop-left.left - 1) c.index-parts-left.result (omega (arith, c.loop-left.invariant.0, c.loop-left-test.true)) c.index-parts-left.is c.requires.sound.1, c.requires.within))
+    let core = c.args.core.now in let F = g.V.View.family c.args.view.now in (search (rules, the_lemmas), (within, (sound_at core.sets (term_of core) c.args.parts.now (c.loop-left.left - 1) c.index-parts-left.result (omega (arith, c.loop-left.invariant.0, c.loop-left-test.true)) c.index-parts-left.is c.requires.sound.1, c.requires.within)))
 
 pub sum-sum-found-requires : goal.sum-sum-found-requires
 sum-sum-found-requires g t c =
@@ -301,7 +301,7 @@ least-overflow_sub-left g t c =
 
 pub least-rest_of-requires : goal.least-rest_of-requires
 least-rest_of-requires g t c κs within =
-    let core = c.args.core.now in let F = g.V.View.family c.args.view.now in (search (rules, the_lemmas), (sound_at core.sets (term_of core) c.args.parts.now (length c.args.parts.now - 1) c.index-parts-left-2.result (omega (arith, some_terms (term_of core) c.args.parts.now c.requires.sound.0)) c.index-parts-left-2.is c.requires.sound.1, c.requires.within))
+    let core = c.args.core.now in let F = g.V.View.family c.args.view.now in let some : 0 < length c.args.parts.now = some_terms (term_of core) c.args.parts.now c.requires.sound.0 in (search (rules, the_lemmas), (within, (sound_at core.sets (term_of core) c.args.parts.now (length c.args.parts.now - 1) c.index-parts-left-2.result (omega (arith, some_terms (term_of core) c.args.parts.now c.requires.sound.0)) c.index-parts-left-2.is c.requires.sound.1, c.requires.within)))
 
 pub least-range_of_rest-found-requires-clause-sound : goal.least-range_of_rest-found-requires-clause-sound
 least-range_of_rest-found-requires-clause-sound g t c =
@@ -317,7 +317,7 @@ least-range_of_rest-found-requires-clause-beside g t c =
 
 pub least-rest_of-requires-in-loop-left : goal.least-rest_of-requires-in-loop-left
 least-rest_of-requires-in-loop-left g t c κs within =
-    let core = c.args.core.now in let F = g.V.View.family c.args.view.now in (search (rules, the_lemmas), (sound_at core.sets (term_of core) c.args.parts.now (c.loop-left.left - 1) c.index-parts-left-in-loop-left.result (omega (arith, c.loop-left.invariant.0, c.loop-left-test.true)) c.index-parts-left-in-loop-left.is c.requires.sound.1, c.requires.within))
+    let core = c.args.core.now in let F = g.V.View.family c.args.view.now in (search (rules, the_lemmas), (within, (sound_at core.sets (term_of core) c.args.parts.now (c.loop-left.left - 1) c.index-parts-left-in-loop-left.result (omega (arith, c.loop-left.invariant.0, c.loop-left-test.true)) c.index-parts-left-in-loop-left.is c.requires.sound.1, c.requires.within)))
 
 pub least-range_of_rest-requires-clause-sound : goal.least-range_of_rest-requires-clause-sound
 least-range_of_rest-requires-clause-sound g t c =
@@ -357,7 +357,7 @@ greatest-overflow_sub-left g t c =
 
 pub greatest-rest_of-requires : goal.greatest-rest_of-requires
 greatest-rest_of-requires g t c κs within =
-    let core = c.args.core.now in let F = g.V.View.family c.args.view.now in (search (rules, the_lemmas), (sound_at core.sets (term_of core) c.args.parts.now (length c.args.parts.now - 1) c.index-parts-left-2.result (omega (arith, some_terms (term_of core) c.args.parts.now c.requires.sound.0)) c.index-parts-left-2.is c.requires.sound.1, c.requires.within))
+    let core = c.args.core.now in let F = g.V.View.family c.args.view.now in let some : 0 < length c.args.parts.now = some_terms (term_of core) c.args.parts.now c.requires.sound.0 in (search (rules, the_lemmas), (within, (sound_at core.sets (term_of core) c.args.parts.now (length c.args.parts.now - 1) c.index-parts-left-2.result (omega (arith, some_terms (term_of core) c.args.parts.now c.requires.sound.0)) c.index-parts-left-2.is c.requires.sound.1, c.requires.within)))
 
 pub greatest-range_of_rest-found-requires-clause-sound : goal.greatest-range_of_rest-found-requires-clause-sound
 greatest-range_of_rest-found-requires-clause-sound g t c =
@@ -373,7 +373,7 @@ greatest-range_of_rest-found-requires-clause-beside g t c =
 
 pub greatest-rest_of-requires-in-loop-left : goal.greatest-rest_of-requires-in-loop-left
 greatest-rest_of-requires-in-loop-left g t c κs within =
-    let core = c.args.core.now in let F = g.V.View.family c.args.view.now in (search (rules, the_lemmas), (sound_at core.sets (term_of core) c.args.parts.now (c.loop-left.left - 1) c.index-parts-left-in-loop-left.result (omega (arith, c.loop-left.invariant.0, c.loop-left-test.true)) c.index-parts-left-in-loop-left.is c.requires.sound.1, c.requires.within))
+    let core = c.args.core.now in let F = g.V.View.family c.args.view.now in (search (rules, the_lemmas), (within, (sound_at core.sets (term_of core) c.args.parts.now (c.loop-left.left - 1) c.index-parts-left-in-loop-left.result (omega (arith, c.loop-left.invariant.0, c.loop-left-test.true)) c.index-parts-left-in-loop-left.is c.requires.sound.1, c.requires.within)))
 
 pub greatest-range_of_rest-requires-clause-sound : goal.greatest-range_of_rest-requires-clause-sound
 greatest-range_of_rest-requires-clause-sound g t c =
@@ -401,7 +401,7 @@ greatest-returns g t c =
 
 pub all-cons_range-requires : goal.all-cons_range-requires
 all-cons_range-requires g t c κs within =
-    let core = c.args.core.now in let F = g.V.View.family c.args.view.now in (search (rules, the_lemmas), (sound_fact_at core.sets (fact core.tables core.resources) c.args.parts.now (c.loop-left.left - 1) c.index-parts-left.result (omega (arith, c.loop-left.invariant.0, c.loop-left-test.true)) c.index-parts-left.is c.requires.sound, c.requires.within))
+    let core = c.args.core.now in let F = g.V.View.family c.args.view.now in (search (rules, the_lemmas), (within, (sound_fact_at core.sets (fact core.tables core.resources) c.args.parts.now (c.loop-left.left - 1) c.index-parts-left.result (omega (arith, c.loop-left.invariant.0, c.loop-left-test.true)) c.index-parts-left.is c.requires.sound, c.requires.within)))
 
 pub all-loop-left-preserved : goal.all-loop-left-preserved
 all-loop-left-preserved g t c =
@@ -417,7 +417,7 @@ all-loop-left-init g t c =
 
 pub any-cons_range-requires : goal.any-cons_range-requires
 any-cons_range-requires g t c κs within =
-    let core = c.args.core.now in let F = g.V.View.family c.args.view.now in (search (rules, the_lemmas), (sound_fact_at core.sets (fact core.tables core.resources) c.args.parts.now (c.loop-left.left - 1) c.index-parts-left.result (omega (arith, c.loop-left.invariant.0, c.loop-left-test.true)) c.index-parts-left.is c.requires.sound, c.requires.within))
+    let core = c.args.core.now in let F = g.V.View.family c.args.view.now in (search (rules, the_lemmas), (within, (sound_fact_at core.sets (fact core.tables core.resources) c.args.parts.now (c.loop-left.left - 1) c.index-parts-left.result (omega (arith, c.loop-left.invariant.0, c.loop-left-test.true)) c.index-parts-left.is c.requires.sound, c.requires.within)))
 
 pub any-loop-left-preserved : goal.any-loop-left-preserved
 any-loop-left-preserved g t c =
@@ -441,11 +441,11 @@ cons_range-returns-in-Bound g t c =
 
 pub cons_range-rest_of-requires : goal.cons_range-rest_of-requires
 cons_range-rest_of-requires g t c κs within =
-    let core = c.args.core.now in let F = g.V.View.family c.args.view.now in (search (rules, the_lemmas), (cmp_first core c.in-Cmp.op c.in-Cmp.a c.in-Cmp.b _ c.get-in-Cmp.ensures (subst (IsSoundFact core.sets) (ap (fact core.tables core.resources) c.in-Cmp.is ∙ fact_Cmp core.tables core.resources c.in-Cmp.op c.in-Cmp.a c.in-Cmp.b) c.requires.sound), c.requires.within))
+    let core = c.args.core.now in let F = g.V.View.family c.args.view.now in (search (rules, the_lemmas), (within, (cmp_first core c.in-Cmp.op c.in-Cmp.a c.in-Cmp.b _ c.get-in-Cmp.ensures (subst (IsSoundFact core.sets) (ap (fact core.tables core.resources) c.in-Cmp.is ∙ fact_Cmp core.tables core.resources c.in-Cmp.op c.in-Cmp.a c.in-Cmp.b) c.requires.sound), c.requires.within)))
 
 pub cons_range-rest_of-requires-in-Cmp : goal.cons_range-rest_of-requires-in-Cmp
 cons_range-rest_of-requires-in-Cmp g t c κs within =
-    let core = c.args.core.now in let F = g.V.View.family c.args.view.now in (search (rules, the_lemmas), (cmp_second core c.in-Cmp.op c.in-Cmp.a c.in-Cmp.b _ c.get-in-Cmp-3.ensures (subst (IsSoundFact core.sets) (ap (fact core.tables core.resources) c.in-Cmp.is ∙ fact_Cmp core.tables core.resources c.in-Cmp.op c.in-Cmp.a c.in-Cmp.b) c.requires.sound), c.requires.within))
+    let core = c.args.core.now in let F = g.V.View.family c.args.view.now in (search (rules, the_lemmas), (within, (cmp_second core c.in-Cmp.op c.in-Cmp.a c.in-Cmp.b _ c.get-in-Cmp-3.ensures (subst (IsSoundFact core.sets) (ap (fact core.tables core.resources) c.in-Cmp.is ∙ fact_Cmp core.tables core.resources c.in-Cmp.op c.in-Cmp.a c.in-Cmp.b) c.requires.sound), c.requires.within)))
 
 pub cons_range-compared-requires-clause-sound : goal.cons_range-compared-requires-clause-sound
 cons_range-compared-requires-clause-sound g t c =
@@ -469,7 +469,7 @@ cons_range-returns-in-Cmp g t c =
 
 pub cons_range-all-requires : goal.cons_range-all-requires
 cons_range-all-requires g t c κs within =
-    let core = c.args.core.now in let F = g.V.View.family c.args.view.now in (search (rules, the_lemmas), (subst (λ z. AreSoundFacts core.sets (facts_of (map (fact core.tables core.resources) z))) (sym c.as_slice.ensures) (subst (IsSoundFact core.sets) (ap (fact core.tables core.resources) c.in-And.is ∙ fact_And core.tables core.resources c.in-And.parts) c.requires.sound), c.requires.within))
+    let core = c.args.core.now in let F = g.V.View.family c.args.view.now in (search (rules, the_lemmas), (within, (subst (λ z. AreSoundFacts core.sets (facts_of (map (fact core.tables core.resources) z))) (sym c.as_slice.ensures) (subst (IsSoundFact core.sets) (ap (fact core.tables core.resources) c.in-And.is ∙ fact_And core.tables core.resources c.in-And.parts) c.requires.sound), c.requires.within)))
 
 pub cons_range-returns-in-And : goal.cons_range-returns-in-And
 cons_range-returns-in-And g t c =
@@ -477,7 +477,7 @@ cons_range-returns-in-And g t c =
 
 pub cons_range-any-requires : goal.cons_range-any-requires
 cons_range-any-requires g t c κs within =
-    let core = c.args.core.now in let F = g.V.View.family c.args.view.now in (search (rules, the_lemmas), (subst (λ z. AreSoundFacts core.sets (facts_of (map (fact core.tables core.resources) z))) (sym c.as_slice-in-Or.ensures) (subst (IsSoundFact core.sets) (ap (fact core.tables core.resources) c.in-Or.is ∙ fact_Or core.tables core.resources c.in-Or.parts) c.requires.sound), c.requires.within))
+    let core = c.args.core.now in let F = g.V.View.family c.args.view.now in (search (rules, the_lemmas), (within, (subst (λ z. AreSoundFacts core.sets (facts_of (map (fact core.tables core.resources) z))) (sym c.as_slice-in-Or.ensures) (subst (IsSoundFact core.sets) (ap (fact core.tables core.resources) c.in-Or.is ∙ fact_Or core.tables core.resources c.in-Or.parts) c.requires.sound), c.requires.within)))
 
 pub cons_range-returns-in-Or : goal.cons_range-returns-in-Or
 cons_range-returns-in-Or g t c =
@@ -485,7 +485,7 @@ cons_range-returns-in-Or g t c =
 
 pub cons_range-cons_range-requires : goal.cons_range-cons_range-requires
 cons_range-cons_range-requires g t c κs within =
-    let core = c.args.core.now in let F = g.V.View.family c.args.view.now in (search (rules, the_lemmas), (subst (λ z. IsSoundFact core.sets ((fact core.tables core.resources) z)) (sym c.get-in-Imp.ensures) (subst (IsSoundFact core.sets) (ap (fact core.tables core.resources) c.in-Imp.is ∙ fact_Imp core.tables core.resources c.in-Imp.a c.in-Imp.b) c.requires.sound).0, c.requires.within))
+    let core = c.args.core.now in let F = g.V.View.family c.args.view.now in (search (rules, the_lemmas), (within, (subst (λ z. IsSoundFact core.sets ((fact core.tables core.resources) z)) (sym c.get-in-Imp.ensures) (subst (IsSoundFact core.sets) (ap (fact core.tables core.resources) c.in-Imp.is ∙ fact_Imp core.tables core.resources c.in-Imp.a c.in-Imp.b) c.requires.sound).0, c.requires.within)))
 
 pub cons_range-opposite-requires : goal.cons_range-opposite-requires
 cons_range-opposite-requires g t c =
@@ -493,7 +493,7 @@ cons_range-opposite-requires g t c =
 
 pub cons_range-cons_range-requires-in-Imp : goal.cons_range-cons_range-requires-in-Imp
 cons_range-cons_range-requires-in-Imp g t c κs within =
-    let core = c.args.core.now in let F = g.V.View.family c.args.view.now in (search (rules, the_lemmas), (subst (λ z. IsSoundFact core.sets ((fact core.tables core.resources) z)) (sym c.get-in-Imp-2.ensures) (subst (IsSoundFact core.sets) (ap (fact core.tables core.resources) c.in-Imp.is ∙ fact_Imp core.tables core.resources c.in-Imp.a c.in-Imp.b) c.requires.sound).1.0, c.requires.within))
+    let core = c.args.core.now in let F = g.V.View.family c.args.view.now in (search (rules, the_lemmas), (within, (subst (λ z. IsSoundFact core.sets ((fact core.tables core.resources) z)) (sym c.get-in-Imp-2.ensures) (subst (IsSoundFact core.sets) (ap (fact core.tables core.resources) c.in-Imp.is ∙ fact_Imp core.tables core.resources c.in-Imp.a c.in-Imp.b) c.requires.sound).1.0, c.requires.within)))
 
 pub cons_range-returns-in-Imp : goal.cons_range-returns-in-Imp
 cons_range-returns-in-Imp g t c =
@@ -501,11 +501,11 @@ cons_range-returns-in-Imp g t c =
 
 pub cons_range-cons_range-requires-in-Iff : goal.cons_range-cons_range-requires-in-Iff
 cons_range-cons_range-requires-in-Iff g t c κs within =
-    let core = c.args.core.now in let F = g.V.View.family c.args.view.now in (search (rules, the_lemmas), (subst (λ z. IsSoundFact core.sets ((fact core.tables core.resources) z)) (sym c.get-in-Iff.ensures) (subst (IsSoundFact core.sets) (ap (fact core.tables core.resources) c.in-Iff.is ∙ fact_Iff core.tables core.resources c.in-Iff.a c.in-Iff.b) c.requires.sound).0, c.requires.within))
+    let core = c.args.core.now in let F = g.V.View.family c.args.view.now in (search (rules, the_lemmas), (within, (subst (λ z. IsSoundFact core.sets ((fact core.tables core.resources) z)) (sym c.get-in-Iff.ensures) (subst (IsSoundFact core.sets) (ap (fact core.tables core.resources) c.in-Iff.is ∙ fact_Iff core.tables core.resources c.in-Iff.a c.in-Iff.b) c.requires.sound).0, c.requires.within)))
 
 pub cons_range-cons_range-requires-in-Iff-2 : goal.cons_range-cons_range-requires-in-Iff-2
 cons_range-cons_range-requires-in-Iff-2 g t c κs within =
-    let core = c.args.core.now in let F = g.V.View.family c.args.view.now in (search (rules, the_lemmas), (subst (λ z. IsSoundFact core.sets ((fact core.tables core.resources) z)) (sym c.get-in-Iff-2.ensures) (subst (IsSoundFact core.sets) (ap (fact core.tables core.resources) c.in-Iff.is ∙ fact_Iff core.tables core.resources c.in-Iff.a c.in-Iff.b) c.requires.sound).1, c.requires.within))
+    let core = c.args.core.now in let F = g.V.View.family c.args.view.now in (search (rules, the_lemmas), (within, (subst (λ z. IsSoundFact core.sets ((fact core.tables core.resources) z)) (sym c.get-in-Iff-2.ensures) (subst (IsSoundFact core.sets) (ap (fact core.tables core.resources) c.in-Iff.is ∙ fact_Iff core.tables core.resources c.in-Iff.a c.in-Iff.b) c.requires.sound).1, c.requires.within)))
 
 pub cons_range-returns-in-Iff : goal.cons_range-returns-in-Iff
 cons_range-returns-in-Iff g t c =
@@ -513,7 +513,7 @@ cons_range-returns-in-Iff g t c =
 
 pub cons_range-cons_range-requires-in-Not : goal.cons_range-cons_range-requires-in-Not
 cons_range-cons_range-requires-in-Not g t c κs within =
-    let core = c.args.core.now in let F = g.V.View.family c.args.view.now in (search (rules, the_lemmas), (subst (λ z. IsSoundFact core.sets ((fact core.tables core.resources) z)) (sym c.get-in-Not.ensures) (subst (IsSoundFact core.sets) (ap (fact core.tables core.resources) c.in-Not.is ∙ fact_Not core.tables core.resources c.in-Not.a) c.requires.sound), c.requires.within))
+    let core = c.args.core.now in let F = g.V.View.family c.args.view.now in (search (rules, the_lemmas), (within, (subst (λ z. IsSoundFact core.sets ((fact core.tables core.resources) z)) (sym c.get-in-Not.ensures) (subst (IsSoundFact core.sets) (ap (fact core.tables core.resources) c.in-Not.is ∙ fact_Not core.tables core.resources c.in-Not.a) c.requires.sound), c.requires.within)))
 
 pub cons_range-opposite-requires-in-Not : goal.cons_range-opposite-requires-in-Not
 cons_range-opposite-requires-in-Not g t c =
@@ -525,7 +525,7 @@ cons_range-returns-in-Not g t c =
 
 pub cons_range-all_differ-requires : goal.cons_range-all_differ-requires
 cons_range-all_differ-requires g t c κs within =
-    let core = c.args.core.now in let F = g.V.View.family c.args.view.now in (search (rules, the_lemmas), (subst (λ z. AreSoundFacts core.sets (facts_of (all_different (map (term_of core) z)))) (sym c.as_slice-in-AllDifferent.ensures) (subst (IsSoundFact core.sets) (ap (fact core.tables core.resources) c.in-AllDifferent.is ∙ fact_AllDifferent core.tables core.resources c.in-AllDifferent.parts) c.requires.sound), c.requires.within))
+    let core = c.args.core.now in let F = g.V.View.family c.args.view.now in (search (rules, the_lemmas), (within, (subst (λ z. AreSoundFacts core.sets (facts_of (all_different (map (term_of core) z)))) (sym c.as_slice-in-AllDifferent.ensures) (subst (IsSoundFact core.sets) (ap (fact core.tables core.resources) c.in-AllDifferent.is ∙ fact_AllDifferent core.tables core.resources c.in-AllDifferent.parts) c.requires.sound), c.requires.within)))
 
 pub cons_range-returns-in-AllDifferent : goal.cons_range-returns-in-AllDifferent
 cons_range-returns-in-AllDifferent g t c =
@@ -549,15 +549,15 @@ cons_range-returns-in-Some g t c =
 
 pub all_differ-rest_of-requires : goal.all_differ-rest_of-requires
 all_differ-rest_of-requires g t c κs within =
-    let core = c.args.core.now in let F = g.V.View.family c.args.view.now in (search (rules, the_lemmas), (sound_one_at core.sets (term_of core) c.args.parts.now (c.loop-left.left - 1) c.index-parts-left.result (omega (arith, c.loop-left.invariant.0, c.loop-left-test.true)) c.index-parts-left.is c.requires.sound, c.requires.within))
+    let core = c.args.core.now in let F = g.V.View.family c.args.view.now in (search (rules, the_lemmas), (within, (sound_one_at core.sets (term_of core) c.args.parts.now (c.loop-left.left - 1) c.index-parts-left.result (omega (arith, c.loop-left.invariant.0, c.loop-left-test.true)) c.index-parts-left.is c.requires.sound, c.requires.within)))
 
 pub all_differ-rest_of-requires-in-loop-other : goal.all_differ-rest_of-requires-in-loop-other
 all_differ-rest_of-requires-in-loop-other g t c κs within =
-    let core = c.args.core.now in let F = g.V.View.family c.args.view.now in (search (rules, the_lemmas), (sound_one_at core.sets (term_of core) c.args.parts.now (c.loop-other.other - 1) c.index-parts-other.result (omega (arith, c.loop-other.invariant.1, c.loop-other.invariant.0, c.loop-left-test.true)) c.index-parts-other.is c.requires.sound, c.requires.within))
+    let core = c.args.core.now in let F = g.V.View.family c.args.view.now in (search (rules, the_lemmas), (within, (sound_one_at core.sets (term_of core) c.args.parts.now (c.loop-other.other - 1) c.index-parts-other.result (omega (arith, c.loop-other.invariant.1, c.loop-other.invariant.0, c.loop-left-test.true)) c.index-parts-other.is c.requires.sound, c.requires.within)))
 
 pub all_differ-rest_of-requires-in-loop-left : goal.all_differ-rest_of-requires-in-loop-left
 all_differ-rest_of-requires-in-loop-left g t c κs within =
-    let core = c.args.core.now in let F = g.V.View.family c.args.view.now in (search (rules, the_lemmas), (sound_one_at core.sets (term_of core) c.args.parts.now (c.loop-left.left - 1) c.index-parts-left.result (omega (arith, c.loop-left.invariant.0, c.loop-left-test.true)) c.index-parts-left.is c.requires.sound, c.requires.within))
+    let core = c.args.core.now in let F = g.V.View.family c.args.view.now in (search (rules, the_lemmas), (within, (sound_one_at core.sets (term_of core) c.args.parts.now (c.loop-left.left - 1) c.index-parts-left.result (omega (arith, c.loop-left.invariant.0, c.loop-left-test.true)) c.index-parts-left.is c.requires.sound, c.requires.within)))
 
 pub all_differ-compared-differ-requires-clause-sound : goal.all_differ-compared-differ-requires-clause-sound
 all_differ-compared-differ-requires-clause-sound g t c =
@@ -605,7 +605,7 @@ cells-nonzero_div-size g t c =
 
 pub cells-rest_of-requires : goal.cells-rest_of-requires
 cells-rest_of-requires g t c κs within =
-    let core = c.args.core.now in let F = g.V.View.family c.args.view.now in (search (rules, the_lemmas), (sound_at core.sets (term_of core) c.args.parts.now c.loop-at.at c.index-parts-at.result (omega (arith, c.loop-at-test.true, (fit_length core.sets (term_of core) c.args.dims.now c.args.parts.now c.requires.subscripts))) c.index-parts-at.is c.requires.sound, c.requires.within))
+    let core = c.args.core.now in let F = g.V.View.family c.args.view.now in let there : c.loop-at.at < length c.args.parts.now = omega (arith, c.loop-at-test.true, (fit_length core.sets (term_of core) c.args.dims.now c.args.parts.now c.requires.subscripts)) in (search (rules, the_lemmas), (within, (sound_at core.sets (term_of core) c.args.parts.now c.loop-at.at c.index-parts-at.result (omega (arith, c.loop-at-test.true, (fit_length core.sets (term_of core) c.args.dims.now c.args.parts.now c.requires.subscripts))) c.index-parts-at.is c.requires.sound, c.requires.within)))
 
 pub cells-nonzero_div-place : goal.cells-nonzero_div-place
 cells-nonzero_div-place g t c =
