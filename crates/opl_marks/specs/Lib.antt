@@ -1,0 +1,5 @@
+pub mod Questions
+pub mod Sound
+pub mod Works
+pub mod Moves
+pub mod Outcomes

@@ -1,0 +1,19 @@
+//! The marks of a search, by a plain program that computes the sets of each moment anew.
+#![tactic(auto)]
+
+
+mod constraints;
+
+mod mark;
+
+
+mod moves;
+mod outcome;
+mod ranges;
+
+
+mod task;
+
+pub use mark::Mark;
+
+pub use ranges::Ranges;
