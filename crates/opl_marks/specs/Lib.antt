@@ -1,4 +1,5 @@
 pub mod Questions
+pub mod Answered
 pub mod Sound
 pub mod Works
 pub mod Moves

@@ -2,6 +2,7 @@
 #![tactic(auto)]
 
 
+mod answers;
 mod constraints;
 
 mod mark;

@@ -1,0 +1,99 @@
+-- A constraint of a search section is sound once its questions are answered.
+use Rattle.std.proofs.Common.{◌≡◌, ℕ, suc, ◌+◌, ◌*◌, ◌<◌, ◌≤◌, max, true, List, [], ◌∷◌, length, ℤ, pos, ◌≤ℤ◌, ◌<ℤ◌, ◌+ℤ◌, ap, sym, ◌∙◌, subst, arith, refl}
+use Rattle.std.specs.Prelude.{Option, Some, None, unsigned_abs, slice_index_or}
+use Rattle.std.proofs.Math.Nat.{mul-le-mul, mul-le-mul_left}
+use Rattle.std.proofs.lemmas.Int.{ints}
+use Rattle.opl_domain.specs.Span.{values, span_size}
+use Rattle.opl_domain.specs.Family.{Family, IsFamily, IsRising, Below, set_of, has, hull, member}
+use Rattle.opl_expr.specs.declared.forms.Ask.{Ask}
+use Rattle.opl_expr.specs.declared.forms.Ask.TheVariants.{Size, Least, Greatest}
+use Rattle.opl_expr.specs.declared.tables.Table.{Table}
+use Rattle.opl_expr.specs.Forms.{Term, Terms, Fact, Facts, constant_value, product}
+use Rattle.opl_expr.specs.Sound.{IsSmall, IsSome, greatest_abs, var_magnitude, term_magnitude, sum_magnitude, greatest_magnitude, table_magnitude, FitDimensions, FitTable, IsSoundTerm, AreSoundTerms, IsSoundFact, AreSoundFacts}
+use Rattle.opl_expr.proofs.Parts.{product_cases}
+use Rattle.opl_trace.specs.Answers.{answer, answered_term, answered_terms, answered, all_answered}
+use Rattle.opl_marks.specs.Questions.{ask_magnitude, size_magnitude, open_magnitude, open_sum, open_greatest, FitOpen, FitOpenTable, IsOpenTerm, AreOpenTerms, IsOpenFact, AreOpenFacts}
+
+-- no answer is greater than the magnitude of its question
+pub record AreBounded (sets : List (ℤ × ℤ)) (F : Family) : Type 0 where
+  pub bound : (ask : Ask) (x : ℕ) → x < length sets → unsigned_abs (answer F ask x) ≤ ask_magnitude sets ask x
+
+-- what is known of the answer to a sound expression
+record IsAnswer (sets : List (ℤ × ℤ)) (t : Term) (n : ℕ) : Type 0 where
+  sound : IsSoundTerm sets t
+  small : term_magnitude sets t ≤ n
+
+scaled_answer : (sets : List (ℤ × ℤ)) (k : ℤ) (t : Term) (m n : ℕ) → IsSmall (m * n) → IsAnswer sets (Term.const k) m → IsAnswer sets t n → IsAnswer sets (Term.scale k t) (m * n)
+scaled_answer sets k t m n s a b = record {
+  sound = (omega (arith, s, mul-le-mul a.small b.small), a.sound, b.sound);
+  small = mul-le-mul a.small b.small;
+}
+
+product_answer : (sets : List (ℤ × ℤ)) (s t : Term) → (m n : ℕ) → IsSmall (m * n) → IsAnswer sets s m → IsAnswer sets t n → IsAnswer sets (product s t) (max 1 (m * n))
+product_answer sets = product_cases (λ s t p. (m n : ℕ) → IsSmall (m * n) → IsAnswer sets s m → IsAnswer sets t n → IsAnswer sets p (max 1 (m * n)))
+    (λ k t m n s a b. let r = scaled_answer sets k t m n s a b in record { sound = r.sound; small = omega (arith, r.small) })
+    (λ t k m n s a b. let r = scaled_answer sets k t n m (omega (arith, s)) b a in record { sound = r.sound; small = omega (arith, r.small) })
+    (λ s t m n h a b. record { sound = (omega (arith, h, mul-le-mul a.small b.small), a.sound, b.sound); small = omega (arith, mul-le-mul a.small b.small) })
+
+module _ (sets : List (ℤ × ℤ)) (F : Family) (bounded : AreBounded sets F) where
+  mutual
+    term_answer : (t : Term) → IsOpenTerm sets t → IsAnswer sets (answered_term F t) (open_magnitude sets t)
+    term_answer (Term.const k) s = record { sound = s; small = omega arith }
+    term_answer (Term.var x) s = record { sound = s; small = omega arith }
+    term_answer (Term.sum ts) s = let m = sum_answers ts s.1 in record { sound = (omega (arith, s.0, m), terms_sound ts s.1); small = m }
+    term_answer (Term.neg t) s = let a = term_answer t s.1 in record { sound = (omega (arith, s.0, a.small), a.sound); small = a.small }
+    term_answer (Term.scale k t) s =
+        let a = term_answer t s.2 in
+        let m = mul-le-mul_left (unsigned_abs k) a.small in
+        record { sound = (omega (arith, s.0, m), s.1, a.sound); small = m }
+    term_answer (Term.mul r t) s = product_answer sets (answered_term F r) (answered_term F t) (open_magnitude sets r) (open_magnitude sets t) s.0 (term_answer r s.1) (term_answer t s.2)
+    term_answer (Term.div r t) s = let a = term_answer r s.0 in let b = term_answer t s.1 in record { sound = (a.sound, b.sound); small = omega (arith, a.small) }
+    term_answer (Term.rem r t) s = let a = term_answer r s.0 in let b = term_answer t s.1 in record { sound = (a.sound, b.sound); small = omega (arith, a.small) }
+    term_answer (Term.abs t) s = let a = term_answer t s in record { sound = a.sound; small = omega (arith, a.small) }
+    term_answer (Term.least ts) s = record { sound = (some_answers ts s.0, terms_sound ts s.1); small = omega (arith, greatest_answers ts s.1) }
+    term_answer (Term.greatest ts) s = record { sound = (some_answers ts s.0, terms_sound ts s.1); small = omega (arith, greatest_answers ts s.1) }
+    term_answer (Term.at table ts) s = record { sound = (s.0, s.1, fit_table table ts s.2 s.3, terms_sound ts s.3); small = omega arith }
+    term_answer (Term.truth c) s = record { sound = fact_sound c s; small = omega arith }
+    term_answer (Term.asked ask x) s = let b = bounded.bound ask x s.1 in record { sound = omega (arith, b, s.0); small = b }
+
+    terms_sound : (ts : Terms) → AreOpenTerms sets ts → AreSoundTerms sets (answered_terms F ts)
+    terms_sound Terms.no_terms s = tt
+    terms_sound (Terms.more_terms t ts) s = let a = term_answer t s.0 in (a.sound, terms_sound ts s.1)
+
+    sum_answers : (ts : Terms) → AreOpenTerms sets ts → sum_magnitude sets (answered_terms F ts) ≤ open_sum sets ts
+    sum_answers Terms.no_terms s = omega arith
+    sum_answers (Terms.more_terms t ts) s = let a = term_answer t s.0 in omega (arith, a.small, sum_answers ts s.1)
+
+    greatest_answers : (ts : Terms) → AreOpenTerms sets ts → greatest_magnitude sets (answered_terms F ts) ≤ open_greatest sets ts
+    greatest_answers Terms.no_terms s = omega arith
+    greatest_answers (Terms.more_terms t ts) s = let a = term_answer t s.0 in omega (arith, a.small, greatest_answers ts s.1)
+
+    some_answers : (ts : Terms) → IsSome sets ts → IsSome sets (answered_terms F ts)
+    some_answers Terms.no_terms s = absurd s
+    some_answers (Terms.more_terms t ts) s = tt
+
+    fit_dimensions : (dims : List (List ℤ)) (ts : Terms) → FitOpen sets dims ts → AreOpenTerms sets ts → FitDimensions sets dims (answered_terms F ts)
+    fit_dimensions [] Terms.no_terms f s = tt
+    fit_dimensions [] (Terms.more_terms t ts) f s = absurd f
+    fit_dimensions (dim ∷ dims) Terms.no_terms f s = absurd f
+    fit_dimensions (dim ∷ dims) (Terms.more_terms t ts) f s = let a = term_answer t s.0 in (omega (arith, a.small, f.0), fit_dimensions dims ts f.1 s.1)
+
+    fit_table : (table : Option Table) (ts : Terms) → FitOpenTable sets table ts → AreOpenTerms sets ts → FitTable sets table (answered_terms F ts)
+    fit_table None ts f s = absurd f
+    fit_table (Some t) ts f s = fit_dimensions t.dims ts f s
+
+    pub fact_sound : (c : Fact) → IsOpenFact sets c → IsSoundFact sets (answered F c)
+    fact_sound (Fact.fixed b) s = tt
+    fact_sound (Fact.cmp rel r t) s = let a = term_answer r s.1 in let b = term_answer t s.2 in (omega (arith, s.0, a.small, b.small), a.sound, b.sound)
+    fact_sound (Fact.and cs) s = facts_sound cs s
+    fact_sound (Fact.or cs) s = facts_sound cs s
+    fact_sound (Fact.iff c d) s = (fact_sound c s.0, fact_sound d s.1)
+    fact_sound (Fact.not c) s = fact_sound c s
+    fact_sound (Fact.bound x) s = tt
+
+    facts_sound : (cs : Facts) → AreOpenFacts sets cs → AreSoundFacts sets (all_answered F cs)
+    facts_sound Facts.no_facts s = tt
+    facts_sound (Facts.more_facts c cs) s = (fact_sound c s.0, facts_sound cs s.1)
+
+  pub term_sound : (t : Term) → IsOpenTerm sets t → IsSoundTerm sets (answered_term F t)
+  term_sound t s = let a = term_answer t s in a.sound
