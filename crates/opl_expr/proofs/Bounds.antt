@@ -69,7 +69,7 @@ abs_larger v w = elim (larger_tells v w) [ inl t ↦ omega (arith, ap unsigned_a
 abbrev pub sets_of : List (ℤ × ℤ) → Family
 sets_of sets = map (λ p. values (record { low = p.0; high = p.1 })) sets
 
-within_set : (p : ℤ × ℤ) (v : ℤ) (sets : List (ℤ × ℤ)) → member v (values (record { low = p.0; high = p.1 })) ≡ true → unsigned_abs v ≤ set_magnitude sets p
+pub within_set : (p : ℤ × ℤ) (v : ℤ) (sets : List (ℤ × ℤ)) → member v (values (record { low = p.0; high = p.1 })) ≡ true → unsigned_abs v ≤ set_magnitude sets p
 within_set p v sets m =
     let w = from_values (record { low = p.0; high = p.1 }) v m in
     elim (int_le p.0 p.1) as (λ b. int_le p.0 p.1 ≡ b → unsigned_abs v ≤ cond b (max 1 (max (unsigned_abs p.0) (unsigned_abs p.1))) 1) [

@@ -105,11 +105,11 @@ abbrev mutual
 
   pub branch_weights : Branches → ℕ
   branch_weights no_branches = 0
-  branch_weights (more_branches b bs) = branch_weight b + branch_weights bs
+  branch_weights (more_branches b bs) = suc (branch_weight b) + branch_weights bs
 
 abbrev pub arm_weights : List (Arm Statement) → ℕ
 arm_weights [] = 0
-arm_weights (a ∷ others) = weight a.body + arm_weights others
+arm_weights (a ∷ others) = suc (weight a.body) + arm_weights others
 
 abbrev pub work_weight : Work → ℕ
 work_weight (perform s) = weight s

@@ -5,9 +5,11 @@
 mod answers;
 mod constraints;
 
+mod elements;
 mod mark;
 
 
+mod moment;
 mod moves;
 mod outcome;
 mod ranges;
