@@ -3,4 +3,7 @@ pub mod AnswerParts
 pub mod AnswersSound
 pub mod Moments
 pub mod Arms
-pub mod Steps
+pub mod StepMoves
+pub mod StatementForms
+pub mod ArmSteps
+pub mod Runs

@@ -5,7 +5,9 @@ use Rattle.opl_expr.specs.declared.model.Core.{Core}
 use Rattle.opl_expr.specs.Forms.{Fact, fact}
 use Rattle.opl_expr.specs.Options.{lift1}
 use Rattle.opl_expr.specs.Sound.{IsSoundFact}
-use Rattle.opl_trace.specs.Statements.{Statement, statement}
+use Rattle.opl_trace.specs.Elements.{Arm}
+use Rattle.opl_trace.specs.Statements.{Statement, Branch, statement}
+use Rattle.opl_trace.specs.Statements.Branch.{branch}
 use Rattle.opl_trace.specs.Run.{Rest, alternatives, committed, first_leaf, spent}
 use Rattle.opl_marks.specs.Sound.{IsSoundStatement}
 use Rattle.opl_marks.specs.Works.{Work, work, core_sets, core_rest, weight, total_weight, AreSoundWorks}
@@ -17,6 +19,17 @@ use Rattle.opl_marks.specs.declared.moves.Next as next
 pub record Way : Type 0 where
   pub post : Option Fact
   pub works : List Work
+
+-- a way without a constraint, and one with a constraint
+abbrev pub onward : List Work → Way
+onward ws = record { post = None; works = ws }
+
+abbrev pub posting : Fact → List Work → Way
+posting c ws = record { post = Some c; works = ws }
+
+-- an element as a branch
+abbrev pub as_branch : Arm Statement → Branch
+as_branch a = branch a.when a.key a.rising a.body
 
 -- nothing is left to do; one way; alternatives; a statement under `once` and what follows it; a choice is due that is never left
 pub data Move : Type 0 where

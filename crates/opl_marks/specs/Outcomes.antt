@@ -1,5 +1,5 @@
 -- What a search has made, as the program keeps it.
-use Rattle.std.specs.Prelude.{ℕ, ◌≤◌, List, [], ◌∷◌, map, ℤ, unsigned_abs, Option, Some, None}
+use Rattle.std.specs.Prelude.{◌≡◌, ℕ, ◌≤◌, List, [], ◌∷◌, map, ℤ, unsigned_abs, Option, Some, None}
 use Rattle.std.specs.List.{All}
 use Rattle.opl_expr.specs.declared.model.Core.{Core}
 use Rattle.opl_expr.specs.declared.forms.Cons.{Cons}
@@ -50,3 +50,13 @@ IsBest sets (Some t) (Some v) = unsigned_abs v ≤ term_magnitude sets t
 pub record IsSoundOut (core : Core) (o : run.Out) : Type 0 where
   pub marks : AreSoundMarks core o.marks
   pub best : IsBest core.sets (goal_term core) o.best
+
+-- what the program made is the outcome, and sound
+pub record IsMade (core : Core) (made : code.Outcome) (o : run.Out) : Type 0 where
+  pub same : outcome core made ≡ o
+  pub sound : IsSoundOut core o
+
+-- the marks before the first Leaf and its constraints; without a Leaf all marks
+abbrev pub ArePartedAt : Core → List mark.Mark → List mark.Mark → Option (List Cons) → Type 0
+ArePartedAt core ms before None = (run.first_leaf (marks_in core ms) ≡ None) × (before ≡ ms)
+ArePartedAt core ms before (Some cs) = run.first_leaf (marks_in core ms) ≡ Some (record { before = marks_in core before; posted = facts_in core cs })

@@ -13,6 +13,8 @@ mod moment;
 mod moves;
 mod outcome;
 mod ranges;
+mod run;
+mod steps;
 
 
 mod task;

@@ -27,9 +27,9 @@ use Rattle.opl_marks.specs.Questions.{IsOpenFact}
 use Rattle.opl_marks.specs.Sound.{AreThere, ArePairs, IsSoundStatement, AreSoundStatements}
 use Rattle.opl_marks.specs.Works.{Work, performing, then_work, rest_of, core_sets, core_rest, many, weight, weights, work_weight, total_weight, arm_weights, AreSoundArms, IsSoundWork, AreSoundWorks}
 use Rattle.opl_marks.specs.Works.Work.{perform, label, rank, visit, turn}
-use Rattle.opl_marks.specs.Moves.{Way, Move, along, made, IsSoundPost, IsSoundWay, AreSoundWays, IsSoundMove, heaviest, IsLighter, IsMove}
+use Rattle.opl_marks.specs.Moves.{Way, onward, posting, as_branch, Move, along, made, IsSoundPost, IsSoundWay, AreSoundWays, IsSoundMove, heaviest, IsLighter, IsMove}
 use Rattle.opl_marks.specs.Moves.Move.{ended, go, choose, commit, stop}
-use Rattle.opl_marks.proofs.Arms.{as_branch, arms_are, taken_performing, pick_performing, ordered_performing, branches_weigh, taken_weigh, pick_weighs, ordered_weigh, branches_sound, taken_sound, pick_sound, ordered_sound}
+use Rattle.opl_marks.proofs.Arms.{arms_are, taken_performing, pick_performing, ordered_performing, branches_weigh, taken_weigh, pick_weighs, ordered_weigh, branches_sound, taken_sound, pick_sound, ordered_sound}
 
 -- ---- the sets of a moment
 
@@ -37,14 +37,6 @@ use Rattle.opl_marks.proofs.Arms.{as_branch, arms_are, taken_performing, pick_pe
 within_at : (goal : Option Objective) (sets : List Fact → Option ℤ → Option Family) (next : Family → Rest) (P : List Fact) (b : Option ℤ) (n : ℕ) (C : Family) → sets P b ≡ Some C → within goal sets next P b n ≡ next C P b n
 unfolding within
 within_at goal sets next P b n C e = ap (λ o. entered next o P b n) e
-
--- one way without a constraint
-abbrev pub onward : List Work → Way
-onward ws = record { post = None; works = ws }
-
--- one way with a constraint
-abbrev pub posting : Fact → List Work → Way
-posting c ws = record { post = Some c; works = ws }
 
 -- ---- sizes of works
 
