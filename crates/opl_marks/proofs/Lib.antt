@@ -1,9 +1,6 @@
 pub mod Made
 pub mod AnswerParts
 pub mod AnswersSound
-pub mod Moments
-pub mod Arms
-pub mod StepMoves
-pub mod StatementForms
-pub mod ArmSteps
-pub mod Runs
+pub mod MomentSets
+pub mod Values
+pub mod Labels

@@ -1,7 +1,6 @@
 pub mod Questions
 pub mod Answered
 pub mod Sound
-pub mod Works
-pub mod Elements
-pub mod Moves
+pub mod Moments
 pub mod Outcomes
+pub mod Labelling

@@ -55,8 +55,3 @@ pub record IsSoundOut (core : Core) (o : run.Out) : Type 0 where
 pub record IsMade (core : Core) (made : code.Outcome) (o : run.Out) : Type 0 where
   pub same : outcome core made ≡ o
   pub sound : IsSoundOut core o
-
--- the marks before the first Leaf and its constraints; without a Leaf all marks
-abbrev pub ArePartedAt : Core → List mark.Mark → List mark.Mark → Option (List Cons) → Type 0
-ArePartedAt core ms before None = (run.first_leaf (marks_in core ms) ≡ None) × (before ≡ ms)
-ArePartedAt core ms before (Some cs) = run.first_leaf (marks_in core ms) ≡ Some (record { before = marks_in core before; posted = facts_in core cs })

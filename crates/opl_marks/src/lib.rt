@@ -1,24 +1,17 @@
 //! The marks of a search, by a plain program that computes the sets of each moment anew.
 #![tactic(auto)]
 
-
 mod answers;
 mod constraints;
-
-mod elements;
+mod labelling;
 mod mark;
-
-
+mod marks;
 mod moment;
-mod moves;
 mod outcome;
 mod ranges;
-mod run;
-mod steps;
 
-
-mod task;
-
+pub use answers::{answered, answered_term};
 pub use mark::Mark;
-
+pub use marks::{closure_of, default_marks};
+pub use moment::Search;
 pub use ranges::Ranges;

@@ -12,7 +12,7 @@ ghost use Rattle.opl_trace.specs.Marks.{objective};
 ghost use Rattle.opl_trace.specs.Objective.{bound};
 ghost use Rattle.opl_marks.specs.Questions.{IsOpenFact};
 ghost use Rattle.opl_marks.specs.Sound.{IsSoundCore, IsOpenKey};
-ghost use Rattle.opl_marks.specs.Works.{core_sets};
+ghost use Rattle.opl_marks.specs.Moments.{core_sets};
 ghost use Rattle.opl_marks.specs.Outcomes.{facts_in, AreSound, IsBest};
 
 use crate::answers;

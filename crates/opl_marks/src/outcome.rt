@@ -1,12 +1,11 @@
 //! What a part of a search has made.
 ghost use Rattle.std.specs.Prelude.{◌≡◌, ◌++◌, ◌∷◌, [], true, false, IfOk};
-ghost use Rattle.opl_trace.specs.Run.{nothing, stopped, marked, behind, choices};
+ghost use Rattle.opl_trace.specs.Run.{nothing, marked, behind, marks_of};
 ghost use Rattle.opl_trace.specs.Run.Mark.{choice};
-ghost use Rattle.opl_marks.specs.Outcomes.{outcome, marks_in, ArePartedAt};
+ghost use Rattle.opl_marks.specs.Outcomes.{outcome, marks_in};
 
-use crate::constraints;
 use crate::mark::Mark;
-use opl_expr::{Cons, Core, OutOfMemory};
+use opl_expr::{Core, OutOfMemory};
 use opl_list::Seq;
 use std::alloc::Global;
 
@@ -32,18 +31,6 @@ impl Outcome {
         }
     }
 
-    /// The Cut alone.
-    pub fn stopped(alloc: Global, core: &Core, best: Option<i128>) -> Outcome
-        ensures { outcome core.now result ≡ stopped best }
-    {
-        Outcome {
-            marks: Seq::new(alloc),
-            best,
-            left: 0,
-            is_cut: true,
-        }
-    }
-
     /// One mark.
     pub fn one(alloc: Global, mark: Mark, best: Option<i128>, left: u64) -> Result<Outcome, OutOfMemory>
         ensures { IfOk result (λ o. o ≡ record { marks = mark ∷ []; best = best; left = left; is_cut = false }) }
@@ -58,6 +45,18 @@ impl Outcome {
         })
     }
 
+    /// All marks, with the Cut if there is one.
+    pub fn into_marks(self, core: &Core) -> Result<Seq<Mark>, OutOfMemory>
+        ensures { IfOk result (λ ms. marks_in core.now ms ≡ marks_of (outcome core.now self)) }
+    {
+        let Outcome { marks, is_cut, .. } = self;
+        let mut marks = marks;
+        if is_cut {
+            marks.push(Mark::Cut)?;
+        }
+        Ok(marks)
+    }
+
     /// The same, and then a Cut.
     pub fn with_cut(self) -> Outcome
         ensures { result ≡ record self { is_cut = true } }
@@ -69,19 +68,6 @@ impl Outcome {
             left,
             is_cut: true,
         }
-    }
-
-    /// The marks before those of this.
-    pub fn behind(self, core: &Core, before: Seq<Mark>) -> Result<Outcome, OutOfMemory>
-        ensures { IfOk result (λ o. outcome core.now o ≡ behind (marks_in core.now before) (outcome core.now self)) }
-    {
-        let Outcome { marks, best, left, is_cut } = self;
-        Ok(Outcome {
-            marks: joined(before, marks)?,
-            best,
-            left,
-            is_cut,
-        })
     }
 
     /// A choice, and then what it made.
@@ -99,48 +85,6 @@ impl Outcome {
             is_cut,
         })
     }
-}
-
-/// The marks before the first Leaf, and the constraints of that; without a Leaf all marks.
-#[derive(Drop)]
-pub struct Parts {
-    pub before: Seq<Mark>,
-    pub leaf: Option<Seq<Cons>>,
-}
-
-/// Parts marks at the first Leaf.
-pub fn split(alloc: Global, core: &Core, marks: &[Mark]) -> Result<Parts, OutOfMemory>
-    ensures { IfOk result (λ p. ArePartedAt core.now marks.now p.before p.leaf) }
-{
-    let mut before = Seq::new(alloc);
-    for mark in marks {
-        match mark {
-            Mark::Leaf(posted) => {
-                let leaf = constraints::copies(alloc, posted.as_slice())?;
-                return Ok(Parts {
-                    before,
-                    leaf: Some(leaf),
-                });
-            }
-            Mark::Choice => before.push(Mark::Choice)?,
-            Mark::Solution(values) => before.push(Mark::Solution(Seq::from_slice(alloc, values.as_slice())?))?,
-            Mark::Cut => before.push(Mark::Cut)?,
-        }
-    }
-    Ok(Parts { before, leaf: None })
-}
-
-/// How many marks are choices.
-pub fn count(core: &Core, marks: &[Mark]) -> u64
-    ensures { result ≡ choices (marks_in core.now marks.now) }
-{
-    let mut count = 0;
-    for mark in marks {
-        if matches!(mark, Mark::Choice) {
-            count += 1;
-        }
-    }
-    count
 }
 
 /// The marks of two lists, one list after the other.

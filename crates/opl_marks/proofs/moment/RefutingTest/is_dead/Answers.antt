@@ -2,7 +2,7 @@ use Rattle.std.proofs.Common.{sym, ap, ◌∙◌}
 use Rattle.opl_expr.specs.Forms.{fact}
 use Rattle.opl_expr.specs.Range.{is_refuted}
 use Rattle.opl_expr.specs.Sound.{IsSoundFact}
-use Rattle.opl_marks.proofs.Moments.{all_at, any_at}
+use Rattle.opl_marks.proofs.MomentSets.{all_at, any_at}
 use Rattle.opl_marks.proofs.moment.RefutingTest.is_dead.Goals as goal
 
 pub refuted-requires-clause-sound : goal.refuted-requires-clause-sound

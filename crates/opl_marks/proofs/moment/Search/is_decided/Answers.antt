@@ -1,5 +1,5 @@
 use Rattle.std.proofs.Common.{sym, ap, ◌∙◌, ◌||◌}
-use Rattle.opl_marks.proofs.Moments.{decided_is}
+use Rattle.opl_marks.proofs.MomentSets.{decided_is}
 use Rattle.opl_marks.proofs.moment.Search.is_decided.Goals as goal
 
 pub returns-then-never : goal.returns-then-never

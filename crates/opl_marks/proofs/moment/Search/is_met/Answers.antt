@@ -2,7 +2,7 @@ use Rattle.std.proofs.Common.{sym, ap, ◌∙◌, subst}
 use Rattle.opl_expr.specs.Forms.{fact}
 use Rattle.opl_expr.specs.Sound.{IsSoundFact}
 use Rattle.opl_marks.proofs.AnswersSound.{are_bounded, fact_sound}
-use Rattle.opl_marks.proofs.Moments.{met_is}
+use Rattle.opl_marks.proofs.MomentSets.{met_is}
 use Rattle.opl_marks.proofs.moment.Search.is_met.Goals as goal
 
 pub cons_range-requires-clause-sound : goal.cons_range-requires-clause-sound

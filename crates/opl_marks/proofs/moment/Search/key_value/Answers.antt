@@ -7,7 +7,7 @@ use Rattle.opl_expr.specs.Options.{lift1}
 use Rattle.opl_expr.specs.Sound.{IsSoundTerm}
 use Rattle.opl_marks.specs.Sound.{IsOpenKey}
 use Rattle.opl_marks.proofs.AnswersSound.{are_bounded, term_sound}
-use Rattle.opl_marks.proofs.Moments.{no_key, key_is}
+use Rattle.opl_marks.proofs.MomentSets.{no_key, key_is}
 use Rattle.opl_marks.proofs.moment.Search.key_value.Goals as goal
 
 pub returns-in-None : goal.returns-in-None

@@ -2,7 +2,7 @@ use Rattle.std.proofs.Common.{◌≡◌, false, map, sym, ap, ◌∙◌, subst}
 use Rattle.std.specs.Prelude.{int_lt}
 use Rattle.std.specs.List.{All, list_any}
 use Rattle.opl_trace.specs.Between.{IsRangeOfValues, values_between}
-use Rattle.opl_marks.proofs.Moments.{no_sets, all_ranges, members_sound, refuting_monotone, moment_is, below_declared}
+use Rattle.opl_marks.proofs.MomentSets.{no_sets, all_ranges, members_sound, refuting_monotone, moment_is, below_declared}
 use Rattle.opl_marks.specs.Outcomes.{facts_in, AreSound}
 use Rattle.opl_marks.proofs.moment.Search.sets.Goals as goal
 

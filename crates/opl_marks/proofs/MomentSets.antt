@@ -27,7 +27,7 @@ use Rattle.opl_trace.specs.Marks.{objective}
 use Rattle.opl_trace.proofs.Constraints.{dead_monotone}
 use Rattle.opl_trace.proofs.Posting.{closed_stable}
 use Rattle.opl_marks.specs.Sound.{IsSoundSet, IsSoundGoal, IsSoundCore}
-use Rattle.opl_marks.specs.Works.{core_sets}
+use Rattle.opl_marks.specs.Moments.{core_sets}
 use Rattle.opl_marks.specs.Outcomes.{AreSound, IsBest}
 
 -- ---- members of lists
@@ -97,7 +97,7 @@ all_ranges (p ∷ ps) e a =
 
 -- ---- constraints and the bound
 
-goal_is : (core : Core) → goal_term core ≡ lift1 (λ g. g.term) (objective core)
+pub goal_is : (core : Core) → goal_term core ≡ lift1 (λ g. g.term) (objective core)
 goal_is core = elim (core.goal) as (λ o. lift1 (λ g. term core.tables core.resources g.value) o ≡ lift1 (λ g. g.term) (lift1 (λ g. let r : Objective = record { is_most = g.maximize; term = term core.tables core.resources g.value } in r) o)) [ None ↦ refl | Some g ↦ refl ]
 
 bound_sound : (sets : List (ℤ × ℤ)) (goal : Option Objective) (b : Option ℤ) → IsSoundGoal sets (lift1 (λ g. g.term) goal) → IsBest sets (lift1 (λ g. g.term) goal) b → All (IsSoundFact sets) (bound goal b)

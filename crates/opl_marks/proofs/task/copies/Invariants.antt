@@ -1,6 +1,0 @@
-use Rattle.std.proofs.Common.{◌≡◌, map, take}
-use Rattle.opl_marks.specs.Works.{work}
-use Rattle.opl_marks.proofs.task.copies.Given as goal
-
-abbrev pub invariant-loop-task : goal.invariant-loop-task
-invariant-loop-task l = map (work l.core) l.copies ≡ map (work l.core) (take l.task-index l.tasks)
