@@ -27,7 +27,12 @@ use Rattle.opl_marks.specs.Sound.{AreThere}
 use Rattle.opl_domain.specs.Span.{values}
 use Rattle.opl_expr.specs.Forms.Relation.{equal}
 use Rattle.opl_expr.specs.Solutions.{base, facts, definedness}
-use Rattle.opl_expr.specs.Sound.{IsSoundFact}
+use Rattle.opl_expr.specs.Sound.{IsSoundFact, var_magnitude}
+use Rattle.opl_marks.specs.Sound.{IsSoundSet}
+use Rattle.opl_marks.proofs.AnswersSound.{small_value}
+use Rattle.std.proofs.lemmas.List.Elements.{All-get_or}
+use Rattle.std.specs.Prelude.{int_le}
+use Rattle.std.proofs.Common.{max, ◌^◌, lit≤}
 use Rattle.opl_trace.specs.Marks.{numbers_from, trace, core_trace}
 use Rattle.std.specs.List.{All}
 use Rattle.std.proofs.lemmas.List.{length-map}
@@ -220,3 +225,21 @@ pub default_is : (core : Core) (n : ℕ) → labelling core (numbers_from zero (
 unfolding labelling trace declared
 default_is core n =
     ap (λ m. label (objective core) (core_sets core) (numbers_from zero m) (whole_leaf (objective core) (core_sets core)) (base core) None n) (sym (length-map core.sets (λ p. values (record { low = p.0; high = p.1 }))))
+
+-- ---- the constraints that labelling posts
+
+module _ (core : Core) (C : Family) (k : IsSoundCore core) (f : IsFamily C) (b : Below C (declared core)) where
+  magnitude_small : (x : ℕ) → x < length core.sets → var_magnitude core.sets x ≤ 2 ^ 62
+  magnitude_small x h =
+      let s = All-get_or IsSoundSet core.sets x (pos 0, pos 0) h k.sets in
+      let p = slice_index_or core.sets x (pos 0, pos 0) in
+      elim (int_le p.0 p.1) as (λ v. cond v (max 1 (max (unsigned_abs p.0) (unsigned_abs p.1))) 1 ≤ 2 ^ 62) [
+        | true ↦ omega (arith, s.low, s.high)
+        | false ↦ lit≤ tt
+      ]
+
+  pub value_sound : (x : ℕ) (v : ℤ) → x < length core.sets → has C x v ≡ true → IsSoundFact core.sets (is_value x v)
+  value_sound x v h m =
+      let l = magnitude_small x h in
+      let n = small_value core C f b x v h m in
+      (omega (arith, l, n), (omega (arith, l), h), omega (arith, l, n))

@@ -51,7 +51,7 @@ pub from_least : (vs : List ℤ) (v : ℤ) → IsLeast vs v → vs ≡ from_on (
 from_least vs v l = sym (filter_all (int_le v) vs (λ w m. le_true v w (l.least w m)))
 
 -- from a value on there is that value, and those above it
-above : (vs : List ℤ) (v : ℤ) → IsRising vs → member v vs ≡ true → filter (int_le v) vs ≡ v ∷ filter (int_lt v) vs
+pub above : (vs : List ℤ) (v : ℤ) → IsRising vs → member v vs ≡ true → filter (int_le v) vs ≡ v ∷ filter (int_lt v) vs
 above [] v r m = cc
 above (u ∷ vs) v r m = elim (member_cases v u vs m) [
   | inl e ↦
@@ -68,10 +68,10 @@ above (u ∷ vs) v r m = elim (member_cases v u vs m) [
       ∙ ap (λ ws. v ∷ ws) (sym (filter_not_first (int_lt v) u vs (lt_false v u (omega (arith, ints)))))
 ]
 
--- from a value on there is that value, and those from the next on
-pub from_next : (vs : List ℤ) (v : ℤ) (o : Option ℤ) → IsRising vs → member v vs ≡ true → IsNext vs v o → from_on (Some v) vs ≡ v ∷ from_on o vs
-from_next vs v None r m n = above vs v r m ∙ ap (λ ws. v ∷ ws) (filter_none (int_lt v) vs (λ w k. lt_false v w (n w k)))
-from_next vs v (Some u) r m n = above vs v r m ∙ ap (λ ws. v ∷ ws) (filter_same (int_lt v) (int_le u) vs (λ w k. side w k))
+-- those above a value are those from the next on
+pub rest_is : (vs : List ℤ) (v : ℤ) (o : Option ℤ) → IsNext vs v o → filter (int_lt v) vs ≡ from_on o vs
+rest_is vs v None n = filter_none (int_lt v) vs (λ w k. lt_false v w (n w k))
+rest_is vs v (Some u) n = filter_same (int_lt v) (int_le u) vs (λ w k. side w k)
   where
     not_above : (w : ℤ) → member w vs ≡ true → w <ℤ u → w ≤ℤ v
     not_above w k l = elim (int_le w v) as (λ b. int_le w v ≡ b → w ≤ℤ v) [
@@ -84,6 +84,21 @@ from_next vs v (Some u) r m n = above vs v r m ∙ ap (λ ws. v ∷ ws) (filter_
       | true ↦ λ e. lt_true v w (let a = is_le u w e in let b = n.above in omega (arith, ints))
       | false ↦ λ e. lt_false v w (not_above w k (not_le u w e))
     ] refl
+
+pub from_next : (vs : List ℤ) (v : ℤ) (o : Option ℤ) → IsRising vs → member v vs ≡ true → IsNext vs v o → from_on (Some v) vs ≡ v ∷ from_on o vs
+from_next vs v o r m n = above vs v r m ∙ ap (λ ws. v ∷ ws) (rest_is vs v o n)
+
+-- a value that is there, or none
+abbrev pub IsIn : List ℤ → Option ℤ → Type 0
+IsIn vs None = Unit {0}
+IsIn vs (Some v) = member v vs ≡ true
+
+pub next_in : (vs : List ℤ) (v : ℤ) (o : Option ℤ) → IsNext vs v o → IsIn vs o
+next_in vs v None n = tt
+next_in vs v (Some u) n = n.among
+
+pub shorter : (v : ℤ) (xs ys : List ℤ) → xs ≡ v ∷ ys → length ys < length xs
+shorter v xs ys e = subst (λ zs. length ys < length zs) (sym e) (omega arith)
 
 -- ---- the first value of each variable
 

@@ -71,11 +71,11 @@ pub fn copies(alloc: Global, constraints: &[Cons]) -> Result<Seq<Cons>, OutOfMem
     Ok(copies)
 }
 
-/// The constraints with one more behind them.
-pub fn extended(alloc: Global, constraints: &[Cons], c: &Cons) -> Result<Seq<Cons>, OutOfMemory>
-    ensures { IfOk result (λ r. r ≡ constraints.now ++ c.now ∷ []) }
+/// The constraints, and that variable `x` has the value `v`.
+pub fn with_value(alloc: Global, core: &Core, constraints: &[Cons], x: u32, v: i64) -> Result<Seq<Cons>, OutOfMemory>
+    ensures { IfOk result (λ r. facts_in core.now r ≡ facts_in core.now constraints.now ++ is_value x v ∷ []) }
 {
     let mut more = copies(alloc, constraints)?;
-    more.push(c.copy(alloc)?)?;
+    more.push(is_value(alloc, core, x, v)?)?;
     Ok(more)
 }

@@ -70,14 +70,14 @@ impl<'a, R: Ranges> Search<'a, R> {
         requires best { IsBest self.now.core.now.sets (goal_term self.now.core.now) best }
         ensures { IfOk result (λ o. IsMade self.now.core.now o (alternatives (values_then self.now.core.now x others.now (set_of sets.now x)) (facts_in self.now.core.now posted.now) best left)) }
     {
+        let _ = sets.vars();
         let mut made = Outcome::nothing(alloc, self.core, best, left);
         let mut next = Some(sets.min(x));
         while let Some(v) = next {
             if made.left == 0 {
                 return Ok(made.with_cut());
             }
-            let c = constraints::is_value(alloc, self.core, x, v)?;
-            let more = constraints::extended(alloc, posted, &c)?;
+            let more = constraints::with_value(alloc, self.core, posted, x, v)?;
             let outcome = self.label(alloc, others, more.as_slice(), made.best, made.left - 1)?;
             made = made.chosen(self.core, outcome)?;
             if made.is_cut {
