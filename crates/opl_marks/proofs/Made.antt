@@ -1,15 +1,15 @@
 -- The plain data of constraints that a search makes.
-use Rattle.std.proofs.Common.{◌≡◌, ℕ, suc, List, [], ◌∷◌, map, ℤ, ap, sym, ◌∙◌}
+use Rattle.std.proofs.Common.{◌≡◌, ℕ, List, ℤ, ap, ◌∙◌}
 use Rattle.opl_expr.specs.declared.forms.Op.{Op}
-use Rattle.opl_expr.specs.declared.forms.Op.TheVariants.{Eq, Lt, Le}
+use Rattle.opl_expr.specs.declared.forms.Op.TheVariants.{Eq, Lt}
 use Rattle.opl_expr.specs.declared.forms.Expr.{Expr}
 use Rattle.opl_expr.specs.declared.forms.Expr.TheVariants as E
 use Rattle.opl_expr.specs.declared.forms.Cons.TheVariants as C
 use Rattle.opl_expr.specs.declared.tables.Table.{Table}
 use Rattle.opl_expr.specs.declared.tables.Resource.{Resource}
-use Rattle.opl_expr.specs.Forms.{Term, Fact, term, fact, terms_of, compared, plus}
-use Rattle.opl_expr.proofs.Plain.{term_Const, term_Var, term_Sum, fact_Cmp}
-use Rattle.opl_trace.specs.Answers.{is_value, precedes}
+use Rattle.opl_expr.specs.Forms.{Term, Fact, term, fact, compared}
+use Rattle.opl_expr.proofs.Plain.{term_Const, term_Var, fact_Cmp}
+use Rattle.opl_trace.specs.Answers.{is_value}
 use Rattle.opl_trace.specs.Objective.{Objective, better_than}
 use Rattle.std.proofs.Common.{true, false}
 
@@ -26,14 +26,6 @@ module _ (tables : List Table) (resources : List Resource) where
 
   pub value_made : (x : ℕ) (v : ℤ) (l r : Expr) → l ≡ E.Var x → r ≡ E.Const v → fact tables resources (C.Cmp Eq l r) ≡ is_value x v
   value_made x v l r e f = compared_made Eq l r (Term.var x) (Term.const v) (var_made x l e) (const_made v r f)
-
-  pub end_made : (x y : ℕ) (es : List Expr) → es ≡ E.Var x ∷ E.Var y ∷ [] → term tables resources (E.Sum es) ≡ plus (Term.var x) (Term.var y)
-  end_made x y es e =
-      term_Sum tables resources es ∙ ap (λ fs. Term.sum (terms_of (map (term tables resources) fs))) e
-      ∙ ap (λ t. plus t (term tables resources (E.Var y))) (term_Var tables resources x) ∙ ap (plus (Term.var x)) (term_Var tables resources y)
-
-  pub precedes_made : (x y : ℕ) (l r : Expr) → term tables resources l ≡ plus (Term.var x) (Term.var (suc x)) → r ≡ E.Var y → fact tables resources (C.Cmp Le l r) ≡ precedes x y
-  precedes_made x y l r e f = compared_made Le l r (plus (Term.var x) (Term.var (suc x))) (Term.var y) e (var_made y r f)
 
   -- the objective is better than a number, as the two directions write it
   pub more_made : (g : Objective) (b : ℤ) (l r : Expr) → g.is_most ≡ true → l ≡ E.Const b → term tables resources r ≡ g.term → fact tables resources (C.Cmp Lt l r) ≡ better_than g b

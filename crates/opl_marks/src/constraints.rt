@@ -1,9 +1,8 @@
 //! Constraints that a search makes itself, and lists of constraints.
-ghost use Rattle.std.specs.Prelude.{◌≡◌, ◌++◌, ◌∷◌, [], ◌+◌, ◌<◌, ◌^◌, IfOk};
-ghost use Rattle.std.specs.Prelude.{suc};
-ghost use Rattle.opl_expr.specs.Forms.{Fact, Term, term, fact, plus};
+ghost use Rattle.std.specs.Prelude.{◌≡◌, ◌++◌, ◌∷◌, [], IfOk};
+ghost use Rattle.opl_expr.specs.Forms.{Fact, term, fact};
 ghost use Rattle.opl_expr.specs.Forms.Relation.{equal};
-ghost use Rattle.opl_trace.specs.Answers.{is_value, precedes};
+ghost use Rattle.opl_trace.specs.Answers.{is_value};
 ghost use Rattle.opl_trace.specs.Objective.{better_than};
 ghost use Rattle.opl_marks.specs.Outcomes.{facts_in};
 
@@ -17,26 +16,6 @@ pub fn is_value(alloc: Global, core: &Core, x: u32, v: i64) -> Result<Cons, OutO
 {
     let left = Boxed::new(alloc, Expr::Var(x))?;
     Ok(Cons::Cmp(Op::Eq, left, Boxed::new(alloc, Expr::Const(v as i128))?))
-}
-
-/// The end of the activity that starts at variable `x`.
-fn end(alloc: Global, core: &Core, x: u32) -> Result<Expr, OutOfMemory>
-    requires { x + 1 < 2 ^ 32 }
-    ensures { IfOk result (λ e. term core.now.tables core.now.resources e ≡ plus (Term.var x) (Term.var (suc x))) }
-{
-    let mut parts = Seq::new(alloc);
-    parts.push(Expr::Var(x))?;
-    parts.push(Expr::Var(x + 1))?;
-    Ok(Expr::Sum(parts))
-}
-
-/// The activity that starts at variable `x` ends before the one that starts at `y`.
-pub fn precedes(alloc: Global, core: &Core, x: u32, y: u32) -> Result<Cons, OutOfMemory>
-    requires { x + 1 < 2 ^ 32 }
-    ensures { IfOk result (λ c. fact core.now.tables core.now.resources c ≡ precedes x y) }
-{
-    let left = Boxed::new(alloc, end(alloc, core, x)?)?;
-    Ok(Cons::Cmp(Op::Le, left, Boxed::new(alloc, Expr::Var(y))?))
 }
 
 /// The objective is better than `best`.
