@@ -12,14 +12,14 @@ use Rattle.opl_expr.specs.declared.forms.Cons.TheVariants as C
 use Rattle.opl_expr.specs.declared.tables.Table.{Table}
 use Rattle.opl_expr.specs.declared.tables.Resource.{Resource}
 use Rattle.opl_expr.specs.declared.tables.Use.{Use}
-use Rattle.opl_expr.specs.Forms.{Term, Terms, Fact, Facts, terms_of, facts_of, constant_value, product, product_by, compared, defined, all_different, demand_at, capacity_at, term, fact}
+use Rattle.opl_expr.specs.Forms.{Term, Terms, Fact, terms_of, facts_of, constant_value, product, compared, defined, all_different, demand_at, capacity_at, term, fact}
 use Rattle.opl_expr.specs.Forms.Facts.{no_facts, more_facts}
 use Rattle.opl_expr.specs.Forms.Relation.{equal, at_most}
 use Rattle.opl_expr.proofs.Plain.{term_Const, term_Var, term_Sum, term_Neg, term_Mul, term_Div, term_Rem, term_Abs, term_Min, term_Max, term_At, term_Truth, term_Ask, fact_Fixed, fact_Cmp, fact_And, fact_Or, fact_Imp, fact_Iff, fact_Not, fact_AllDifferent, fact_Capacity, fact_Bound}
 use Rattle.opl_expr.proofs.Parts.{product_cases}
 use Rattle.opl_trace.specs.Answers.{answer, answered_term, answered_terms, answered, all_answered, is_single}
 use Rattle.opl_marks.specs.Answered.{is_some_number, is_swapped}
-use Rattle.std.proofs.Common.{subst, length, pos, ◌≤◌, suc, zero}
+use Rattle.std.proofs.Common.{subst, length, pos, ◌≤◌}
 use Rattle.std.specs.Prelude.{nat_eq, IfOk, Result, Ok, Err}
 use Rattle.opl_domain.specs.Span.{hull_of}
 use Rattle.opl_domain.specs.Family.{set_of, hull, IsLeast, IsGreatest}

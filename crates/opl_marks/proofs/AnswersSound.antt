@@ -1,16 +1,15 @@
 -- A constraint of a search section is sound once its questions are answered.
-use Rattle.std.proofs.Common.{◌≡◌, ℕ, suc, ◌+◌, ◌*◌, ◌<◌, ◌≤◌, max, true, List, [], ◌∷◌, length, ℤ, pos, ◌≤ℤ◌, ◌<ℤ◌, ◌+ℤ◌, ap, sym, ◌∙◌, subst, arith, refl}
-use Rattle.std.specs.Prelude.{Option, Some, None, unsigned_abs, slice_index_or}
+use Rattle.std.proofs.Common.{◌≡◌, ℕ, suc, ◌*◌, ◌<◌, ◌≤◌, max, true, List, [], ◌∷◌, length, ℤ, pos, ◌≤ℤ◌, ◌+ℤ◌, sym, ◌∙◌, subst, arith, refl}
+use Rattle.std.specs.Prelude.{Some, None, unsigned_abs, slice_index_or}
 use Rattle.std.proofs.Math.Nat.{mul-le-mul, mul-le-mul_left}
 use Rattle.std.proofs.lemmas.Int.{ints}
 use Rattle.std.proofs.lemmas.List.{length-map}
 use Rattle.opl_domain.specs.Span.{values, span_size}
-use Rattle.opl_domain.specs.Family.{Family, IsFamily, IsRising, Below, set_of, has, hull, member}
+use Rattle.opl_domain.specs.Family.{Family, IsFamily, IsRising, Below, set_of, has, member}
 use Rattle.opl_expr.specs.declared.forms.Ask.{Ask}
 use Rattle.opl_expr.specs.declared.forms.Ask.TheVariants.{Size, Least, Greatest}
-use Rattle.opl_expr.specs.declared.tables.Table.{Table}
-use Rattle.opl_expr.specs.Forms.{Term, Terms, Fact, Facts, constant_value, product}
-use Rattle.opl_expr.specs.Sound.{IsSmall, IsSome, greatest_abs, var_magnitude, term_magnitude, sum_magnitude, greatest_magnitude, table_magnitude, FitDimensions, FitTable, IsSoundTerm, AreSoundTerms, IsSoundFact, AreSoundFacts}
+use Rattle.opl_expr.specs.Forms.{Term, Terms, Fact, Facts, product}
+use Rattle.opl_expr.specs.Sound.{IsSmall, IsSome, var_magnitude, term_magnitude, sum_magnitude, greatest_magnitude, FitDimensions, IsSoundTerm, AreSoundTerms, IsSoundFact, AreSoundFacts}
 use Rattle.opl_expr.proofs.Parts.{product_cases}
 use Rattle.opl_trace.specs.Answers.{answer, answered_term, answered_terms, answered, all_answered}
 use Rattle.opl_expr.specs.declared.model.Core.{Core}
@@ -20,7 +19,7 @@ use Rattle.opl_domain.proofs.Sets.{hull_made, first_is_least, last_is_greatest}
 use Rattle.opl_expr.proofs.Bounds.{within_set}
 use Rattle.opl_marks.proofs.AnswerParts.{some_values}
 use Rattle.std.proofs.Common.{zero, ◌-◌, map, get_or, neg_ℤ}
-use Rattle.opl_marks.specs.Questions.{ask_magnitude, size_magnitude, open_magnitude, open_sum, open_greatest, FitOpen, FitOpenTable, IsOpenTerm, AreOpenTerms, IsOpenFact, AreOpenFacts}
+use Rattle.opl_marks.specs.Questions.{ask_magnitude, open_magnitude, open_sum, open_greatest, FitOpen, IsOpenTerm, AreOpenTerms, IsOpenFact, AreOpenFacts}
 
 -- no answer is greater than the magnitude of its question
 pub record AreBounded (sets : List (ℤ × ℤ)) (F : Family) : Type 0 where

@@ -1,5 +1,5 @@
 -- What labelling makes at a moment, and alternatives one after another.
-use Rattle.std.proofs.Common.{◌≡◌, ℕ, zero, suc, ◌+◌, ◌-◌, ◌<◌, ◌≤◌, Bool, true, false, cond, ◌&&◌, refl, List, [], ◌∷◌, ◌++◌, map, length, get_or, ℤ, pos, ap, sym, ◌∙◌, subst, arith, append_assoc}
+use Rattle.std.proofs.Common.{◌≡◌, ℕ, zero, suc, ◌+◌, ◌<◌, ◌≤◌, true, false, cond, refl, List, [], ◌∷◌, ◌++◌, length, ℤ, pos, ap, sym, ◌∙◌, subst, arith, append_assoc}
 use Rattle.std.specs.Prelude.{Option, Some, None, unsigned_abs, slice_index_or}
 use Rattle.std.proofs.lemmas.List.{append-nil}
 use Rattle.std.proofs.lemmas.Bool.{and_from}
@@ -7,15 +7,13 @@ use Rattle.opl_domain.specs.Family.{Family, IsFamily, Below, Full, set_of, has, 
 use Rattle.opl_domain.proofs.Members.{member_first}
 use Rattle.opl_expr.specs.declared.model.Core.{Core}
 use Rattle.opl_expr.specs.Forms.{Term, Fact}
-use Rattle.opl_expr.specs.Holds.{value}
 use Rattle.opl_expr.specs.Options.{lift1}
 use Rattle.opl_expr.specs.Solutions.{declared, is_among, goal_term}
-use Rattle.opl_expr.specs.Sound.{IsSoundTerm, term_magnitude}
 use Rattle.opl_expr.proofs.Bounds.{bounded, value_small}
 use Rattle.opl_trace.specs.Answers.{is_single, is_value}
 use Rattle.opl_trace.specs.Marks.{objective}
 use Rattle.opl_trace.specs.Objective.{Objective, best_after}
-use Rattle.opl_trace.specs.Run.{Mark, Out, Rest, nothing, stopped, marked, behind, after, alternatives, entered, within, whole_leaf, label, values_of}
+use Rattle.opl_trace.specs.Run.{Mark, Out, Rest, nothing, marked, behind, after, alternatives, entered, within, whole_leaf, label, values_of}
 use Rattle.opl_trace.specs.Run.Mark.{choice, leaf, solution, cut}
 use Rattle.opl_trace.proofs.Posting.{closed_stable}
 use Rattle.opl_marks.specs.Moments.{core_sets}

@@ -7,7 +7,7 @@ use Rattle.opl_expr.specs.declared.forms.Expr.TheVariants as E
 use Rattle.opl_expr.specs.declared.forms.Cons.TheVariants as C
 use Rattle.opl_expr.specs.declared.tables.Table.{Table}
 use Rattle.opl_expr.specs.declared.tables.Resource.{Resource}
-use Rattle.opl_expr.specs.Forms.{Term, Fact, term, fact, compared}
+use Rattle.opl_expr.specs.Forms.{Term, term, fact, compared}
 use Rattle.opl_expr.proofs.Plain.{term_Const, term_Var, fact_Cmp}
 use Rattle.opl_trace.specs.Answers.{is_value}
 use Rattle.opl_trace.specs.Objective.{Objective, better_than}

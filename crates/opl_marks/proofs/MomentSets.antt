@@ -1,6 +1,6 @@
 -- The sets of a moment, and what is asked of them.
-use Rattle.std.proofs.Common.{◌≡◌, ℕ, zero, suc, ◌<◌, ◌≤◌, ◌+◌, Bool, true, false, cond, ◌||◌, refl, List, [], ◌∷◌, ◌++◌, map, length, get_or, ℤ, pos, negsuc, ◌≤ℤ◌, ◌+ℤ◌, neg_ℤ, ap, sym, ◌∙◌, subst, arith}
-use Rattle.std.specs.Prelude.{Option, Some, None, int_lt, unsigned_abs}
+use Rattle.std.proofs.Common.{◌≡◌, ℕ, zero, suc, ◌<◌, Bool, true, false, cond, ◌||◌, refl, List, [], ◌∷◌, ◌++◌, map, length, get_or, ℤ, pos, negsuc, ◌≤ℤ◌, ◌+ℤ◌, neg_ℤ, ap, sym, ◌∙◌, subst, arith}
+use Rattle.std.specs.Prelude.{Option, Some, None, int_lt}
 use Rattle.std.specs.List.{All, list_any}
 use Rattle.std.proofs.lemmas.Int.{ints}
 use Rattle.std.proofs.lemmas.List.{append-nil}
@@ -8,16 +8,15 @@ use Rattle.std.proofs.lemmas.List.Elements.{All-head, All-tail, All-nil, All-con
 use Rattle.opl_expr.specs.Options.{bind1}
 use Rattle.opl_expr.specs.Range.{range, fact_range}
 use Rattle.opl_trace.specs.Answers.{is_some_point, answered, answered_term, is_met, is_decided, key_value}
-use Rattle.opl_domain.specs.Span.{Span, values, span_size, count_from, ints_from}
-use Rattle.opl_domain.specs.Family.{Family, IsFamily, Below, Full, set_of, has, member}
+use Rattle.opl_domain.specs.Span.{Span, values, count_from, ints_from}
+use Rattle.opl_domain.specs.Family.{Family, Below, set_of, member}
 use Rattle.opl_expr.specs.declared.model.Core.{Core}
-use Rattle.opl_expr.specs.declared.model.Goal.{Goal}
 use Rattle.opl_expr.specs.Forms.{Term, Fact, term}
 use Rattle.opl_expr.specs.Forms.Relation.{below}
 use Rattle.opl_expr.specs.Options.{lift1}
 use Rattle.opl_expr.specs.Range.{is_refuted}
 use Rattle.opl_expr.specs.Solutions.{declared, goal_term}
-use Rattle.opl_expr.specs.Sound.{IsSmall, term_magnitude, IsSoundTerm, IsSoundFact}
+use Rattle.opl_expr.specs.Sound.{IsSoundFact}
 use Rattle.opl_trace.specs.Between.{IsRangeOfValues, values_between}
 use Rattle.opl_trace.specs.Closure.{closure}
 use Rattle.opl_trace.specs.Stable.{IsMonotone}

@@ -1,9 +1,9 @@
 -- The values of a set one after another.
-use Rattle.std.proofs.Common.{◌≡◌, ℕ, zero, suc, ◌+◌, ◌<◌, Bool, true, false, cond, refl, List, [], ◌∷◌, ◌++◌, map, length, get_or, take, ℤ, pos, ◌≤ℤ◌, ◌<ℤ◌, ap, sym, ◌∙◌, subst, arith, inl, inr}
+use Rattle.std.proofs.Common.{◌≡◌, ℕ, zero, suc, ◌+◌, ◌<◌, Bool, true, false, cond, refl, List, [], ◌∷◌, ◌++◌, length, take, ℤ, pos, ◌≤ℤ◌, ◌<ℤ◌, ap, sym, ◌∙◌, subst, arith, inl, inr}
 use Rattle.std.specs.Prelude.{Option, Some, None, int_le, int_lt, slice_index_or}
 use Rattle.std.specs.List.{filter}
 use Rattle.std.proofs.lemmas.Int.{ints}
-use Rattle.opl_domain.specs.Family.{Family, IsFamily, IsRising, IsLeast, IsLeastAbove, IsNext, set_of, has, member}
+use Rattle.opl_domain.specs.Family.{Family, IsFamily, IsRising, IsLeast, IsNext, set_of, member}
 use Rattle.opl_domain.proofs.Members.{member_cases, member_first, member_later, between_is}
 use Rattle.opl_domain.proofs.Sets.{first_is_least, is_le, not_le}
 use Rattle.opl_trace.specs.Run.{values_of}
@@ -58,9 +58,9 @@ above (u ∷ vs) v r m = elim (member_cases v u vs m) [
       let here : u ≡ v = sym e in
       subst (λ w. ((x : ℤ) → member x vs ≡ true → w <ℤ x) → filter (int_le v) (w ∷ vs) ≡ v ∷ filter (int_lt v) (w ∷ vs)) e
       (λ above_v.
-        filter_first (int_le v) v vs (le_true v v (omega (arith, ints)))
-        ∙ ap (λ ws. v ∷ ws) (filter_same (int_le v) (int_lt v) vs (λ w n. le_true v w (let k = above_v w n in omega (arith, ints)) ∙ sym (lt_true v w (above_v w n))))
-        ∙ ap (λ ws. v ∷ ws) (sym (filter_not_first (int_lt v) v vs (lt_false v v (omega (arith, ints))))))
+      filter_first (int_le v) v vs (le_true v v (omega (arith, ints)))
+      ∙ ap (λ ws. v ∷ ws) (filter_same (int_le v) (int_lt v) vs (λ w n. le_true v w (let k = above_v w n in omega (arith, ints)) ∙ sym (lt_true v w (above_v w n))))
+      ∙ ap (λ ws. v ∷ ws) (sym (filter_not_first (int_lt v) v vs (lt_false v v (omega (arith, ints))))))
       r.0
   | inr n ↦
       let k = r.0 v n in

@@ -1,5 +1,5 @@
 -- What a search has made, as the program keeps it.
-use Rattle.std.specs.Prelude.{◌≡◌, ℕ, ◌≤◌, List, [], ◌∷◌, map, ℤ, unsigned_abs, Option, Some, None}
+use Rattle.std.specs.Prelude.{◌≡◌, ◌≤◌, List, [], ◌∷◌, map, ℤ, unsigned_abs, Option, Some, None}
 use Rattle.std.specs.List.{All}
 use Rattle.opl_expr.specs.declared.model.Core.{Core}
 use Rattle.opl_expr.specs.declared.forms.Cons.{Cons}

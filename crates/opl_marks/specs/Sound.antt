@@ -4,8 +4,7 @@ use Rattle.std.specs.List.{All}
 use Rattle.opl_domain.specs.Span.{span_size}
 use Rattle.opl_domain.specs.Family.{most_values}
 use Rattle.opl_expr.specs.declared.model.Core.{Core}
-use Rattle.opl_expr.specs.Forms.{Term, Fact}
-use Rattle.opl_expr.specs.Options.{lift1}
+use Rattle.opl_expr.specs.Forms.{Term}
 use Rattle.opl_expr.specs.Solutions.{facts, goal_term}
 use Rattle.opl_expr.specs.Sound.{IsSmall, term_magnitude, IsSoundTerm, IsSoundFact}
 use Rattle.opl_trace.specs.Statements.{Statement, Statements, Branch, Branches}

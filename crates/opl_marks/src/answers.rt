@@ -61,7 +61,15 @@ fn is_swapped(core: &Core, a: &Expr, b: &Expr) -> bool
 }
 
 /// A product, of whose factors both the forms and the answers are given. A factor that was a number comes first.
-fn answered_product(alloc: Global, core: &Core, sets: &Sets, a: &Expr, b: &Expr, first: Expr, second: Expr) -> Result<Expr, OutOfMemory>
+fn answered_product(
+    alloc: Global,
+    core: &Core,
+    sets: &Sets,
+    a: &Expr,
+    b: &Expr,
+    first: Expr,
+    second: Expr,
+) -> Result<Expr, OutOfMemory>
     requires left { term core.now.tables core.now.resources first ≡ answered_term sets.now (term core.now.tables core.now.resources a.now) }
     requires right { term core.now.tables core.now.resources second ≡ answered_term sets.now (term core.now.tables core.now.resources b.now) }
     ensures { IfOk result (λ r. term core.now.tables core.now.resources r ≡ answered_term sets.now (product (term core.now.tables core.now.resources a.now) (term core.now.tables core.now.resources b.now))) }
@@ -77,7 +85,12 @@ fn answered_product(alloc: Global, core: &Core, sets: &Sets, a: &Expr, b: &Expr,
 
 /// Expressions with their questions answered, in their order.
 #[cycle(answers)]
-fn answered_terms(alloc: Global, core: &Core, sets: &Sets, parts: &[Expr]) -> Result<Seq<Expr>, OutOfMemory>
+fn answered_terms(
+    alloc: Global,
+    core: &Core,
+    sets: &Sets,
+    parts: &[Expr],
+) -> Result<Seq<Expr>, OutOfMemory>
     ensures { IfOk result (λ r. map (term core.now.tables core.now.resources) r ≡ map (λ e. answered_term sets.now (term core.now.tables core.now.resources e)) parts.now) }
 {
     let mut answers = Seq::new(alloc);
@@ -96,7 +109,10 @@ pub fn answered_term(alloc: Global, core: &Core, sets: &Sets, e: &Expr) -> Resul
         Expr::Const(k) => Ok(Expr::Const(*k)),
         Expr::Var(x) => Ok(Expr::Var(*x)),
         Expr::Sum(parts) => Ok(Expr::Sum(answered_terms(alloc, core, sets, parts.as_slice())?)),
-        Expr::Neg(a) => Ok(Expr::Neg(Boxed::new(alloc, answered_term(alloc, core, sets, a.get())?)?)),
+        Expr::Neg(a) => Ok(Expr::Neg(Boxed::new(
+            alloc,
+            answered_term(alloc, core, sets, a.get())?,
+        )?)),
         Expr::Mul(a, b) => {
             let first = answered_term(alloc, core, sets, a.get())?;
             let second = answered_term(alloc, core, sets, b.get())?;
@@ -110,18 +126,32 @@ pub fn answered_term(alloc: Global, core: &Core, sets: &Sets, e: &Expr) -> Resul
             Boxed::new(alloc, answered_term(alloc, core, sets, a.get())?)?,
             Boxed::new(alloc, answered_term(alloc, core, sets, b.get())?)?,
         )),
-        Expr::Abs(a) => Ok(Expr::Abs(Boxed::new(alloc, answered_term(alloc, core, sets, a.get())?)?)),
+        Expr::Abs(a) => Ok(Expr::Abs(Boxed::new(
+            alloc,
+            answered_term(alloc, core, sets, a.get())?,
+        )?)),
         Expr::Min(parts) => Ok(Expr::Min(answered_terms(alloc, core, sets, parts.as_slice())?)),
         Expr::Max(parts) => Ok(Expr::Max(answered_terms(alloc, core, sets, parts.as_slice())?)),
-        Expr::At(table, parts) => Ok(Expr::At(*table, answered_terms(alloc, core, sets, parts.as_slice())?)),
-        Expr::Truth(c) => Ok(Expr::Truth(Boxed::new(alloc, answered(alloc, core, sets, c.get())?)?)),
+        Expr::At(table, parts) => Ok(Expr::At(
+            *table,
+            answered_terms(alloc, core, sets, parts.as_slice())?,
+        )),
+        Expr::Truth(c) => Ok(Expr::Truth(Boxed::new(
+            alloc,
+            answered(alloc, core, sets, c.get())?,
+        )?)),
         Expr::Ask(ask, x) => Ok(Expr::Const(answer(sets, *ask, *x))),
     }
 }
 
 /// Constraints with their questions answered, in their order.
 #[cycle(answers)]
-fn all_answered(alloc: Global, core: &Core, sets: &Sets, parts: &[Cons]) -> Result<Seq<Cons>, OutOfMemory>
+fn all_answered(
+    alloc: Global,
+    core: &Core,
+    sets: &Sets,
+    parts: &[Cons],
+) -> Result<Seq<Cons>, OutOfMemory>
     ensures { IfOk result (λ r. map (fact core.now.tables core.now.resources) r ≡ map (λ c. answered sets.now (fact core.now.tables core.now.resources c)) parts.now) }
 {
     let mut answers = Seq::new(alloc);
@@ -154,7 +184,12 @@ pub fn answered(alloc: Global, core: &Core, sets: &Sets, c: &Cons) -> Result<Con
             Boxed::new(alloc, answered(alloc, core, sets, b.get())?)?,
         )),
         Cons::Not(a) => Ok(Cons::Not(Boxed::new(alloc, answered(alloc, core, sets, a.get())?)?)),
-        Cons::AllDifferent(parts) => Ok(Cons::AllDifferent(answered_terms(alloc, core, sets, parts.as_slice())?)),
+        Cons::AllDifferent(parts) => Ok(Cons::AllDifferent(answered_terms(
+            alloc,
+            core,
+            sets,
+            parts.as_slice(),
+        )?)),
         Cons::Capacity(resource, time) => Ok(Cons::Capacity(*resource, *time)),
         Cons::Bound(x) => Ok(Cons::Fixed(is_single(sets, *x))),
     }

@@ -51,7 +51,13 @@ pub fn copies(alloc: Global, constraints: &[Cons]) -> Result<Seq<Cons>, OutOfMem
 }
 
 /// The constraints, and that variable `x` has the value `v`.
-pub fn with_value(alloc: Global, core: &Core, constraints: &[Cons], x: u32, v: i64) -> Result<Seq<Cons>, OutOfMemory>
+pub fn with_value(
+    alloc: Global,
+    core: &Core,
+    constraints: &[Cons],
+    x: u32,
+    v: i64,
+) -> Result<Seq<Cons>, OutOfMemory>
     ensures { IfOk result (λ r. facts_in core.now r ≡ facts_in core.now constraints.now ++ is_value x v ∷ []) }
 {
     let mut more = copies(alloc, constraints)?;

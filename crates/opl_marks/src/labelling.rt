@@ -10,12 +10,11 @@ ghost use Rattle.opl_marks.specs.Moments.{core_sets};
 ghost use Rattle.opl_marks.specs.Labelling.{labelling, values_then};
 ghost use Rattle.opl_marks.specs.Outcomes.{facts_in, AreSound, IsBest, IsMade};
 
-use crate::answers;
-use crate::constraints;
 use crate::mark::Mark;
 use crate::moment::Search;
 use crate::outcome::Outcome;
 use crate::ranges::Ranges;
+use crate::{answers, constraints};
 use opl_domain::View;
 use opl_expr::{Cons, OutOfMemory, value};
 use opl_list::Seq;
@@ -47,7 +46,14 @@ impl<'a, R: Ranges> Search<'a, R> {
     }
 
     /// The solution at the end.
-    fn leaf(&self, alloc: Global, sets: &Sets, posted: &[Cons], best: Option<i128>, left: u64) -> Result<Outcome, OutOfMemory>
+    fn leaf(
+        &self,
+        alloc: Global,
+        sets: &Sets,
+        posted: &[Cons],
+        best: Option<i128>,
+        left: u64,
+    ) -> Result<Outcome, OutOfMemory>
         requires core { IsSoundCore self.now.core.now }
         requires best { IsBest self.now.core.now.sets (goal_term self.now.core.now) best }
         requires moment { core_sets self.now.core.now (facts_in self.now.core.now posted.now) best ≡ Some sets.now }
@@ -61,7 +67,16 @@ impl<'a, R: Ranges> Search<'a, R> {
 
     /// What the values of variable `x`, each followed by the other variables, make.
     #[cycle(labelling)]
-    fn values(&self, alloc: Global, sets: &Sets, x: u32, others: &[u32], posted: &[Cons], best: Option<i128>, left: u64) -> Result<Outcome, OutOfMemory>
+    fn values(
+        &self,
+        alloc: Global,
+        sets: &Sets,
+        x: u32,
+        others: &[u32],
+        posted: &[Cons],
+        best: Option<i128>,
+        left: u64,
+    ) -> Result<Outcome, OutOfMemory>
         requires core { IsSoundCore self.now.core.now }
         requires variable { x < length self.now.core.now.sets }
         requires others { AreThere self.now.core.now.sets others.now }
@@ -90,7 +105,14 @@ impl<'a, R: Ranges> Search<'a, R> {
 
     /// What labelling makes, with these constraints, this best value and so many choices left.
     #[cycle(labelling)]
-    pub fn label(&self, alloc: Global, variables: &[u32], posted: &[Cons], best: Option<i128>, left: u64) -> Result<Outcome, OutOfMemory>
+    pub fn label(
+        &self,
+        alloc: Global,
+        variables: &[u32],
+        posted: &[Cons],
+        best: Option<i128>,
+        left: u64,
+    ) -> Result<Outcome, OutOfMemory>
         requires core { IsSoundCore self.now.core.now }
         requires variables { AreThere self.now.core.now.sets variables.now }
         requires posted { AreSound self.now.core.now (facts_in self.now.core.now posted.now) }

@@ -41,7 +41,13 @@ fn base(alloc: Global, core: &Core) -> Result<Seq<Cons>, OutOfMemory>
 }
 
 /// The sets of a moment, by its constraints and its best value; none where the closure has failed.
-pub fn closure_of<R: Ranges>(alloc: Global, ranges: &R, core: &Core, posted: &[Cons], best: Option<i128>) -> Result<Option<Sets>, OutOfMemory>
+pub fn closure_of<R: Ranges>(
+    alloc: Global,
+    ranges: &R,
+    core: &Core,
+    posted: &[Cons],
+    best: Option<i128>,
+) -> Result<Option<Sets>, OutOfMemory>
     requires core { IsSoundCore core.now }
     requires posted { AreSound core.now (facts_in core.now posted.now) }
     requires best { IsBest core.now.sets (goal_term core.now) best }
@@ -53,7 +59,12 @@ pub fn closure_of<R: Ranges>(alloc: Global, ranges: &R, core: &Core, posted: &[C
 }
 
 /// The marks of default search with `budget` choices.
-pub fn default_marks<R: Ranges>(alloc: Global, ranges: &R, core: &Core, budget: u64) -> Result<Seq<Mark>, OutOfMemory>
+pub fn default_marks<R: Ranges>(
+    alloc: Global,
+    ranges: &R,
+    core: &Core,
+    budget: u64,
+) -> Result<Seq<Mark>, OutOfMemory>
     requires { IsSoundCore core.now }
     ensures { IfOk result (λ ms. marks_in core.now ms ≡ core_marks true core.now budget) }
 {

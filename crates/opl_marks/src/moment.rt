@@ -15,9 +15,8 @@ ghost use Rattle.opl_marks.specs.Sound.{IsSoundCore, IsOpenKey};
 ghost use Rattle.opl_marks.specs.Moments.{core_sets};
 ghost use Rattle.opl_marks.specs.Outcomes.{facts_in, AreSound, IsBest};
 
-use crate::answers;
-use crate::constraints;
 use crate::ranges::Ranges;
+use crate::{answers, constraints};
 use opl_domain::{Interval, View};
 use opl_expr::{Cons, Core, Expr, OutOfMemory};
 use opl_list::Seq;
@@ -73,7 +72,12 @@ fn has_empty(ends: &[(i64, i64)]) -> bool
 }
 
 /// The constraints, and the one that asks for a better value than `best`.
-fn members(alloc: Global, core: &Core, posted: &[Cons], best: Option<i128>) -> Result<Seq<Cons>, OutOfMemory>
+fn members(
+    alloc: Global,
+    core: &Core,
+    posted: &[Cons],
+    best: Option<i128>,
+) -> Result<Seq<Cons>, OutOfMemory>
     ensures { IfOk result (λ r. facts_in core.now r ≡ facts_in core.now posted.now ++ bound (objective core.now) best) }
 {
     let mut members = constraints::copies(alloc, posted)?;
@@ -101,7 +105,12 @@ fn is_some_point(range: Option<Interval>, k: i128) -> bool
 
 impl<'a, R: Ranges> Search<'a, R> {
     /// The sets of a moment, by its constraints and its best value; none where there are none.
-    pub fn sets(&self, alloc: Global, posted: &[Cons], best: Option<i128>) -> Result<Option<Sets>, OutOfMemory>
+    pub fn sets(
+        &self,
+        alloc: Global,
+        posted: &[Cons],
+        best: Option<i128>,
+    ) -> Result<Option<Sets>, OutOfMemory>
         requires core { IsSoundCore self.now.core.now }
         requires posted { AreSound self.now.core.now (facts_in self.now.core.now posted.now) }
         requires best { IsBest self.now.core.now.sets (goal_term self.now.core.now) best }
@@ -143,7 +152,12 @@ impl<'a, R: Ranges> Search<'a, R> {
     }
 
     /// The value of a key; none where there is no key or it is undefined.
-    pub fn key_value(&self, alloc: Global, sets: &Sets, key: &Option<Expr>) -> Result<Option<i128>, OutOfMemory>
+    pub fn key_value(
+        &self,
+        alloc: Global,
+        sets: &Sets,
+        key: &Option<Expr>,
+    ) -> Result<Option<i128>, OutOfMemory>
         requires open { IsOpenKey self.now.core.now.sets (lift1 (term self.now.core.now.tables self.now.core.now.resources) key.now) }
         requires within { Below sets.now (declared self.now.core.now) }
         ensures { IfOk result (λ o. o ≡ key_value sets.now (lift1 (term self.now.core.now.tables self.now.core.now.resources) key.now)) }

@@ -32,7 +32,12 @@ impl Outcome {
     }
 
     /// One mark.
-    pub fn one(alloc: Global, mark: Mark, best: Option<i128>, left: u64) -> Result<Outcome, OutOfMemory>
+    pub fn one(
+        alloc: Global,
+        mark: Mark,
+        best: Option<i128>,
+        left: u64,
+    ) -> Result<Outcome, OutOfMemory>
         ensures { IfOk result (λ o. o ≡ record { marks = mark ∷ []; best = best; left = left; is_cut = false }) }
     {
         let mut marks = Seq::new(alloc);
@@ -61,7 +66,12 @@ impl Outcome {
     pub fn with_cut(self) -> Outcome
         ensures { result ≡ record self { is_cut = true } }
     {
-        let Outcome { marks, best, left, .. } = self;
+        let Outcome {
+            marks,
+            best,
+            left,
+            ..
+        } = self;
         Outcome {
             marks,
             best,
@@ -77,7 +87,12 @@ impl Outcome {
         let Outcome { marks, .. } = self;
         let mut before = marks;
         before.push(Mark::Choice)?;
-        let Outcome { marks, best, left, is_cut } = next;
+        let Outcome {
+            marks,
+            best,
+            left,
+            is_cut,
+        } = next;
         Ok(Outcome {
             marks: joined(before, marks)?,
             best,

@@ -1,4 +1,4 @@
-use Rattle.opl_marks.proofs.AnswerParts.{part, fact_part, parts, fact_parts, made_Const, made_Var, made_Ask, made_Neg, made_Abs, made_Truth, made_Div, made_Rem, made_Mul, made_Sum, made_Min, made_Max, made_At, made_Fixed, made_Cmp, made_And, made_Or, made_Imp, made_Iff, made_Not, made_AllDifferent, made_Capacity, made_Bound, mul_mapped}
+use Rattle.opl_marks.proofs.AnswerParts.{part, fact_part, parts, fact_parts, made_Const, made_Var, made_Ask, made_Neg, made_Abs, made_Truth, made_Div, made_Rem, made_Sum, made_Min, made_Max, made_At, made_Fixed, made_Cmp, made_And, made_Or, made_Imp, made_Iff, made_Not, made_AllDifferent, made_Capacity, made_Bound, mul_mapped}
 use Rattle.std.proofs.Common.{rules}
 use Rattle.std.specs.Prelude.{FitsSigned}
 use Rattle.std.proofs.lemmas.Int.{to_z-of_z}
@@ -99,4 +99,3 @@ answered-returns-in-Capacity t c =
 pub answered-returns-in-Bound : goal.answered-returns-in-Bound
 answered-returns-in-Bound t c =
     made_Bound _ _ _ _ _ _ c.in-Bound.is c.is_single.ensures
-

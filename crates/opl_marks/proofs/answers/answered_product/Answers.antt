@@ -1,4 +1,4 @@
-use Rattle.std.proofs.Common.{sym, ◌∙◌}
+use Rattle.std.proofs.Common.{sym}
 use Rattle.opl_marks.proofs.AnswerParts.{made_swapped, made_kept}
 use Rattle.opl_marks.proofs.answers.answered_product.Goals as goal
 

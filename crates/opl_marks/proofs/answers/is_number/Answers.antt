@@ -39,4 +39,3 @@ returns-in-Truth c = number_Truth _ _ _ _ c.in-Truth.is
 
 pub returns-in-Ask : goal.returns-in-Ask
 returns-in-Ask c = number_Ask _ _ _ _ _ c.in-Ask.is
-

@@ -1,5 +1,4 @@
 use Rattle.std.proofs.Common.{None, ◌+◌, ◌≤◌, length, ap, sym, ◌∙◌, subst, arith}
-use Rattle.opl_expr.specs.Solutions.{base}
 use Rattle.opl_trace.specs.Marks.{numbers_from}
 use Rattle.opl_trace.specs.Run.{marks_of}
 use Rattle.opl_marks.specs.Sound.{AreThere}

@@ -1,4 +1,4 @@
-use Rattle.std.proofs.Common.{sym, ap, ◌∙◌}
+use Rattle.std.proofs.Common.{sym}
 use Rattle.opl_expr.specs.Forms.{fact}
 use Rattle.opl_expr.specs.Range.{is_refuted}
 use Rattle.opl_expr.specs.Sound.{IsSoundFact}

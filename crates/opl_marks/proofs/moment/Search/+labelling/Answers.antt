@@ -1,4 +1,4 @@
-use Rattle.std.proofs.Common.{◌≡◌, suc, ◌-◌, ◌<◌, ◌++◌, ◌∷◌, [], length, refl, ap, sym, ◌∙◌, subst, arith, rules}
+use Rattle.std.proofs.Common.{◌≡◌, suc, ◌-◌, ◌++◌, ◌∷◌, [], length, refl, ap, sym, ◌∙◌, subst, arith, rules}
 use Rattle.std.specs.Prelude.{FitsSigned, int_lt}
 use Rattle.std.specs.List.{filter}
 use Rattle.std.proofs.lemmas.Int.{to_z-of_z}
@@ -67,7 +67,7 @@ values-loop-next-init g t c =
     let fits : FitsSigned w64 c.min.result = search rules in
     rw (to_z-of_z w64 c.min.result fits) (
       subst (λ ws. IsUnderWay core all (values_then core c.args.x c.args.others.now ws) P c.args.best c.args.left o) (from_least vs c.min.result c.min.ensures)
-      (begun core all P c.args.best c.args.left o c.requires.best c.nothing-made.ensures),
+          (begun core all P c.args.best c.args.left o c.requires.best c.nothing-made.ensures),
       c.min.ensures.among,
     )
 
@@ -184,7 +184,6 @@ values-loop-next-preserved g t c =
     let sound = subst (λ d. IsSoundOut core d) (sym c.in_ok-outcome.ensures.same) c.in_ok-outcome.ensures.sound in
     let next = rw (to_z-of_z w64 c.in-Some.v fits) at c.next-next.ensures in (
       subst (λ ws. IsUnderWay core all (values_then core x xs ws) P c.args.best c.args.left q) (rest_is vs v c.next-next.result next)
-      (next_way core all rest r P c.args.best c.args.left m o p q way left made sound c.in_ok-made.ensures c.if-made.false),
+          (next_way core all rest r P c.args.best c.args.left m o p q way left made sound c.in_ok-made.ensures c.if-made.false),
       next_in vs v c.next-next.result next,
     )
-

@@ -1,4 +1,4 @@
-use Rattle.std.proofs.Common.{sym, ap, ◌∙◌, subst}
+use Rattle.std.proofs.Common.{sym, subst}
 use Rattle.opl_expr.specs.Forms.{fact}
 use Rattle.opl_expr.specs.Sound.{IsSoundFact}
 use Rattle.opl_marks.proofs.AnswersSound.{are_bounded, fact_sound}
