@@ -27,16 +27,16 @@ module _ (d : ℕ) where
   AllExtend [] = Unit {0}
   AllExtend (a ∷ others) = Extends a.body × AllExtend others
 
-  picked_extends : (F : Family) (a : Arm (Rest → Rest)) (p : Picked (Rest → Rest)) → Extends a.body → Extends p.arm.body → AllExtend p.others → Extends (picked_of F a p).arm.body × AllExtend (picked_of F a p).others
-  picked_extends F a p h i j =
-      elim (comes_first a.rising (key_value F p.arm.key) (key_value F a.key)) as (λ b. let q : Picked (Rest → Rest) = cond b (record { arm = p.arm; others = a ∷ p.others }) (record { arm = a; others = p.arm ∷ p.others }) in Extends q.arm.body × AllExtend q.others) [
+  picked_extends : (F : Family) (a : Arm (Rest → Rest)) (others : List (Arm (Rest → Rest))) (p : Picked (Rest → Rest)) → Extends a.body → AllExtend others → Extends p.arm.body → AllExtend p.others → Extends (picked_of F a others p).arm.body × AllExtend (picked_of F a others p).others
+  picked_extends F a others p h k i j =
+      elim (comes_first a.rising (key_value F p.arm.key) (key_value F a.key)) as (λ b. let q : Picked (Rest → Rest) = cond b (record { arm = p.arm; others = a ∷ p.others }) (record { arm = a; others = others }) in Extends q.arm.body × AllExtend q.others) [
         | true ↦ (i, (h, j))
-        | false ↦ (h, (i, j))
+        | false ↦ (h, k)
       ]
 
   pick_extends : (F : Family) (a : Arm (Rest → Rest)) (others : List (Arm (Rest → Rest))) → Extends a.body → AllExtend others → Extends (pick F a others).arm.body × AllExtend (pick F a others).others
   pick_extends F a [] h i = (h, tt)
-  pick_extends F a (b ∷ others) h i = let r = pick_extends F b others i.0 i.1 in picked_extends F a (pick F b others) h r.0 r.1
+  pick_extends F a (b ∷ others) h i = let r = pick_extends F b others i.0 i.1 in picked_extends F a (b ∷ others) (pick F b others) h i r.0 r.1
 
   ordered_extend : (F : Family) (n : ℕ) (list : List (Arm (Rest → Rest))) → AllExtend list → AllExtend (ordered F n list)
   ordered_extend F zero list h = tt
