@@ -1,0 +1,3 @@
+pub mod Removals
+mod Trying
+mod Outcomes
