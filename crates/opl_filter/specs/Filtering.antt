@@ -1,10 +1,16 @@
 -- What filtering does: it removes values that are dead, one after another, until the family is stable.
 use Rattle.std.specs.Prelude.{◌≡◌, ℕ, Bool, true, List, [], ◌∷◌, ℤ}
 use Rattle.opl_domain.specs.Family.{Family, IsFamily, has, cut_of, Below}
+use Rattle.opl_expr.specs.Forms.{Fact}
+use Rattle.opl_expr.specs.Range.{is_refuted}
 use Rattle.opl_trace.specs.Stable.{IsGreatestStable, HasFailed}
 use Rattle.opl_trace.specs.Removals.{IsDeadValue}
 use Rattle.opl_filter.specs.declared.outcome.Outcome.{Outcome}
 use Rattle.opl_filter.specs.declared.outcome.Outcome.TheVariants as outcome
+
+-- the family refutes the constraint
+abbrev pub refutes : Fact → Family → Bool
+refutes c F = is_refuted F c
 
 -- the value v of variable x can go: it is dead, and another value of x stays
 pub record CanGo (dead : Family → Bool) (F : Family) (x : ℕ) (v : ℤ) : Type 0 where
