@@ -1,3 +1,4 @@
 pub mod Removals
 mod Trying
 mod Outcomes
+mod Ends

@@ -4,6 +4,8 @@
 mod filter;
 mod outcome;
 mod rounds;
+#[cfg(test)]
+mod tests;
 
 pub use filter::Filter;
 pub use outcome::Outcome;

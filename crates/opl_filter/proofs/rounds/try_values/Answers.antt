@@ -25,4 +25,4 @@ returns-in-None g c = trying_end _ _ _ _ _ _ _ _ c.loop-removed.invariant c.in_o
 pub loop-removed-preserved : goal.loop-removed-preserved
 loop-removed-preserved g c =
     let fits : FitsSigned w64 c.in-Some.w = search rules in
-    rw (to_z-of_z w64 c.in-Some.w fits) (trying_next (g.T.Test.dead c.args.test.now) _ _ _ c.args.x _ c.in-Some.w _ _ c.loop-removed.invariant c.in_ok-removed.ensures c.in-Some.ensures)
+    rw (to_z-of_z w64 c.in-Some.w fits) (trying_next (g.T.Test.dead c.args.test.now) _ _ (g.N.View.family c.try_value.new.n) c.args.x _ c.in-Some.w _ _ c.loop-removed.invariant c.in_ok-removed.ensures c.in-Some.ensures)
