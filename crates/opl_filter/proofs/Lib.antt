@@ -1,4 +1,5 @@
 pub mod Removals
+pub mod Runs
 mod Trying
 mod Outcomes
 mod Ends

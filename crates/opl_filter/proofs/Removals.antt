@@ -1,7 +1,7 @@
 -- What is left of a family once dead values have gone, one after another.
 use Rattle.std.proofs.Common.{◌≡◌, ◌∙◌, ℕ, ◌<◌, Bool, true, refl, List, [], ◌∷◌, ◌++◌, length, ℤ, inl, inr, sym, subst}
 use Rattle.std.proofs.lemmas.Bool.{cases_eq}
-use Rattle.opl_domain.specs.Family.{member, Family, IsFamily, is_outside, set_of, has, cut_of, Below}
+use Rattle.opl_domain.specs.Family.{member, Family, IsFamily, is_outside, set_of, has, only, cut_of, Below}
 use Rattle.opl_domain.proofs.Members.{from_filter}
 use Rattle.opl_domain.proofs.Sets.{length-cut, cut_here, cut_there}
 use Rattle.opl_trace.specs.Stable.{IsMonotone}
@@ -9,8 +9,9 @@ use Rattle.opl_trace.proofs.Families.{has_at, below_self, below_join}
 use Rattle.opl_trace.proofs.StoredSets.{cut_is_family}
 use Rattle.opl_trace.proofs.Removals.{Kept, kept_self, kept_cut}
 use Rattle.opl_filter.specs.Filtering.{CanGo, without, EachCanGo, IsLeftOf}
+use Rattle.opl_filter.specs.Laws.{RemovalsLoseNone, RemovalsWiden}
 
-from_cut : (F : Family) (x : ℕ) (lo hi : ℤ) (y : ℕ) (w : ℤ) → has (cut_of F x lo hi) y w ≡ true → has F y w ≡ true
+pub from_cut : (F : Family) (x : ℕ) (lo hi : ℤ) (y : ℕ) (w : ℤ) → has (cut_of F x lo hi) y w ≡ true → has F y w ≡ true
 from_cut F x lo hi y w h = elim (cases_eq y x) [
   | inl e ↦
       let k = subst (λ n. y < n) (length-cut F x lo hi) (has_at (cut_of F x lo hi) y w h) in
@@ -69,3 +70,21 @@ each_kept dead D F (p ∷ ps) m k h = each_kept dead D (cut_of F p.0 p.1 p.1) ps
 
 pub left_kept : (dead : Family → Bool) (D F : Family) → IsMonotone dead → IsLeftOf dead D F → Kept dead D F
 left_kept dead D F m h = subst (λ G. Kept dead D G) (sym h.left) (each_kept dead D D h.gone m (kept_self dead D) h.each)
+
+pub lose_none : RemovalsLoseNone
+lose_none dead D F G m a s = (left_kept dead D F m a).above G s.stable s.within
+
+-- ---- by another test
+
+each_wider : (dead other : Family → Bool) (D : Family) (ps : List (ℕ × ℤ)) → ((G : Family) → dead G ≡ true → other G ≡ true) → EachCanGo dead D ps → EachCanGo other D ps
+each_wider dead other D [] w h = tt
+each_wider dead other D (p ∷ ps) w h = (
+  record {
+    dead_value = record { variable = h.0.dead_value.variable; value = h.0.dead_value.value; is_dead = w (only D p.0 p.1) h.0.dead_value.is_dead };
+    stays = h.0.stays;
+  },
+  each_wider dead other (cut_of D p.0 p.1 p.1) ps w h.1,
+)
+
+pub left_wider : RemovalsWiden
+left_wider dead other D F w a = record { gone = a.gone; each = each_wider dead other D a.gone w a.each; left = a.left }

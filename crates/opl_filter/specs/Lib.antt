@@ -1,2 +1,3 @@
 pub mod Filtering
 pub mod Rounds
+pub mod Laws

@@ -2,6 +2,7 @@
 #![tactic(auto)]
 
 mod filter;
+pub mod laws;
 mod outcome;
 mod rounds;
 #[cfg(test)]
