@@ -1,5 +1,6 @@
 pub mod Removals
 pub mod Runs
+pub mod Unmentioned
 mod Trying
 mod Outcomes
 mod Ends

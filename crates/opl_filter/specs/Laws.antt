@@ -1,7 +1,10 @@
 -- What is proved of removals, whatever removes.
 use Rattle.std.specs.Prelude.{◌≡◌, ℕ, ◌<◌, Bool, true, false, length, ℤ}
-use Rattle.opl_domain.specs.Family.{Family, IsFamily, is_outside, has, only, cut_of, Below}
+use Rattle.opl_domain.specs.Family.{Family, IsFamily, is_outside, has, only, cut_of, Below, Full}
+use Rattle.opl_expr.specs.Forms.{Fact}
+use Rattle.opl_expr.specs.Range.{fact_range}
 use Rattle.opl_trace.specs.Stable.{IsMonotone, IsStableWithin}
+use Rattle.opl_filter.specs.Mentions.{mentions}
 use Rattle.opl_filter.specs.Filtering.{IsLeftOf}
 
 -- no value of a stable family goes
@@ -25,3 +28,7 @@ abbrev pub RunsCanGo : Type 0
 RunsCanGo =
     (dead : Family → Bool) (F : Family) (x : ℕ) (lo hi : ℤ) → IsMonotone dead → IsFamily F → x < length F → IsDeadRun dead F x lo hi →
     (w : ℤ) × (has (cut_of F x lo hi) x w ≡ true) → IsLeftOf dead F (cut_of F x lo hi)
+
+-- a variable that a constraint doesn't mention has no part in its range
+abbrev pub OthersDontMatter : Type 0
+OthersDontMatter = (c : Fact) (F : Family) (x : ℕ) (v : ℤ) → Full F → mentions c x ≡ false → fact_range (only F x v) c ≡ fact_range F c
