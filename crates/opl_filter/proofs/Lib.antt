@@ -1,6 +1,7 @@
 pub mod Removals
 pub mod Runs
 pub mod Unmentioned
+mod Adding
 mod Trying
 mod Outcomes
 mod Ends

@@ -1,8 +1,10 @@
 -- Which variables stand in a constraint.
-use Rattle.std.specs.Prelude.{ℕ, Bool, false, ◌||◌, List, [], ◌∷◌, nat_eq, Option, Some, None}
+use Rattle.std.specs.Prelude.{ℕ, Bool, false, ◌||◌, ◌≡◌, List, [], ◌∷◌, nat_eq, Option, Some, None}
 use Rattle.opl_expr.specs.declared.tables.Table.{Table}
 use Rattle.opl_expr.specs.declared.tables.Cell.{Cell}
 use Rattle.opl_expr.specs.declared.tables.Cell.TheVariants as cell
+use Rattle.opl_expr.specs.declared.tables.Use.{Use}
+use Rattle.opl_expr.specs.declared.tables.Resource.{Resource}
 use Rattle.opl_expr.specs.Forms.{Term, Terms, Fact, Facts}
 
 abbrev pub cell_mentions : Cell → ℕ → Bool
@@ -16,6 +18,18 @@ cells_mention (c ∷ cells) x = cell_mentions c x || cells_mention cells x
 abbrev pub table_mentions : Option Table → ℕ → Bool
 table_mentions None x = false
 table_mentions (Some t) x = cells_mention t.cells x
+
+-- the activity of the use starts at x, or lasts x
+abbrev pub use_mentions : Use → ℕ → Bool
+use_mentions u x = nat_eq x u.start || nat_eq x u.duration
+
+abbrev pub uses_mention : List Use → ℕ → Bool
+uses_mention [] x = false
+uses_mention (u ∷ uses) x = use_mentions u x || uses_mention uses x
+
+abbrev pub resource_mentions : Option Resource → ℕ → Bool
+resource_mentions None x = false
+resource_mentions (Some r) x = uses_mention r.uses x
 
 abbrev mutual
   -- variable x stands in the expression, or in a cell of one of its tables
@@ -52,3 +66,16 @@ abbrev mutual
   pub facts_mention : Facts → ℕ → Bool
   facts_mention Facts.no_facts x = false
   facts_mention (Facts.more_facts c cs) x = mentions c x || facts_mention cs x
+
+-- x is one of the list
+abbrev pub lists : List ℕ → ℕ → Bool
+lists [] x = false
+lists (y ∷ others) x = nat_eq x y || lists others x
+
+-- the second list has the variables of the first, and those that pass
+abbrev pub Adds : (ℕ → Bool) → List ℕ → List ℕ → Type 0
+Adds passes first second = (x : ℕ) → lists second x ≡ (lists first x || passes x)
+
+-- the list has the variables that the constraint mentions, and no others
+abbrev pub AreVariables : List ℕ → Fact → Type 0
+AreVariables variables c = (x : ℕ) → lists variables x ≡ mentions c x
