@@ -17,11 +17,11 @@ use Rattle.opl_filter.specs.Mentions.{cell_mentions, cells_mention, use_mentions
 
 -- ---- truth values
 
-or_none : (b : Bool) → b ≡ (b || false)
+pub or_none : (b : Bool) → b ≡ (b || false)
 or_none true = refl
 or_none false = refl
 
-or_again : (a b c : Bool) → ((a || b) || c) ≡ (a || (b || c))
+pub or_again : (a b c : Bool) → ((a || b) || c) ≡ (a || (b || c))
 or_again true b c = refl
 or_again false b c = refl
 

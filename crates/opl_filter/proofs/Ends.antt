@@ -1,14 +1,18 @@
 -- A test of three sets by their ends: no number of one is above a number of another.
-use Rattle.std.proofs.Common.{◌≡◌, ℕ, true, ◌||◌, List, ℤ, ◌≤ℤ◌, inl, inr, arith, to_z, of_z}
-use Rattle.std.specs.Prelude.{int_le, FitsSigned}
+use Rattle.std.proofs.Common.{◌≡◌, ℕ, zero, suc, ◌<◌, true, false, ◌||◌, refl, List, [], ◌∷◌, length, ℤ, ◌≤ℤ◌, inl, inr, arith, to_z, of_z}
+use Rattle.std.specs.Prelude.{int_le, FitsSigned, nat_eq}
 use Rattle.std.specs.List.{list_all}
 use Rattle.std.proofs.lemmas.Int.{ints, to_z-of_z}
 use Rattle.std.proofs.lemmas.Bool.{or_cases}
 use mir.Syntax.{w64}
 use Rattle.opl_domain.specs.Family.{Family, set_of, IsLeast, IsGreatest, Below}
+use Rattle.opl_domain.proofs.Sets.{only_there}
 use Rattle.opl_trace.specs.Stable.{IsMonotone}
 use Rattle.opl_trace.proofs.Passing.{all_member, all_from, or_left, or_right}
 use Rattle.opl_trace.proofs.SweepLaws.{same_tests}
+use Rattle.opl_filter.specs.Mentions.{lists}
+use Rattle.opl_filter.specs.Rounds.{AreThere, LooksOnlyAt}
+use Rattle.opl_filter.proofs.Unmentioned.{neither, other_variable}
 
 le_ends : (v s r w : ℤ) → s ≤ℤ v → w ≤ℤ r → int_le r s ≡ true → int_le w v ≡ true
 le_ends v s r w h k i = grind (arith, ints)
@@ -34,3 +38,19 @@ rising_falls = record {
     | inr e ↦ or_right (list_all (λ v. list_all (λ w. int_le w v) (set_of F 1)) (set_of F 0)) (list_all (λ v. list_all (λ w. int_le w v) (set_of F 2)) (set_of F 1)) (apart_falls F G 1 2 b e)
   ];
 }
+
+pub rising_looks : LooksOnlyAt (0 ∷ 1 ∷ 2 ∷ []) (λ F. list_all (λ v. list_all (λ w. int_le w v) (set_of F 1)) (set_of F 0) || list_all (λ v. list_all (λ w. int_le w v) (set_of F 2)) (set_of F 1))
+rising_looks F x v f h =
+    let a = neither (nat_eq x 0) (nat_eq x 1 || (nat_eq x 2 || false)) h in
+    let b = neither (nat_eq x 1) (nat_eq x 2 || false) a.1 in
+    let c = neither (nat_eq x 2) false b.1 in
+    rw (only_there F x 0 v (other_variable x 0 a.0), only_there F x 1 v (other_variable x 1 b.0), only_there F x 2 v (other_variable x 2 c.0)) refl
+
+listed_below : (x : ℕ) → lists (0 ∷ 1 ∷ 2 ∷ []) x ≡ true → x < 3
+listed_below zero h = omega arith
+listed_below (suc zero) h = omega arith
+listed_below (suc (suc zero)) h = omega arith
+listed_below (suc (suc (suc x))) h = cc
+
+pub three_there : (F : Family) → 2 < length F → AreThere (0 ∷ 1 ∷ 2 ∷ []) F
+three_there F k x h = omega (arith, k, listed_below x h)

@@ -27,11 +27,11 @@ record DifferAt (x : ℕ) (F G : Family) : Type 0 where
   pub second : Full G
   pub others : (y : ℕ) → y ≢ x → set_of F y ≡ set_of G y
 
-neither : (a b : Bool) → (a || b) ≡ false → (a ≡ false) × (b ≡ false)
+pub neither : (a b : Bool) → (a || b) ≡ false → (a ≡ false) × (b ≡ false)
 neither true b h = cc
 neither false b h = (refl, h)
 
-other_variable : (x y : ℕ) → nat_eq x y ≡ false → y ≢ x
+pub other_variable : (x y : ℕ) → nat_eq x y ≡ false → y ≢ x
 other_variable x y h e = let k = (Decides-eqb x y).1 (sym e) in cc
 
 -- ---- sums over the variables

@@ -45,7 +45,7 @@ fn ends(sets: &Sets, x: u32) -> (i64, i64)
 fn raised(sets: &mut Sets) -> (Outcome, (i64, i64), (i64, i64), (i64, i64))
     requires { 2 < length sets.old }
 {
-    let outcome = remove_dead(&Rising, sets);
+    let outcome = remove_dead(&Rising, &[0, 1, 2], sets);
     (outcome, ends(sets, 0), ends(sets, 1), ends(sets, 2))
 }
 
