@@ -1,9 +1,10 @@
 -- A test of three sets by their ends: no number of one is above a number of another.
-use Rattle.std.proofs.Common.{◌≡◌, ℕ, zero, suc, ◌<◌, true, false, ◌||◌, refl, List, [], ◌∷◌, length, ℤ, ◌≤ℤ◌, inl, inr, arith, to_z, of_z}
+use Rattle.std.proofs.Common.{◌≡◌, ℕ, ◌<◌, true, false, ◌||◌, refl, List, [], ◌∷◌, length, ℤ, ◌≤ℤ◌, inl, inr, arith, to_z, of_z}
 use Rattle.std.specs.Prelude.{int_le, FitsSigned, nat_eq}
 use Rattle.std.specs.List.{list_all}
 use Rattle.std.proofs.lemmas.Int.{ints, to_z-of_z}
 use Rattle.std.proofs.lemmas.Bool.{or_cases}
+use Rattle.std.proofs.lemmas.Bool.Decides.{Decides-eqb}
 use mir.Syntax.{w64}
 use Rattle.opl_domain.specs.Family.{Family, set_of, IsLeast, IsGreatest, Below}
 use Rattle.opl_domain.proofs.Sets.{only_there}
@@ -46,11 +47,17 @@ rising_looks F x v f h =
     let c = neither (nat_eq x 2) false b.1 in
     rw (only_there F x 0 v (other_variable x 0 a.0), only_there F x 1 v (other_variable x 1 b.0), only_there F x 2 v (other_variable x 2 c.0)) refl
 
+is_at : (x n : ℕ) → nat_eq x n ≡ true → x ≡ n
+is_at x n h = (Decides-eqb x n).0 h
+
 listed_below : (x : ℕ) → lists (0 ∷ 1 ∷ 2 ∷ []) x ≡ true → x < 3
-listed_below zero h = omega arith
-listed_below (suc zero) h = omega arith
-listed_below (suc (suc zero)) h = omega arith
-listed_below (suc (suc (suc x))) h = cc
+listed_below x h = elim (or_cases (nat_eq x 0) (nat_eq x 1 || (nat_eq x 2 || false)) h) [
+  | inl e ↦ omega (arith, is_at x 0 e)
+  | inr k ↦ elim (or_cases (nat_eq x 1) (nat_eq x 2 || false) k) [
+    | inl e ↦ omega (arith, is_at x 1 e)
+    | inr l ↦ elim (or_cases (nat_eq x 2) false l) [ inl e ↦ omega (arith, is_at x 2 e) | inr n ↦ cc ]
+  ]
+]
 
 pub three_there : (F : Family) → 2 < length F → AreThere (0 ∷ 1 ∷ 2 ∷ []) F
 three_there F k x h = omega (arith, k, listed_below x h)
