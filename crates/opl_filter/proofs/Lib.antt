@@ -3,3 +3,5 @@ pub mod Runs
 mod Trying
 mod Outcomes
 mod Ends
+mod Refuting
+mod Example

@@ -2,6 +2,7 @@
 #![tactic(auto)]
 
 mod filter;
+mod generic;
 pub mod laws;
 mod outcome;
 mod rounds;
@@ -9,5 +10,6 @@ mod rounds;
 mod tests;
 
 pub use filter::Filter;
+pub use generic::{GenericFilter, sweep};
 pub use outcome::Outcome;
 pub use rounds::remove_dead;
