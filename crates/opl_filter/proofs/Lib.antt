@@ -5,3 +5,5 @@ mod Adding
 mod Trying
 mod Outcomes
 mod Ends
+mod Refuting
+mod Example

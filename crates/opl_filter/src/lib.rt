@@ -2,6 +2,7 @@
 #![tactic(auto)]
 
 mod filter;
+mod generic;
 pub mod laws;
 mod outcome;
 mod rounds;
@@ -10,6 +11,7 @@ mod tests;
 mod variables;
 
 pub use filter::Filter;
+pub use generic::{GenericFilter, sweep};
 pub use outcome::Outcome;
 pub use rounds::remove_dead;
 pub use variables::variables_of;

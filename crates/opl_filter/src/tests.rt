@@ -1,11 +1,18 @@
-//! Rounds on sets worked out by hand.
+//! Rounds and filters on sets worked out by hand.
 ghost use Rattle.std.specs.Prelude.{◌≡◌, ◌<◌, length, int_le};
 ghost use Rattle.std.specs.List.{list_all};
+ghost use Rattle.std.specs.Prelude.{[], ◌∷◌, map, pos, IfOk};
 ghost use Rattle.opl_domain.specs.Family.{set_of};
+ghost use Rattle.opl_trace.specs.Between.{values_between};
+ghost use Rattle.opl_expr.specs.declared.model.Core.{Core};
+ghost use Rattle.opl_expr.specs.Forms.{Relation, Term, Fact, term, fact};
 
-use crate::{Outcome, remove_dead};
-use opl_domain::View;
+use crate::{Filter, GenericFilter, Outcome, remove_dead, sweep};
+use opl_domain::{OutOfMemory, View};
+use opl_expr::{Cons, Core, Expr, Op};
+use opl_list::{Boxed, Seq};
 use opl_trace::{Sets, Test};
+use std::alloc::Global;
 use std::test::Fail;
 
 /// Whether no value of `y` is above one of `x`.
@@ -49,6 +56,61 @@ fn raised(sets: &mut Sets) -> (Outcome, (i64, i64), (i64, i64), (i64, i64))
     (outcome, ends(sets, 0), ends(sets, 1), ends(sets, 2))
 }
 
+/// The product of a number and a variable.
+fn times(alloc: Global, k: i128, x: u32) -> Result<Boxed<Expr>, OutOfMemory>
+    ensures { IfOk result (λ e. (core : Core) → term core.tables core.resources e ≡ Term.scale k (Term.var x)) }
+{
+    let number = Boxed::new(alloc, Expr::Const(k))?;
+    let variable = Boxed::new(alloc, Expr::Var(x))?;
+    Ok(Boxed::new(alloc, Expr::Mul(number, variable))?)
+}
+
+/// `2 * x = 3 * y`, for the first two variables.
+fn twice_is_thrice(alloc: Global) -> Result<Cons, OutOfMemory>
+    ensures { IfOk result (λ c. (core : Core) → fact core.tables core.resources c ≡ Fact.cmp Relation.equal (Term.scale (pos 2) (Term.var 0)) (Term.scale (pos 3) (Term.var 1))) }
+{
+    Ok(Cons::Cmp(Op::Eq, times(alloc, 2, 0)?, times(alloc, 3, 1)?))
+}
+
+/// A core that has variables alone.
+fn core_of(alloc: Global, ends: &[(i64, i64)]) -> Result<Core, OutOfMemory>
+    ensures { IfOk result (λ core. core.sets ≡ ends.now) }
+{
+    Ok(Core {
+        names: Seq::new(alloc),
+        sets: Seq::from_slice(alloc, ends)?,
+        tables: Seq::new(alloc),
+        resources: Seq::new(alloc),
+        cons: Seq::new(alloc),
+        goal: None,
+        search: None,
+    })
+}
+
+/// What a sweep of `2 * x = 3 * y` leaves of these sets.
+fn swept(core: &Core, sets: &mut Sets, c: &Cons) -> (Outcome, (i64, i64), (i64, i64))
+    requires constraint { (d : Core) → fact d.tables d.resources c.now ≡ Fact.cmp Relation.equal (Term.scale (pos 2) (Term.var 0)) (Term.scale (pos 3) (Term.var 1)) }
+    requires ends { core.now.sets ≡ (pos 0, pos 5) ∷ (pos 0, pos 5) ∷ [] }
+    requires sets { sets.old ≡ map values_between core.now.sets }
+{
+    let outcome = sweep(core, c, sets);
+    (outcome, ends(sets, 0), ends(sets, 1))
+}
+
+/// What its filter leaves of these sets.
+fn filtered(
+    filter: &mut GenericFilter,
+    core: &Core,
+    sets: &mut Sets,
+) -> (Outcome, (i64, i64), (i64, i64))
+    requires constraint { (d : Core) → ⟦<GenericFilter as Filter>⟧.constraint filter.old d ≡ Fact.cmp Relation.equal (Term.scale (pos 2) (Term.var 0)) (Term.scale (pos 3) (Term.var 1)) }
+    requires ends { core.now.sets ≡ (pos 1, pos 2) ∷ (pos 0, pos 1) ∷ [] }
+    requires sets { sets.old ≡ map values_between core.now.sets }
+{
+    let outcome = filter.filter(core, sets);
+    (outcome, ends(sets, 0), ends(sets, 1))
+}
+
 #[test]
 fn rounds_repeat(rt: HostRuntime) -> Result<(), Fail> {
     let mut sets = Sets::new(rt.alloc(), &[(0, 2), (0, 2), (0, 2)])?;
@@ -65,6 +127,45 @@ fn rounds_fail(rt: HostRuntime) -> Result<(), Fail> {
     assert_eq!(rt;
         raised(&mut sets),
         (Outcome::Failed, (0, 0), (1, 1), (0, 1))
+    );
+    Ok(())
+}
+
+/// What a sweep of `2 * x = 3 * y` leaves of `0` to `5` twice.
+fn swept_wide(alloc: Global) -> Result<(Outcome, (i64, i64), (i64, i64)), OutOfMemory> {
+    let c = twice_is_thrice(alloc)?;
+    let mut sets = Sets::new(alloc, &[(0, 5), (0, 5)])?;
+    let core = core_of(alloc, &[(0, 5), (0, 5)])?;
+    Ok(swept(&core, &mut sets, &c))
+}
+
+/// A filter of `2 * x = 3 * y`.
+fn thrice_filter(alloc: Global) -> Result<GenericFilter, OutOfMemory>
+    ensures { IfOk result (λ f. (d : Core) → ⟦<GenericFilter as Filter>⟧.constraint f d ≡ Fact.cmp Relation.equal (Term.scale (pos 2) (Term.var 0)) (Term.scale (pos 3) (Term.var 1))) }
+{
+    let c = twice_is_thrice(alloc)?;
+    GenericFilter::new(alloc, &c)
+}
+
+/// What a filter of `2 * x = 3 * y` leaves of `1` to `2` and `0` to `1`.
+fn filtered_narrow(alloc: Global) -> Result<(Outcome, (i64, i64), (i64, i64)), OutOfMemory> {
+    let mut filter = thrice_filter(alloc)?;
+    let mut sets = Sets::new(alloc, &[(1, 2), (0, 1)])?;
+    let core = core_of(alloc, &[(1, 2), (0, 1)])?;
+    Ok(filtered(&mut filter, &core, &mut sets))
+}
+
+#[test]
+fn a_sweep_repeats(rt: HostRuntime) -> Result<(), Fail> {
+    assert_eq!(rt; swept_wide(rt.alloc())?, (Outcome::Stable, (0, 3), (0, 2)));
+    Ok(())
+}
+
+#[test]
+fn a_filter_fails(rt: HostRuntime) -> Result<(), Fail> {
+    assert_eq!(rt;
+        filtered_narrow(rt.alloc())?,
+        (Outcome::Failed, (1, 1), (1, 1))
     );
     Ok(())
 }
