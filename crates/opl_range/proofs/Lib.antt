@@ -1,0 +1,12 @@
+pub mod Bounds
+pub mod Weights
+pub mod Ends
+pub mod Plain
+pub mod Parts
+pub mod Roots
+pub mod Minus
+pub mod Compare
+pub mod Tables
+pub mod Demands
+pub mod Arms
+pub mod Pairs

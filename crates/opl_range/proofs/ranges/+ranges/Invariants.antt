@@ -1,0 +1,60 @@
+use Rattle.std.proofs.Common.{◌≡◌, ◌+◌, ◌<◌, ◌≤◌, map, length, drop}
+use Rattle.opl_domain.specs.Arithmetic.{span_hull, span_min}
+use Rattle.opl_expr.specs.declared.forms.Op.TheVariants.{Ne}
+use Rattle.opl_expr.specs.Options.{joined, lift_onto}
+use Rattle.opl_expr.specs.Forms.{Term, Fact, term, fact, terms_of, facts_of, all_different, compared}
+use Rattle.opl_expr.specs.Range.{taken, chosen, masks, cell_range, may_be, rest, linears, fact_range}
+use Rattle.opl_range.proofs.Tables.{IsReached, hull_from, marks}
+use Rattle.opl_range.proofs.ranges.+ranges.Given as goal
+
+abbrev pub invariant-sum-loop-left : goal.invariant-sum-loop-left
+invariant-sum-loop-left g l = (l.left ≤ length l.parts) × (l.found ≡ rest (g.V.View.family l.view) (Term.sum (terms_of (map (term l.core.tables l.core.resources) (drop l.left l.parts)))))
+
+abbrev pub decreases-sum-loop-left : goal.decreases-sum-loop-left
+decreases-sum-loop-left g l = l.left
+
+abbrev pub invariant-least-loop-left : goal.invariant-least-loop-left
+invariant-least-loop-left g l = (l.left < length l.parts) × (l.found ≡ rest (g.V.View.family l.view) (Term.least (terms_of (map (term l.core.tables l.core.resources) (drop l.left l.parts)))))
+
+abbrev pub decreases-least-loop-left : goal.decreases-least-loop-left
+decreases-least-loop-left g l = l.left
+
+abbrev pub invariant-greatest-loop-left : goal.invariant-greatest-loop-left
+invariant-greatest-loop-left g l = (l.left < length l.parts) × (l.found ≡ rest (g.V.View.family l.view) (Term.greatest (terms_of (map (term l.core.tables l.core.resources) (drop l.left l.parts)))))
+
+abbrev pub decreases-greatest-loop-left : goal.decreases-greatest-loop-left
+decreases-greatest-loop-left g l = l.left
+
+abbrev pub invariant-all-loop-left : goal.invariant-all-loop-left
+invariant-all-loop-left g l = (l.left ≤ length l.parts) × (l.found ≡ fact_range (g.V.View.family l.view) (Fact.and (facts_of (map (fact l.core.tables l.core.resources) (drop l.left l.parts)))))
+
+abbrev pub decreases-all-loop-left : goal.decreases-all-loop-left
+decreases-all-loop-left g l = l.left
+
+abbrev pub invariant-any-loop-left : goal.invariant-any-loop-left
+invariant-any-loop-left g l = (l.left ≤ length l.parts) × (l.found ≡ fact_range (g.V.View.family l.view) (Fact.or (facts_of (map (fact l.core.tables l.core.resources) (drop l.left l.parts)))))
+
+abbrev pub decreases-any-loop-left : goal.decreases-any-loop-left
+decreases-any-loop-left g l = l.left
+
+abbrev pub invariant-all_differ-loop-left : goal.invariant-all_differ-loop-left
+invariant-all_differ-loop-left g l = (l.left ≤ length l.parts) × (l.found ≡ fact_range (g.V.View.family l.view) (Fact.and (facts_of (all_different (map (term l.core.tables l.core.resources) (drop l.left l.parts))))))
+
+abbrev pub decreases-all_differ-loop-left : goal.decreases-all_differ-loop-left
+decreases-all_differ-loop-left g l = l.left
+
+abbrev pub invariant-all_differ-loop-other : goal.invariant-all_differ-loop-other
+invariant-all_differ-loop-other g l = (l.left + 1 ≤ l.other) × (l.other ≤ length l.parts) × (l.found ≡ lift_onto span_min (map (λ e. fact_range (g.V.View.family l.view) (compared Ne (term l.core.tables l.core.resources l.first) (term l.core.tables l.core.resources e))) (drop l.other l.parts)) l.initial.found)
+
+abbrev pub decreases-all_differ-loop-other : goal.decreases-all_differ-loop-other
+decreases-all_differ-loop-other g l = l.other
+
+abbrev pub invariant-cells-cells : goal.invariant-cells-cells
+invariant-cells-cells g l =
+    (l.left ≤ length l.cells) × (l.found ≡ hull_from (g.V.View.family l.view) (taken (marks (g.V.View.family l.view) (term l.core.tables l.core.resources) l.dims l.parts 0)) l.cells l.left)
+
+abbrev pub decreases-cells-cells : goal.decreases-cells-cells
+decreases-cells-cells g l = l.left
+
+abbrev pub invariant-cells-loop-at : goal.invariant-cells-loop-at
+invariant-cells-loop-at g l = IsReached (g.V.View.family l.view) (term l.core.tables l.core.resources) l.dims l.parts l.left l.at l.size l.place

@@ -1,0 +1,61 @@
+-- The difference of two expressions of a core: the linear form on which a comparison is decided.
+use Rattle.std.specs.Prelude.{◌≡◌, ◌≢◌, ◌↔◌, ℕ, ◌<◌, Bool, false, cond, ◌&&◌, ℤ, pos, ◌+ℤ◌, ◌*ℤ◌, neg_ℤ, Option, Some, None}
+use Rattle.std.specs.List.{list_any}
+use Rattle.std.specs.Ordering.{int_eq}
+use Rattle.opl_domain.specs.Span.{Span}
+use Rattle.opl_domain.specs.Arithmetic.{span_add, span_neg}
+use Rattle.opl_domain.specs.Family.{Family, set_of}
+use Rattle.opl_expr.specs.declared.model.Core.{Core}
+use Rattle.opl_expr.specs.declared.forms.Expr.{Expr}
+use Rattle.opl_expr.specs.Forms.{Relation, Term, Fact, term}
+use Rattle.opl_expr.specs.Options.{lift, lift1}
+use Rattle.opl_expr.specs.Range.{coef, pure, rest, is_one_or_two, has_zero}
+use Rattle.opl_expr.specs.Sound.{IsSoundFact}
+
+-- an expression as plain data, with the tables of the core
+abbrev pub term_of : Core → Expr → Term
+term_of core e = term core.tables core.resources e
+
+-- the coefficient of each variable in a minus b
+unfoldable pub between : Core → Expr → Expr → ℕ → ℤ
+between core a b x = coef (term_of core a) x +ℤ neg_ℤ (coef (term_of core b) x)
+
+-- neither has a part that isn't linear
+abbrev pub is_pure_between : Core → Expr → Expr → Bool
+is_pure_between core a b = pure (term_of core a) && pure (term_of core b)
+
+-- the constant of a minus b, plus the scaled ranges of their parts that aren't linear
+abbrev pub rest_between : Family → Core → Expr → Expr → Option Span
+rest_between F core a b = lift span_add (rest F (term_of core a)) (lift1 span_neg (rest F (term_of core b)))
+
+-- a comparison of both is sound
+abbrev pub CanCompare : Core → Expr → Expr → Type 0
+CanCompare core a b = IsSoundFact core.sets (Fact.cmp Relation.equal (term_of core a) (term_of core b))
+
+-- x is the last of the first n variables whose coefficient isn't 0
+pub record IsLastVariable (c : ℕ → ℤ) (n x : ℕ) : Type 0 where
+  pub below : x < n
+  pub nonzero : c x ≢ pos 0
+  pub behind : (y : ℕ) → x < y → y < n → c y ≡ pos 0
+
+-- the last of the first n variables whose coefficient isn't 0, or none
+abbrev pub IsLast : (ℕ → ℤ) → ℕ → Option ℕ → Type 0
+IsLast c n None = (y : ℕ) → y < n → c y ≡ pos 0
+IsLast c n (Some x) = IsLastVariable c n x
+
+-- the number that makes k plus its multiple by c zero, or none
+abbrev pub IsRoot : ℤ → ℤ → Option ℤ → Type 0
+IsRoot k c None = (v : ℤ) → (k +ℤ (c *ℤ v)) ≢ pos 0
+IsRoot k c (Some r) = (v : ℤ) → ((k +ℤ (c *ℤ v)) ≡ pos 0) ↔ (v ≡ r)
+
+-- some value of variable x makes k plus its multiple zero
+unfoldable pub has_root : Family → (ℕ → ℤ) → ℕ → ℤ → Bool
+has_root F c x k = list_any (λ v. int_eq (k +ℤ (c x *ℤ v)) (pos 0)) (set_of F x)
+
+-- some values of the variables x and y make k plus their multiples zero
+unfoldable pub have_root : Family → (ℕ → ℤ) → ℕ → ℕ → ℤ → Bool
+have_root F c x y k = list_any (λ v. has_root F c y (k +ℤ (c x *ℤ v))) (set_of F x)
+
+-- whether some values make k plus the form zero, where it has one variable, or two with coefficients 1 and -1
+abbrev pub zero_by_values : Family → (ℕ → ℤ) → ℕ → ℤ → Option Bool
+zero_by_values F c n k = cond (is_one_or_two c n) (Some (has_zero F c k n)) None

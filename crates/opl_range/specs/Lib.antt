@@ -1,0 +1,2 @@
+pub mod Magnitudes
+pub mod Between

@@ -1,0 +1,14 @@
+//! Ranges of expressions and constraints over a view, without taking memory.
+#![tactic(auto)]
+
+mod coefficients;
+mod comparisons;
+mod differences;
+mod hulls;
+pub mod laws;
+mod ranges;
+mod rows;
+mod uses;
+mod zeros;
+
+pub use ranges::{cons_range, range, refuted};
