@@ -2,6 +2,7 @@ pub mod Removals
 pub mod Runs
 pub mod Unmentioned
 mod Adding
+mod Mentioned
 mod Trying
 mod Outcomes
 mod Ends
