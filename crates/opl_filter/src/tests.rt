@@ -6,8 +6,9 @@ ghost use Rattle.opl_domain.specs.Family.{set_of};
 ghost use Rattle.opl_trace.specs.Between.{values_between};
 ghost use Rattle.opl_expr.specs.declared.model.Core.{Core};
 ghost use Rattle.opl_expr.specs.Forms.{Relation, Term, Fact, term, fact};
+ghost use Rattle.opl_filter.specs.Mentions.{AreVariables};
 
-use crate::{Filter, GenericFilter, Outcome, remove_dead, sweep};
+use crate::{Filter, GenericFilter, Outcome, remove_dead, sweep, variables_of};
 use opl_domain::{OutOfMemory, View};
 use opl_expr::{Cons, Core, Expr, Op};
 use opl_list::{Boxed, Seq};
@@ -88,12 +89,18 @@ fn core_of(alloc: Global, ends: &[(i64, i64)]) -> Result<Core, OutOfMemory>
 }
 
 /// What a sweep of `2 * x = 3 * y` leaves of these sets.
-fn swept(core: &Core, sets: &mut Sets, c: &Cons) -> (Outcome, (i64, i64), (i64, i64))
+fn swept(
+    core: &Core,
+    sets: &mut Sets,
+    c: &Cons,
+    variables: &[u32],
+) -> (Outcome, (i64, i64), (i64, i64))
+    requires named { AreVariables variables.now (fact core.now.tables core.now.resources c.now) }
     requires constraint { (d : Core) → fact d.tables d.resources c.now ≡ Fact.cmp Relation.equal (Term.scale (pos 2) (Term.var 0)) (Term.scale (pos 3) (Term.var 1)) }
     requires ends { core.now.sets ≡ (pos 0, pos 5) ∷ (pos 0, pos 5) ∷ [] }
     requires sets { sets.old ≡ map values_between core.now.sets }
 {
-    let outcome = sweep(core, c, sets);
+    let outcome = sweep(core, c, variables, sets);
     (outcome, ends(sets, 0), ends(sets, 1))
 }
 
@@ -103,6 +110,7 @@ fn filtered(
     core: &Core,
     sets: &mut Sets,
 ) -> (Outcome, (i64, i64), (i64, i64))
+    requires core { ⟦<GenericFilter as Filter>⟧.is_made_with filter.old core.now }
     requires constraint { (d : Core) → ⟦<GenericFilter as Filter>⟧.constraint filter.old d ≡ Fact.cmp Relation.equal (Term.scale (pos 2) (Term.var 0)) (Term.scale (pos 3) (Term.var 1)) }
     requires ends { core.now.sets ≡ (pos 1, pos 2) ∷ (pos 0, pos 1) ∷ [] }
     requires sets { sets.old ≡ map values_between core.now.sets }
@@ -136,22 +144,24 @@ fn swept_wide(alloc: Global) -> Result<(Outcome, (i64, i64), (i64, i64)), OutOfM
     let c = twice_is_thrice(alloc)?;
     let mut sets = Sets::new(alloc, &[(0, 5), (0, 5)])?;
     let core = core_of(alloc, &[(0, 5), (0, 5)])?;
-    Ok(swept(&core, &mut sets, &c))
+    let variables = variables_of(alloc, &core, &c)?;
+    Ok(swept(&core, &mut sets, &c, variables.as_slice()))
 }
 
 /// A filter of `2 * x = 3 * y`.
-fn thrice_filter(alloc: Global) -> Result<GenericFilter, OutOfMemory>
-    ensures { IfOk result (λ f. (d : Core) → ⟦<GenericFilter as Filter>⟧.constraint f d ≡ Fact.cmp Relation.equal (Term.scale (pos 2) (Term.var 0)) (Term.scale (pos 3) (Term.var 1))) }
+fn thrice_filter(alloc: Global, core: &Core) -> Result<GenericFilter, OutOfMemory>
+    ensures core { IfOk result (λ f. ⟦<GenericFilter as Filter>⟧.is_made_with f core.now) }
+    ensures constraint { IfOk result (λ f. (d : Core) → ⟦<GenericFilter as Filter>⟧.constraint f d ≡ Fact.cmp Relation.equal (Term.scale (pos 2) (Term.var 0)) (Term.scale (pos 3) (Term.var 1))) }
 {
     let c = twice_is_thrice(alloc)?;
-    GenericFilter::new(alloc, &c)
+    GenericFilter::new(alloc, core, &c)
 }
 
 /// What a filter of `2 * x = 3 * y` leaves of `1` to `2` and `0` to `1`.
 fn filtered_narrow(alloc: Global) -> Result<(Outcome, (i64, i64), (i64, i64)), OutOfMemory> {
-    let mut filter = thrice_filter(alloc)?;
-    let mut sets = Sets::new(alloc, &[(1, 2), (0, 1)])?;
     let core = core_of(alloc, &[(1, 2), (0, 1)])?;
+    let mut filter = thrice_filter(alloc, &core)?;
+    let mut sets = Sets::new(alloc, &[(1, 2), (0, 1)])?;
     Ok(filtered(&mut filter, &core, &mut sets))
 }
 
