@@ -1,6 +1,6 @@
 -- The arms of the recursion over an expression or a constraint: what each makes of its parts, and that its numbers are small.
-use Rattle.std.proofs.Common.{◌≡◌, ℕ, zero, suc, ◌+◌, ◌-◌, ◌*◌, ◌≤◌, ◌<◌, Bool, true, false, refl, List, [], ◌∷◌, ◌++◌, map, length, get_or, drop, ℤ, pos, ap, sym, ◌∙◌, subst, arith}
-use Rattle.std.specs.Prelude.{Option, Some, None, unsigned_abs, slice_get}
+use Rattle.std.proofs.Common.{◌≡◌, ℕ, zero, suc, ◌+◌, ◌-◌, ◌*◌, ◌≤◌, ◌<◌, refl, List, [], ◌∷◌, map, length, get_or, drop, ℤ, pos, ap, sym, ◌∙◌, subst, arith}
+use Rattle.std.specs.Prelude.{Option, Some, None, unsigned_abs}
 use Rattle.std.proofs.Math.Nat.{mul-le-mul}
 use Rattle.opl_domain.specs.Span.{Span, magnitude, point}
 use Rattle.opl_domain.specs.Arithmetic.{span_add, span_neg, span_mul, span_div, span_rem, span_abs, span_min, span_max, span_hull}
@@ -11,16 +11,16 @@ use Rattle.opl_expr.specs.declared.forms.Expr.TheVariants as E
 use Rattle.opl_expr.specs.declared.forms.Cons.{Cons}
 use Rattle.opl_expr.specs.declared.forms.Op.{Op}
 use Rattle.opl_expr.specs.declared.tables.Cell.{Cell}
-use Rattle.opl_expr.specs.Forms.{Term, Terms, Fact, Facts, terms_of, facts_of, term, fact, compared, product, constant_value}
+use Rattle.opl_expr.specs.Forms.{Term, Fact, Facts, terms_of, facts_of, fact, compared, constant_value}
 use Rattle.opl_expr.specs.Options.{lift, lift1, bind, bind1, lift_some, joined}
 use Rattle.opl_expr.specs.Range.{span_scale, flip, same_truth, taken, chosen, masks, cell_range, may_be, rest, ends, range, linears, range_of_linear, fact_range}
 use Rattle.opl_expr.specs.Solutions.{declared}
-use Rattle.opl_expr.specs.Sound.{IsSmall, term_magnitude, sum_magnitude, IsSoundTerm, AreSoundTerms, IsSoundFact}
-use Rattle.opl_expr.proofs.Bounds.{lift1_parts, sound_small}
+use Rattle.opl_expr.specs.Sound.{IsSmall, term_magnitude, sum_magnitude, IsSoundTerm, IsSoundFact}
+use Rattle.opl_expr.proofs.Bounds.{sound_small}
 use Rattle.opl_expr.proofs.Parts.{sum_loop, any_default, sound_compared}
 use Rattle.opl_expr.proofs.Plain.{term_Neg, term_Mul, term_Div, term_Rem, term_Abs}
 use Rattle.opl_range.specs.Between.{term_of}
-use Rattle.opl_range.proofs.Weights.{hulls_small, rest_bound, range_bound, fact_truth}
+use Rattle.opl_range.proofs.Weights.{hulls_small, range_bound, fact_truth}
 use Rattle.opl_range.proofs.Demands.{max_zero}
 use Rattle.opl_range.proofs.Parts.{part_before, scaled_small, product_left, product_right, product_whole}
 use Rattle.opl_range.proofs.Compare.{rest_small}
@@ -41,7 +41,7 @@ module _ (core : Core) (F : Family) where
   mul_right_arm e a b p p' s k r q i j j' l c d m n =
       n ∙ ap (lift1 (span_scale k)) (m ∙ ap (λ z. rest F (term_of core z)) j')
       ∙ sym (ap (λ z. rest F (term_of core z)) i ∙ ap (rest F) (term_Mul core.tables core.resources a b
-          ∙ product_right (term_of core a) (term_of core b) k (c ∙ ap (λ z. constant_value (term_of core z)) j) (d ∙ ap (λ z. constant_value (term_of core z)) l)))
+      ∙ product_right (term_of core a) (term_of core b) k (c ∙ ap (λ z. constant_value (term_of core z)) j) (d ∙ ap (λ z. constant_value (term_of core z)) l)))
 
   -- the range of a part, as it is made of its rest
   pub part_range : (a b : Expr) (r q : Option Span) → b ≡ a → r ≡ rest F (term_of core b) → q ≡ ends F (term_of core b) r → q ≡ range F (term_of core a)
@@ -63,7 +63,7 @@ module _ (core : Core) (F : Family) where
   mul_arm e a b p s x y q i j l c d m n o =
       o ∙ ap (λ z. lift span_mul z y) m ∙ ap (lift span_mul (range F (term_of core a))) n
       ∙ sym (ap (λ z. rest F (term_of core z)) i ∙ ap (rest F) (term_Mul core.tables core.resources a b
-          ∙ product_whole (term_of core a) (term_of core b) (c ∙ ap (λ z. constant_value (term_of core z)) j) (d ∙ ap (λ z. constant_value (term_of core z)) l)))
+      ∙ product_whole (term_of core a) (term_of core b) (c ∙ ap (λ z. constant_value (term_of core z)) j) (d ∙ ap (λ z. constant_value (term_of core z)) l)))
 
   -- ---- the numbers of arms are small
 

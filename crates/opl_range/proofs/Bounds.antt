@@ -1,17 +1,16 @@
 -- How large the ends of an interval are that is made of others.
-use Rattle.std.proofs.Common.{◌≡◌, ◌⊎◌, ℕ, zero, suc, ◌+◌, ◌*◌, ◌≤◌, ◌<◌, max, Bool, true, false, cond, ◌&&◌, refl, List, [], ◌∷◌, length, ℤ, pos, negsuc, ◌+ℤ◌, ◌*ℤ◌, neg_ℤ, ◌≤ℤ◌, ap, sym, ◌∙◌, subst, arith, inl, inr}
-use Rattle.std.specs.Prelude.{int_le, int_div, int_rem, unsigned_abs, slice_index_or, Option, Some, None}
-use Rattle.std.specs.Ordering.{int_eq}
+use Rattle.std.proofs.Common.{◌≡◌, ℕ, suc, ◌+◌, ◌*◌, ◌≤◌, ◌<◌, max, true, false, cond, refl, List, [], ◌∷◌, ℤ, pos, negsuc, ◌+ℤ◌, ◌*ℤ◌, neg_ℤ, ◌≤ℤ◌, ap, arith, inl, inr}
+use Rattle.std.specs.Prelude.{int_le, int_div, int_rem, unsigned_abs, Some, None}
 use Rattle.std.proofs.Math.Nat.{div-le_self, mod-le}
 use Rattle.std.proofs.lemmas.Int.{ints}
 use Rattle.std.proofs.lemmas.Bool.Decides.{Decides-int_eq}
-use Rattle.opl_domain.specs.Span.{Span, IsWithin, smaller, larger, magnitude, point, is_point, least_of, greatest_of, hull_of}
+use Rattle.opl_domain.specs.Span.{Span, IsWithin, smaller, larger, magnitude, is_point, least_of, greatest_of, hull_of}
 use Rattle.opl_domain.specs.Arithmetic.{span_add, span_neg, span_mul, span_div, span_rem, span_abs, span_min, span_max, span_hull, is_one_quotient, greatest_rest, low_rest, high_rest, wide_rem}
 use Rattle.opl_domain.specs.Family.{member}
 use Rattle.opl_domain.proofs.Numbers.{smaller_tells, larger_tells}
 use Rattle.opl_domain.proofs.Members.{least_member, greatest_member}
 use Rattle.opl_domain.proofs.IntervalLaws.{abs_is_exact, div_is_exact}
-use Rattle.opl_expr.specs.Range.{flip, span_scale}
+use Rattle.opl_expr.specs.Range.{span_scale}
 use Rattle.opl_expr.proofs.Bounds.{abs_times}
 
 pub abs_div : (v w : ℤ) → unsigned_abs (int_div v w) ≤ unsigned_abs v
@@ -132,10 +131,10 @@ pub rem_bound : (a b r : Span) → span_rem a b ≡ Some r → magnitude r ≤ m
 unfolding span_rem
 rem_bound a b r e = elim (is_point (pos 0) b) as (λ z. is_point (pos 0) b ≡ z
     → cond z None (Some (cond (is_one_quotient a b) (record { low = int_rem a.low b.low; high = int_rem a.high b.low }) (wide_rem a b))) ≡ Some r → magnitude r ≤ magnitude a) [
-  | true ↦ λ z f. cc
-  | false ↦ λ z f. elim (is_one_quotient a b) as (λ o. Some (cond o (record { low = int_rem a.low b.low; high = int_rem a.high b.low }) (wide_rem a b)) ≡ Some r → magnitude r ≤ magnitude a) [
-    | true ↦ λ g. made_bound (int_rem a.low b.low) (int_rem a.high b.low) r a g (abs_rem a.low b.low) (abs_rem a.high b.low)
-    | false ↦ λ g. made_bound (low_rest a.low (greatest_rest b)) (high_rest a.high (greatest_rest b)) r a g
-        (low_small a.low (greatest_rest b) (greatest_small b z)) (high_small a.high (greatest_rest b) (greatest_small b z))
-  ] f
-] refl e
+      | true ↦ λ z f. cc
+      | false ↦ λ z f. elim (is_one_quotient a b) as (λ o. Some (cond o (record { low = int_rem a.low b.low; high = int_rem a.high b.low }) (wide_rem a b)) ≡ Some r → magnitude r ≤ magnitude a) [
+        | true ↦ λ g. made_bound (int_rem a.low b.low) (int_rem a.high b.low) r a g (abs_rem a.low b.low) (abs_rem a.high b.low)
+        | false ↦ λ g. made_bound (low_rest a.low (greatest_rest b)) (high_rest a.high (greatest_rest b)) r a g
+            (low_small a.low (greatest_rest b) (greatest_small b z)) (high_small a.high (greatest_rest b) (greatest_small b z))
+      ] f
+    ] refl e

@@ -1,6 +1,6 @@
 -- The ranges of comparisons, as the code makes them.
-use Rattle.std.proofs.Common.{◌≡◌, ℕ, zero, suc, ◌+◌, ◌≤◌, ◌<◌, Bool, true, false, cond, ◌&&◌, ◌||◌, refl, List, length, ℤ, pos, ◌+ℤ◌, ◌*ℤ◌, neg_ℤ, ◌≤ℤ◌, ap, sym, ◌∙◌, subst, arith}
-use Rattle.std.specs.Prelude.{unsigned_abs, Option, Some, None, int_le, int_lt}
+use Rattle.std.proofs.Common.{◌≡◌, ℕ, zero, suc, ◌+◌, ◌≤◌, Bool, true, false, cond, ◌&&◌, refl, length, ℤ, pos, ◌+ℤ◌, ◌*ℤ◌, neg_ℤ, ◌≤ℤ◌, ap, sym, ◌∙◌, subst, arith}
+use Rattle.std.specs.Prelude.{unsigned_abs, Option, Some, int_le, int_lt}
 use Rattle.std.specs.Ordering.{int_eq}
 use Rattle.std.proofs.lemmas.Int.{ints}
 use Rattle.std.proofs.lemmas.Bool.Decides.{Decides-int_eq}
@@ -11,10 +11,10 @@ use Rattle.opl_domain.proofs.Numbers.{smaller_left, larger_left}
 use Rattle.opl_expr.specs.declared.model.Core.{Core}
 use Rattle.opl_expr.specs.declared.forms.Expr.{Expr}
 use Rattle.opl_expr.specs.declared.forms.Expr.TheVariants as E
-use Rattle.opl_expr.specs.Forms.{Relation, Term, Fact}
+use Rattle.opl_expr.specs.Forms.{Term, Fact}
 use Rattle.opl_expr.specs.Forms.Relation.{equal, at_most, below}
 use Rattle.opl_expr.specs.Options.{lift, lift1}
-use Rattle.opl_expr.specs.Range.{Linear, verdict, flip, span_scale, weighted, with_variables, is_one_or_two, has_zero, misses_zero, never_zero, compare, coef, pure, rest, ends, may_be, is_possible, fact_range}
+use Rattle.opl_expr.specs.Range.{verdict, span_scale, weighted, with_variables, is_one_or_two, has_zero, misses_zero, never_zero, compare, coef, pure, rest, ends, may_be, is_possible, fact_range}
 use Rattle.opl_expr.specs.Solutions.{declared}
 use Rattle.opl_expr.specs.Sound.{IsSmall, term_magnitude, IsSoundTerm}
 use Rattle.opl_expr.proofs.Bounds.{lift1_parts, sound_small}

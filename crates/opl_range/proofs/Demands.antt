@@ -1,6 +1,6 @@
 -- The ranges of what the uses of a resource demand, as the code makes them.
-use Rattle.std.proofs.Common.{◌≡◌, ◌≢◌, ◌⊎◌, ℕ, zero, suc, ◌+◌, ◌-◌, ◌*◌, ◌≤◌, ◌<◌, max, Bool, true, false, cond, ◌&&◌, refl, List, [], ◌∷◌, map, length, get_or, drop, ℤ, pos, negsuc, ◌+ℤ◌, ◌*ℤ◌, neg_ℤ, ◌≤ℤ◌, ap, sym, ◌∙◌, subst, arith, inl, inr}
-use Rattle.std.specs.Prelude.{unsigned_abs, Option, Some, None, int_le, int_lt, nat_eq}
+use Rattle.std.proofs.Common.{◌≡◌, ◌≢◌, ℕ, zero, suc, ◌+◌, ◌-◌, ◌*◌, ◌≤◌, ◌<◌, Bool, true, false, cond, ◌&&◌, refl, List, [], ◌∷◌, map, length, get_or, drop, ℤ, pos, negsuc, ◌+ℤ◌, ◌*ℤ◌, neg_ℤ, ◌≤ℤ◌, ap, sym, ◌∙◌, subst, arith, inl, inr}
+use Rattle.std.specs.Prelude.{unsigned_abs, Some, int_le, int_lt, nat_eq}
 use Rattle.std.proofs.Math.Nat.{mul-le-mul_left}
 use Rattle.std.proofs.lemmas.Int.{ints, to_z-of_z}
 use Rattle.std.specs.Prelude.{FitsSigned}
@@ -14,12 +14,12 @@ use Rattle.opl_domain.proofs.Numbers.{smaller_tells, larger_tells}
 use Rattle.opl_expr.specs.declared.model.Core.{Core}
 use Rattle.opl_expr.specs.declared.tables.Use.{Use}
 use Rattle.opl_expr.specs.declared.tables.Resource.{Resource}
-use Rattle.opl_expr.specs.Forms.{Relation, Term, Terms, Fact, Facts, terms_of, plus, demand_at, capacity_at}
+use Rattle.opl_expr.specs.Forms.{Term, Fact, terms_of, plus, demand_at, capacity_at}
 use Rattle.opl_expr.specs.Forms.Relation.{at_most, below}
 use Rattle.opl_expr.specs.Options.{lift, lift1}
 use Rattle.opl_expr.specs.Range.{verdict, span_scale, weighted, with_variables, compare, coefs, all_pure, rest, fact_range}
 use Rattle.opl_expr.specs.Solutions.{declared}
-use Rattle.opl_expr.specs.Sound.{IsSmall, var_magnitude, term_magnitude, sum_magnitude, IsSoundTerm, AreSoundTerms, IsSoundFact}
+use Rattle.opl_expr.specs.Sound.{IsSmall, var_magnitude, sum_magnitude, IsSoundTerm, AreSoundTerms, IsSoundFact}
 use Rattle.opl_expr.proofs.Parts.{sum_loop, any_default}
 use Rattle.opl_range.specs.Magnitudes.{IsTruth}
 use Rattle.opl_range.proofs.Bounds.{add_bound, neg_bound, min_bound}
@@ -174,7 +174,7 @@ pair_weighted F s d (suc n) =
     let e = span_neg (span_scale (single d n) (hull F n)) in
     rw (pair_weighted F s d n, scale_pair (nat_eq n s) (nat_eq n d) (hull F n) (hull_ordered F n))
     (add_four a b c e ∙ ap (λ z. span_add z (span_add b e)) (neg_add (weighted F (single s) n) (span_scale (single s n) (hull F n)))
-        ∙ ap (span_add (span_neg (span_add (weighted F (single s) n) (span_scale (single s n) (hull F n))))) (neg_add (weighted F (single d) n) (span_scale (single d n) (hull F n))))
+    ∙ ap (span_add (span_neg (span_add (weighted F (single s) n) (span_scale (single s n) (hull F n))))) (neg_add (weighted F (single d) n) (span_scale (single d n) (hull F n))))
 
 less_zero : (k : ℤ) → k +ℤ neg_ℤ (pos 0) ≡ k
 less_zero k = omega (arith, ints)

@@ -1,9 +1,9 @@
 -- Intervals that are made of others, as the code makes them.
-use Rattle.std.proofs.Common.{◌≡◌, ℕ, Bool, true, false, ◌&&◌, ◌||◌, refl, List, [], ◌∷◌, ℤ, pos, negsuc, ◌+ℤ◌, ◌*ℤ◌, neg_ℤ, ◌≤ℤ◌, ap, sym, ◌∙◌, subst, arith, inl, inr}
+use Rattle.std.proofs.Common.{◌≡◌, ℕ, Bool, true, false, ◌&&◌, ◌||◌, refl, List, [], ◌∷◌, ℤ, pos, ◌+ℤ◌, ◌*ℤ◌, neg_ℤ, ◌≤ℤ◌, ◌∙◌, arith}
 use Rattle.std.proofs.lemmas.Int.{ints}
 use Rattle.opl_domain.specs.Span.{Span, smaller, larger, point, is_point, hull_of, least_of, greatest_of}
 use Rattle.opl_domain.specs.Arithmetic.{span_mul}
-use Rattle.opl_domain.specs.Family.{Family, member, set_of, hull, IsLeast, IsGreatest}
+use Rattle.opl_domain.specs.Family.{Family, set_of, hull, IsLeast, IsGreatest}
 use Rattle.opl_domain.proofs.Members.{least_member, least_is, greatest_member, greatest_is, between_is}
 use Rattle.opl_expr.specs.Range.{flip, span_scale, same_truth, verdict}
 use Rattle.opl_expr.proofs.Inside.{not_two_points}

@@ -1,6 +1,6 @@
 -- The linear form of a difference, and how large its numbers are.
-use Rattle.std.proofs.Common.{◌≡◌, ◌⊎◌, true, inl, inr, ℕ, zero, suc, ◌+◌, ◌*◌, ◌≤◌, ◌<◌, refl, List, length, ℤ, pos, ◌+ℤ◌, ◌*ℤ◌, neg_ℤ, ap, sym, ◌∙◌, subst, arith}
-use Rattle.std.specs.Prelude.{unsigned_abs, Option, Some, None}
+use Rattle.std.proofs.Common.{◌≡◌, true, inl, inr, ℕ, zero, suc, ◌+◌, ◌*◌, ◌≤◌, ◌<◌, List, length, ℤ, ◌+ℤ◌, ◌*ℤ◌, neg_ℤ, ap, sym, ◌∙◌, subst, arith}
+use Rattle.std.specs.Prelude.{unsigned_abs, Some}
 use Rattle.std.proofs.Math.Nat.{mul-le-mul_left}
 use Rattle.std.proofs.lemmas.Int.{ints, unsigned_abs-mul}
 use Rattle.opl_domain.specs.Span.{Span, magnitude}
@@ -8,8 +8,7 @@ use Rattle.opl_domain.specs.Arithmetic.{span_add, span_neg}
 use Rattle.opl_domain.specs.Family.{Family, has, hull, Below}
 use Rattle.opl_expr.specs.declared.model.Core.{Core}
 use Rattle.opl_expr.specs.declared.forms.Expr.{Expr}
-use Rattle.opl_expr.specs.Forms.{Term}
-use Rattle.opl_expr.specs.Options.{lift, lift1}
+use Rattle.opl_expr.specs.Options.{lift1}
 use Rattle.opl_expr.specs.Range.{span_scale, weighted, with_variables, coef, rest}
 use Rattle.opl_expr.specs.Solutions.{declared}
 use Rattle.opl_expr.specs.Sound.{IsSmall, var_magnitude, term_magnitude}

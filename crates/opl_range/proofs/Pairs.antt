@@ -1,19 +1,17 @@
 -- The range of expressions differing pairwise, as the code makes it.
-use Rattle.std.proofs.Common.{◌≡◌, ℕ, zero, suc, ◌+◌, ◌-◌, ◌≤◌, ◌<◌, Bool, true, false, cond, ◌&&◌, refl, List, [], ◌∷◌, ◌++◌, map, length, get_or, drop, ℤ, pos, ◌+ℤ◌, ◌*ℤ◌, neg_ℤ, ap, sym, ◌∙◌, subst, arith}
+use Rattle.std.proofs.Common.{◌≡◌, ℕ, zero, suc, ◌-◌, ◌≤◌, ◌<◌, Bool, true, false, cond, ◌&&◌, refl, List, [], ◌∷◌, ◌++◌, map, length, get_or, drop, ℤ, pos, ◌+ℤ◌, ◌*ℤ◌, neg_ℤ, ap, sym, ◌∙◌, subst, arith}
 use Rattle.std.specs.Prelude.{Option, Some, None}
 use Rattle.std.proofs.lemmas.Int.{ints}
-use Rattle.opl_domain.specs.Span.{Span, point, is_point}
+use Rattle.opl_domain.specs.Span.{Span, point}
 use Rattle.opl_domain.specs.Arithmetic.{span_add, span_neg, span_min}
-use Rattle.opl_domain.specs.Family.{Family, Below}
-use Rattle.opl_expr.specs.declared.model.Core.{Core}
+use Rattle.opl_domain.specs.Family.{Family}
 use Rattle.opl_expr.specs.declared.forms.Expr.{Expr}
 use Rattle.opl_expr.specs.declared.forms.Op.TheVariants.{Ne}
-use Rattle.opl_expr.specs.Forms.{Relation, Term, Terms, Fact, Facts, facts_of, compared, defined, all_different}
+use Rattle.opl_expr.specs.Forms.{Term, Fact, facts_of, compared, defined, all_different}
 use Rattle.opl_expr.specs.Forms.Relation.{equal}
 use Rattle.opl_expr.specs.Options.{lift, lift1, lift_all, lift_onto}
-use Rattle.opl_expr.specs.Range.{span_scale, verdict, weighted, with_variables, is_one_or_two, has_zero, misses_zero, never_zero, compare, coef, pure, rest, fact_range, fact_ranges}
+use Rattle.opl_expr.specs.Range.{span_scale, verdict, weighted, with_variables, has_zero, never_zero, compare, coef, pure, rest, fact_range, fact_ranges}
 use Rattle.opl_expr.specs.Sound.{IsSoundTerm, AreSoundFacts, IsSoundFact}
-use Rattle.opl_range.specs.Between.{term_of}
 use Rattle.opl_range.proofs.Roots.{none_of, zero_times}
 use Rattle.opl_range.proofs.Demands.{weighted_zero, scale_zero, zero_add, neg_zero}
 use Rattle.opl_range.proofs.Parts.{part_before}
@@ -57,7 +55,7 @@ differ_next F f xs L M e r k found q now p h s i j l m n o =
     let d = part_before xs L e p h i in
     o ∙ ap (λ z. lift span_min z now) (l ∙ ap (lift1 (λ u. point (pos 1))) j ∙ sym (defined_is F (f e)))
     ∙ ap (lift span_min (fact_range F (defined (f e)))) (n ∙ ap (λ z. lift_onto span_min (map (λ b. fact_range F (compared Ne (f e) (f b))) (drop z xs)) found) s ∙ ap (lift_onto span_min (map (λ b. fact_range F (compared Ne (f e) (f b))) (drop L xs))) m
-        ∙ ap (λ z. lift_onto span_min z (fact_range F (Fact.and (facts_of (all_different (map f (drop L xs))))))) (sym (pairs_are F f (f e) (drop L xs))))
+    ∙ ap (λ z. lift_onto span_min z (fact_range F (Fact.and (facts_of (all_different (map f (drop L xs))))))) (sym (pairs_are F f (f e) (drop L xs))))
     ∙ ap (lift span_min (fact_range F (defined (f e)))) (sym (onto_append F (map (λ b. Fact.not (Fact.cmp equal (f e) b)) (map f (drop L xs))) (all_different (map f (drop L xs)))))
     ∙ ap (λ ys. fact_range F (Fact.and (facts_of (all_different (map f ys))))) (sym d)
 

@@ -1,17 +1,17 @@
 -- What a sound expression says of its parts, as the code reads them, and the steps of loops over parts.
-use Rattle.std.proofs.Common.{◌≡◌, ℕ, zero, suc, ◌+◌, ◌-◌, ◌*◌, ◌≤◌, ◌<◌, max, Bool, true, false, cond, ◌&&◌, refl, List, [], ◌∷◌, map, length, get_or, drop, ℤ, pos, ◌+ℤ◌, ◌*ℤ◌, neg_ℤ, ap, sym, ◌∙◌, subst, arith}
-use Rattle.std.specs.Prelude.{Option, Some, None, unsigned_abs, int_le, slice_index_or}
-use Rattle.std.proofs.Math.Nat.{mul-le-mul, mul-le-mul_left}
+use Rattle.std.proofs.Common.{◌≡◌, ℕ, zero, suc, ◌+◌, ◌-◌, ◌*◌, ◌≤◌, ◌<◌, max, Bool, true, false, cond, ◌&&◌, refl, List, [], ◌∷◌, map, length, get_or, drop, ℤ, pos, ◌+ℤ◌, ◌*ℤ◌, ap, sym, ◌∙◌, subst, arith}
+use Rattle.std.specs.Prelude.{Some, None, unsigned_abs, int_le, slice_index_or}
+use Rattle.std.proofs.Math.Nat.{mul-le-mul_left}
 use Rattle.opl_expr.specs.declared.forms.Expr.{Expr}
 use Rattle.opl_expr.specs.declared.forms.Expr.TheVariants as E
 use Rattle.opl_expr.specs.declared.tables.Table.{Table}
 use Rattle.opl_expr.specs.declared.tables.Resource.{Resource}
 use Rattle.opl_expr.specs.Forms.{Term, terms_of, product_by, product, term, constant_value}
 use Rattle.opl_expr.specs.Range.{coef, coefs, pure, all_pure}
-use Rattle.opl_expr.specs.Sound.{IsSmall, set_magnitude, var_magnitude, term_magnitude, sum_magnitude, IsSoundTerm, AreSoundTerms}
+use Rattle.opl_expr.specs.Sound.{IsSmall, set_magnitude, term_magnitude, sum_magnitude, IsSoundTerm}
 use Rattle.opl_expr.proofs.Bounds.{sound_small}
 use Rattle.opl_expr.proofs.Plain.{term_Sum, term_Neg, term_Mul, term_Div, term_Rem, term_Abs, term_Min, term_Max}
-use Rattle.opl_expr.proofs.Parts.{drop_at, one_less, sum_from, sum_loop, SoundFactors, sound_product}
+use Rattle.opl_expr.proofs.Parts.{drop_at, one_less, sum_loop, SoundFactors, sound_product}
 use Rattle.opl_range.specs.Magnitudes.{weight}
 use Rattle.opl_range.proofs.Weights.{coef_weight, coefs_weight}
 
@@ -123,13 +123,13 @@ module _ (tables : List Table) (resources : List Resource) where
   pub mul_coefficient : (e a b p q : Expr) (x : ℕ) (k : ℤ) → e ≡ E.Mul a b → p ≡ a → q ≡ b → Some k ≡ constant_value (term tables resources p) → k *ℤ coef (term tables resources q) x ≡ coef (term tables resources e) x
   mul_coefficient e a b p q x k i j l f =
       ap (λ z. k *ℤ coef (term tables resources z) x) l ∙ sym (ap (λ z. coef (term tables resources z) x) i ∙ ap (λ t. coef t x) (term_Mul tables resources a b)
-          ∙ ap (λ t. coef t x) (product_left (term tables resources a) (term tables resources b) k (f ∙ ap (λ z. constant_value (term tables resources z)) j)))
+      ∙ ap (λ t. coef t x) (product_left (term tables resources a) (term tables resources b) k (f ∙ ap (λ z. constant_value (term tables resources z)) j)))
 
   pub mul_coefficient_right : (e a b p p' q : Expr) (x : ℕ) (k : ℤ) → e ≡ E.Mul a b → p ≡ a → p' ≡ a → q ≡ b → None ≡ constant_value (term tables resources p) → Some k ≡ constant_value (term tables resources q)
       → k *ℤ coef (term tables resources p') x ≡ coef (term tables resources e) x
   mul_coefficient_right e a b p p' q x k i j j' l f g =
       ap (λ z. k *ℤ coef (term tables resources z) x) j' ∙ sym (ap (λ z. coef (term tables resources z) x) i ∙ ap (λ t. coef t x) (term_Mul tables resources a b)
-          ∙ ap (λ t. coef t x) (product_right (term tables resources a) (term tables resources b) k (f ∙ ap (λ z. constant_value (term tables resources z)) j) (g ∙ ap (λ z. constant_value (term tables resources z)) l)))
+      ∙ ap (λ t. coef t x) (product_right (term tables resources a) (term tables resources b) k (f ∙ ap (λ z. constant_value (term tables resources z)) j) (g ∙ ap (λ z. constant_value (term tables resources z)) l)))
 
 -- ---- loops from the right
 

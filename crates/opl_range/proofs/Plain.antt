@@ -1,6 +1,6 @@
 -- What the words of the definitions say of each form of expression, as the code sees it.
 use Rattle.std.proofs.Common.{◌≡◌, List, map, ℤ, refl, ap, ◌∙◌}
-use Rattle.std.specs.Prelude.{ℕ, slice_get, Option, Some, None}
+use Rattle.std.specs.Prelude.{ℕ, slice_get, None}
 use Rattle.opl_expr.specs.declared.forms.Ask.{Ask}
 use Rattle.opl_expr.specs.declared.forms.Expr.{Expr}
 use Rattle.opl_expr.specs.declared.forms.Expr.TheVariants as E

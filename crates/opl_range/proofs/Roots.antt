@@ -1,6 +1,6 @@
 -- Values of one or two variables that make a linear form zero.
 use Rattle.std.proofs.Common.{◌≡◌, ◌≢◌, ◌⊎◌, ℕ, zero, suc, ◌+◌, ◌*◌, ◌≤◌, ◌<◌, Bool, true, false, cond, ◌&&◌, ◌||◌, refl, List, [], ◌∷◌, length, ℤ, pos, negsuc, ◌+ℤ◌, ◌*ℤ◌, neg_ℤ, ◌≤ℤ◌, ◌<ℤ◌, ap, sym, ◌∙◌, subst, arith, inl, inr}
-use Rattle.std.specs.Prelude.{◌↔◌, Option, Some, None, nat_eq, unsigned_abs, int_div, int_rem, int_le, not}
+use Rattle.std.specs.Prelude.{Some, None, nat_eq, unsigned_abs, int_div, int_rem, int_le, not}
 use Rattle.std.specs.List.{list_any}
 use Rattle.std.specs.Ordering.{int_eq}
 use Rattle.std.proofs.lemmas.Int.{ints, quot-rem, rem_below, unsigned_abs-mul}
@@ -229,9 +229,9 @@ pub root_value : (F : Family) (c : ℕ → ℤ) (x : ℕ) (k d v : ℤ) (r : Boo
 unfolding has_root
 root_value F c x k d v r p t e =
     e ∙ sym (any_member (λ w. int_eq (k +ℤ (c x *ℤ w)) (pos 0)) v (set_of F x) (λ w.
-        both_ways (int_eq (k +ℤ (c x *ℤ w)) (pos 0)) (int_eq v w)
-        (λ f. (Decides-int_eq v w).1 (sym ((t w).0 (ap (λ u. k +ℤ (u *ℤ w)) p ∙ (Decides-int_eq (k +ℤ (c x *ℤ w)) (pos 0)).0 f))))
-        (λ f. (Decides-int_eq (k +ℤ (c x *ℤ w)) (pos 0)).1 (ap (λ u. k +ℤ (u *ℤ w)) (sym p) ∙ (t w).1 (sym ((Decides-int_eq v w).0 f))))))
+    both_ways (int_eq (k +ℤ (c x *ℤ w)) (pos 0)) (int_eq v w)
+    (λ f. (Decides-int_eq v w).1 (sym ((t w).0 (ap (λ u. k +ℤ (u *ℤ w)) p ∙ (Decides-int_eq (k +ℤ (c x *ℤ w)) (pos 0)).0 f))))
+    (λ f. (Decides-int_eq (k +ℤ (c x *ℤ w)) (pos 0)).1 (ap (λ u. k +ℤ (u *ℤ w)) (sym p) ∙ (t w).1 (sym ((Decides-int_eq v w).0 f))))))
 
 not_equal : (v w : ℤ) → v ≢ w → int_eq v w ≡ false
 not_equal v w n = elim (int_eq v w) as (λ b. int_eq v w ≡ b → b ≡ false) [ true ↦ λ e. absurd (n ((Decides-int_eq v w).0 e)) | false ↦ λ e. refl ] refl

@@ -1,21 +1,19 @@
 -- No range leaves the magnitude of its expression.
-use Rattle.std.proofs.Common.{◌≡◌, ◌≢◌, ◌⊎◌, ℕ, zero, suc, ◌+◌, ◌*◌, ◌≤◌, ◌<◌, max, Bool, true, false, cond, ◌&&◌, refl, List, [], ◌∷◌, map, length, ℤ, pos, negsuc, ◌+ℤ◌, ◌*ℤ◌, neg_ℤ, ◌≤ℤ◌, ap, sym, ◌∙◌, subst, arith, inl, inr}
+use Rattle.std.proofs.Common.{◌≡◌, ◌≢◌, ◌⊎◌, ℕ, zero, suc, ◌+◌, ◌*◌, ◌≤◌, max, Bool, true, false, cond, refl, List, [], ◌∷◌, map, length, ℤ, pos, ◌+ℤ◌, ◌*ℤ◌, neg_ℤ, ◌≤ℤ◌, ap, sym, ◌∙◌, subst, arith, inl, inr}
 use Rattle.std.specs.Prelude.{int_le, unsigned_abs, slice_index_or, Option, Some, None, nat_eq}
-use Rattle.std.proofs.Math.Nat.{mul-le-mul_left, mul-le-mul_right, mul-le-mul, mul-add, add-mul, mul_assoc}
+use Rattle.std.proofs.Math.Nat.{mul-le-mul_left, mul-le-mul_right, mul-add, add-mul, mul_assoc}
 use Rattle.std.proofs.lemmas.Int.{ints, unsigned_abs-mul}
 use Rattle.std.proofs.lemmas.Bool.Decides.{Decides-eqb}
-use Rattle.opl_domain.specs.Span.{Span, magnitude, point, smaller, larger, hull_of, values}
+use Rattle.opl_domain.specs.Span.{Span, magnitude, point, smaller, larger, values}
 use Rattle.opl_domain.specs.Arithmetic.{span_add, span_neg, span_mul, span_div, span_rem, span_abs, span_min, span_max, span_hull}
 use Rattle.opl_domain.specs.Family.{Family, member, set_of, has, hull, Below}
 use Rattle.opl_domain.proofs.Members.{from_values}
-use Rattle.opl_domain.proofs.Sets.{set_of-past}
 use Rattle.opl_expr.specs.declared.model.Core.{Core}
-use Rattle.opl_expr.specs.declared.tables.Table.{Table}
 use Rattle.opl_expr.specs.declared.tables.Cell.{Cell}
 use Rattle.opl_expr.specs.declared.tables.Cell.TheVariants as cell
 use Rattle.opl_expr.specs.Forms.{Relation, Term, Terms, Fact, Facts}
-use Rattle.opl_expr.specs.Options.{lift1, bind1, lift, bind, lift_all, lift_more, lift_some, combined, joined}
-use Rattle.opl_expr.specs.Range.{Linear, verdict, flip, same_truth, span_scale, weighted, with_variables, range_of_linear, compare, compare_of, minus, taken, chosen, masks, cell_range, coef, coefs, pure, may_be, rest, linears, fact_range, fact_ranges, range}
+use Rattle.opl_expr.specs.Options.{bind1, lift_all, lift_some, combined, joined}
+use Rattle.opl_expr.specs.Range.{verdict, flip, same_truth, span_scale, weighted, with_variables, range_of_linear, compare, minus, taken, chosen, masks, cell_range, coef, coefs, pure, may_be, rest, linears, fact_range, fact_ranges, range}
 use Rattle.opl_expr.specs.Solutions.{declared}
 use Rattle.opl_expr.specs.Sound.{set_magnitude, var_magnitude, cell_magnitude, cells_magnitude, term_magnitude, sum_magnitude, greatest_magnitude}
 use Rattle.opl_expr.proofs.Bounds.{lift1_parts, lift_parts, bind_parts, sets_of}

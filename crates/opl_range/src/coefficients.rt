@@ -61,13 +61,7 @@ pub fn coefficient(core: &Core, e: &Expr, x: u32) -> i128
 {
     match e {
         Expr::Const(_k) => 0,
-        Expr::Var(y) => {
-            if x == *y {
-                1
-            } else {
-                0
-            }
-        }
+        Expr::Var(y) => { if x == *y { 1 } else { 0 } }
         Expr::Sum(parts) => sum_of_coefficients(core, parts.as_slice(), x),
         Expr::Neg(a) => negated(coefficient(core, a.get(), x)),
         Expr::Mul(a, b) => match constant(core, a.get()) {

@@ -16,7 +16,13 @@ use opl_domain::{Interval, View};
 use opl_expr::{Core, Expr, Op};
 
 /// The range of `a = b`; `rest` is what `a` minus `b` has beside its variables.
-fn equal<V: View>(core: &Core, a: &Expr, b: &Expr, rest: Option<Interval>, view: &V) -> Option<Interval>
+fn equal<V: View>(
+    core: &Core,
+    a: &Expr,
+    b: &Expr,
+    rest: Option<Interval>,
+    view: &V,
+) -> Option<Interval>
     requires sound { CanCompare core.now a.now b.now }
     requires within { Below (V.family view.now) (declared core.now) }
     requires rest { rest ≡ rest_between (V.family view.now) core.now a.now b.now }
@@ -29,7 +35,13 @@ fn equal<V: View>(core: &Core, a: &Expr, b: &Expr, rest: Option<Interval>, view:
 }
 
 /// The range of `a <= b`.
-fn at_most<V: View>(core: &Core, a: &Expr, b: &Expr, rest: Option<Interval>, view: &V) -> Option<Interval>
+fn at_most<V: View>(
+    core: &Core,
+    a: &Expr,
+    b: &Expr,
+    rest: Option<Interval>,
+    view: &V,
+) -> Option<Interval>
     requires sound { CanCompare core.now a.now b.now }
     requires within { Below (V.family view.now) (declared core.now) }
     requires rest { rest ≡ rest_between (V.family view.now) core.now a.now b.now }
@@ -41,7 +53,13 @@ fn at_most<V: View>(core: &Core, a: &Expr, b: &Expr, rest: Option<Interval>, vie
 }
 
 /// The range of `a < b`.
-fn below<V: View>(core: &Core, a: &Expr, b: &Expr, rest: Option<Interval>, view: &V) -> Option<Interval>
+fn below<V: View>(
+    core: &Core,
+    a: &Expr,
+    b: &Expr,
+    rest: Option<Interval>,
+    view: &V,
+) -> Option<Interval>
     requires sound { CanCompare core.now a.now b.now }
     requires within { Below (V.family view.now) (declared core.now) }
     requires rest { rest ≡ rest_between (V.family view.now) core.now a.now b.now }
@@ -53,7 +71,14 @@ fn below<V: View>(core: &Core, a: &Expr, b: &Expr, rest: Option<Interval>, view:
 }
 
 /// What `a` minus `b` has beside its variables, from the same of each.
-fn rest_of_difference<V: View>(core: &Core, a: &Expr, b: &Expr, first: Option<Interval>, second: Option<Interval>, view: &V) -> Option<Interval>
+fn rest_of_difference<V: View>(
+    core: &Core,
+    a: &Expr,
+    b: &Expr,
+    first: Option<Interval>,
+    second: Option<Interval>,
+    view: &V,
+) -> Option<Interval>
     requires sound { CanCompare core.now a.now b.now }
     requires within { Below (V.family view.now) (declared core.now) }
     requires first { first ≡ rest (V.family view.now) (term_of core.now a.now) }
@@ -64,7 +89,15 @@ fn rest_of_difference<V: View>(core: &Core, a: &Expr, b: &Expr, first: Option<In
 }
 
 /// The range of a comparison; `first` and `second` are what `a` and `b` have beside their variables.
-pub fn compared<V: View>(core: &Core, op: Op, a: &Expr, first: Option<Interval>, b: &Expr, second: Option<Interval>, view: &V) -> Option<Interval>
+pub fn compared<V: View>(
+    core: &Core,
+    op: Op,
+    a: &Expr,
+    first: Option<Interval>,
+    b: &Expr,
+    second: Option<Interval>,
+    view: &V,
+) -> Option<Interval>
     requires sound { IsSoundFact core.now.sets (compared op (term_of core.now a.now) (term_of core.now b.now)) }
     requires within { Below (V.family view.now) (declared core.now) }
     requires first { first ≡ rest (V.family view.now) (term_of core.now a.now) }
@@ -72,17 +105,58 @@ pub fn compared<V: View>(core: &Core, op: Op, a: &Expr, first: Option<Interval>,
     ensures { result ≡ fact_range (V.family view.now) (compared op (term_of core.now a.now) (term_of core.now b.now)) }
 {
     match op {
-        Op::Eq => equal(core, a, b, rest_of_difference(core, a, b, first, second, view), view),
-        Op::Ne => rows::opposite(equal(core, a, b, rest_of_difference(core, a, b, first, second, view), view)),
-        Op::Lt => below(core, a, b, rest_of_difference(core, a, b, first, second, view), view),
-        Op::Le => at_most(core, a, b, rest_of_difference(core, a, b, first, second, view), view),
-        Op::Gt => below(core, b, a, rest_of_difference(core, b, a, second, first, view), view),
-        Op::Ge => at_most(core, b, a, rest_of_difference(core, b, a, second, first, view), view),
+        Op::Eq => equal(
+            core,
+            a,
+            b,
+            rest_of_difference(core, a, b, first, second, view),
+            view,
+        ),
+        Op::Ne => rows::opposite(equal(
+            core,
+            a,
+            b,
+            rest_of_difference(core, a, b, first, second, view),
+            view,
+        )),
+        Op::Lt => below(
+            core,
+            a,
+            b,
+            rest_of_difference(core, a, b, first, second, view),
+            view,
+        ),
+        Op::Le => at_most(
+            core,
+            a,
+            b,
+            rest_of_difference(core, a, b, first, second, view),
+            view,
+        ),
+        Op::Gt => below(
+            core,
+            b,
+            a,
+            rest_of_difference(core, b, a, second, first, view),
+            view,
+        ),
+        Op::Ge => at_most(
+            core,
+            b,
+            a,
+            rest_of_difference(core, b, a, second, first, view),
+            view,
+        ),
     }
 }
 
 /// The range of an expression, from what it has beside its variables.
-pub fn range_of_rest<V: View>(core: &Core, e: &Expr, beside: Option<Interval>, view: &V) -> Option<Interval>
+pub fn range_of_rest<V: View>(
+    core: &Core,
+    e: &Expr,
+    beside: Option<Interval>,
+    view: &V,
+) -> Option<Interval>
     requires sound { IsSoundTerm core.now.sets (term_of core.now e.now) }
     requires within { Below (V.family view.now) (declared core.now) }
     requires beside { beside ≡ rest (V.family view.now) (term_of core.now e.now) }

@@ -42,7 +42,13 @@ fn variables_between<V: View>(core: &Core, a: &Expr, b: &Expr, view: &V) -> Inte
 }
 
 /// The interval of `a` minus `b`, where `rest` is what it has beside its variables.
-pub fn with_variables<V: View>(core: &Core, a: &Expr, b: &Expr, rest: Interval, view: &V) -> Interval
+pub fn with_variables<V: View>(
+    core: &Core,
+    a: &Expr,
+    b: &Expr,
+    rest: Interval,
+    view: &V,
+) -> Interval
     requires sound { CanCompare core.now a.now b.now }
     requires within { Below (V.family view.now) (declared core.now) }
     requires rest { Some rest ≡ rest_between (V.family view.now) core.now a.now b.now }

@@ -50,12 +50,23 @@ fn rest_of<V: View>(core: &Core, e: &Expr, view: &V) -> Option<Interval>
             range_of_rest(core, a.get(), rest_of(core, a.get(), view), view),
             range_of_rest(core, b.get(), rest_of(core, b.get(), view), view),
         ),
-        Expr::Abs(a) => rows::absolute_value(range_of_rest(core, a.get(), rest_of(core, a.get(), view), view)),
+        Expr::Abs(a) => rows::absolute_value(range_of_rest(
+            core,
+            a.get(),
+            rest_of(core, a.get(), view),
+            view,
+        )),
         Expr::Min(parts) => least(core, parts.as_slice(), view),
         Expr::Max(parts) => greatest(core, parts.as_slice(), view),
         Expr::At(table, parts) => match core.tables.get(*table as usize) {
             None => None,
-            Some(t) => cells(core, t.dims.as_slice(), parts.as_slice(), t.cells.as_slice(), view),
+            Some(t) => cells(
+                core,
+                t.dims.as_slice(),
+                parts.as_slice(),
+                t.cells.as_slice(),
+                view,
+            ),
         },
         Expr::Truth(c) => cons_range(core, c.get(), view),
         Expr::Ask(_ask, _x) => None,
@@ -92,7 +103,10 @@ fn least<V: View>(core: &Core, parts: &[Expr], view: &V) -> Option<Interval>
     while left > 0 {
         left -= 1;
         let part = &parts[left];
-        found = rows::least(range_of_rest(core, part, rest_of(core, part, view), view), found);
+        found = rows::least(
+            range_of_rest(core, part, rest_of(core, part, view), view),
+            found,
+        );
     }
     found
 }
@@ -110,7 +124,10 @@ fn greatest<V: View>(core: &Core, parts: &[Expr], view: &V) -> Option<Interval>
     while left > 0 {
         left -= 1;
         let part = &parts[left];
-        found = rows::greatest(range_of_rest(core, part, rest_of(core, part, view), view), found);
+        found = rows::greatest(
+            range_of_rest(core, part, rest_of(core, part, view), view),
+            found,
+        );
     }
     found
 }
@@ -118,7 +135,13 @@ fn greatest<V: View>(core: &Core, parts: &[Expr], view: &V) -> Option<Interval>
 /// The hull of the cells that the subscripts may reach; none where they may reach none.
 #[cycle(ranges)]
 #[tactic(none)]
-fn cells<V: View>(core: &Core, dims: &[Seq<i128>], parts: &[Expr], cells: &[Cell], view: &V) -> Option<Interval>
+fn cells<V: View>(
+    core: &Core,
+    dims: &[Seq<i128>],
+    parts: &[Expr],
+    cells: &[Cell],
+    view: &V,
+) -> Option<Interval>
     requires sound { AreSoundTerms core.now.sets (terms_of (map (term core.now.tables core.now.resources) parts.now)) }
     requires subscripts { FitDimensions core.now.sets dims.now (terms_of (map (term core.now.tables core.now.resources) parts.now)) }
     requires whole { length cells.now ≡ keys dims.now }
@@ -136,7 +159,13 @@ fn cells<V: View>(core: &Core, dims: &[Seq<i128>], parts: &[Expr], cells: &[Cell
             let dim = dims[at].as_slice();
             let part = &parts[at];
             size /= dim.len();
-            if !may_be(core, part, rest_of(core, part, view), dim[place / size], view) {
+            if !may_be(
+                core,
+                part,
+                rest_of(core, part, view),
+                dim[place / size],
+                view,
+            ) {
                 continue 'cells;
             }
             place %= size;
@@ -236,7 +265,15 @@ fn all_differ<V: View>(core: &Core, parts: &[Expr], view: &V) -> Option<Interval
         while other > left + 1 {
             other -= 1;
             let second = &parts[other];
-            let differ = compared(core, Op::Ne, first, rest_of(core, first, view), second, rest_of(core, second, view), view);
+            let differ = compared(
+                core,
+                Op::Ne,
+                first,
+                rest_of(core, first, view),
+                second,
+                rest_of(core, second, view),
+                view,
+            );
             found = rows::least(differ, found);
         }
         found = rows::least(rows::known(rest_of(core, first, view)), found);

@@ -118,7 +118,11 @@ pub fn joined(a: Interval, b: Option<Interval>) -> Interval
 pub fn truth(b: bool) -> Interval
     ensures { result ≡ point (cond b (pos 1) (pos 0)) }
 {
-    if b { Interval::point(1) } else { Interval::point(0) }
+    if b {
+        Interval::point(1)
+    } else {
+        Interval::point(0)
+    }
 }
 
 /// True where `surely`, false where `never`, and else open.

@@ -129,7 +129,15 @@ fn are_opposite_units(x: i128, y: i128) -> bool
 }
 
 /// The same as `zero_by_values`, where `x` is the last variable and `y` the one before it.
-fn zero_by_two<V: View>(core: &Core, a: &Expr, b: &Expr, x: u32, y: u32, k: i128, view: &V) -> Option<bool>
+fn zero_by_two<V: View>(
+    core: &Core,
+    a: &Expr,
+    b: &Expr,
+    x: u32,
+    y: u32,
+    k: i128,
+    view: &V,
+) -> Option<bool>
     requires sound { CanCompare core.now a.now b.now }
     requires within { Below (V.family view.now) (declared core.now) }
     requires last { IsLastVariable (between core.now a.now b.now) (length (V.family view.now)) x }
@@ -141,7 +149,10 @@ fn zero_by_two<V: View>(core: &Core, a: &Expr, b: &Expr, x: u32, y: u32, k: i128
     match last_variable(core, a, b, y) {
         Some(_z) => None,
         None => {
-            if are_opposite_units(coefficient_between(core, a, b, x), coefficient_between(core, a, b, y)) {
+            if are_opposite_units(
+                coefficient_between(core, a, b, x),
+                coefficient_between(core, a, b, y),
+            ) {
                 Some(have_root(core, a, b, x, y, k, view))
             } else {
                 None
@@ -180,7 +191,14 @@ fn zero_of_linear<V: View>(core: &Core, a: &Expr, b: &Expr, k: i128, view: &V) -
 }
 
 /// Whether `a` minus `b` is surely not zero; `rest` is what it has beside its variables, and `whole` its interval.
-pub fn never_zero<V: View>(core: &Core, a: &Expr, b: &Expr, rest: Interval, whole: Interval, view: &V) -> bool
+pub fn never_zero<V: View>(
+    core: &Core,
+    a: &Expr,
+    b: &Expr,
+    rest: Interval,
+    whole: Interval,
+    view: &V,
+) -> bool
     requires sound { CanCompare core.now a.now b.now }
     requires within { Below (V.family view.now) (declared core.now) }
     requires rest { Some rest ≡ rest_between (V.family view.now) core.now a.now b.now }

@@ -1,14 +1,14 @@
-use Rattle.std.proofs.Common.{◌≡◌, ap, sym, ◌∙◌, rules, arith, map, drop, to_z, ◌-◌, ◌*ℤ◌, neg_ℤ, ℤ, refl}
-use Rattle.std.specs.Prelude.{FitsSigned, unsigned_abs}
+use Rattle.std.proofs.Common.{ap, sym, ◌∙◌, rules, arith, map, drop, ◌*ℤ◌, neg_ℤ}
+use Rattle.std.specs.Prelude.{FitsSigned}
 use mir.Syntax.{w128}
-use Rattle.std.proofs.lemmas.Int.{ints, to_z-of_z}
+use Rattle.std.proofs.lemmas.Int.{to_z-of_z}
 use Rattle.opl_expr.specs.declared.forms.Cons.TheFolds.{the_lemmas}
-use Rattle.opl_expr.specs.Forms.{term, constant_value, product, terms_of}
+use Rattle.opl_expr.specs.Forms.{term, terms_of}
 use Rattle.opl_expr.specs.Range.{coef, coefs}
 use Rattle.opl_expr.specs.Sound.{term_magnitude}
 use Rattle.opl_expr.proofs.Parts.{sound_at}
-use Rattle.opl_range.proofs.Plain.{coef_Neg, coef_Mul}
-use Rattle.opl_range.proofs.Parts.{sum_parts, neg_part, mul_first, mul_second, factors_small, negated_small, scaled_coef, swapped_small, product_left, product_right, coefs_more, coefs_fit, mul_coefficient, mul_coefficient_right, none_left}
+use Rattle.opl_range.proofs.Plain.{coef_Neg}
+use Rattle.opl_range.proofs.Parts.{sum_parts, neg_part, mul_first, mul_second, factors_small, negated_small, scaled_coef, swapped_small, coefs_fit, mul_coefficient, mul_coefficient_right, none_left}
 use Rattle.opl_range.proofs.coefficients.+coefficients.Goals as goal
 
 pub coefficient-sum_of_coefficients-requires : goal.coefficient-sum_of_coefficients-requires
@@ -31,7 +31,7 @@ coefficient-multiplied-requires t c =
     let fits : FitsSigned w128 c.coefficient-in-Some.result = search rules in
     let in_core = term c.args.core.now.tables c.args.core.now.resources in
     simp to_z-of_z (scaled_coef c.args.core.now.sets (in_core c.get-in-Mul.result.now) (in_core c.get-in-Some.result.now) _ _ c.args.x (c.in-Some.ensures) c.coefficient-in-Some.ensures
-        (factors_small _ _ _ _ _ _ _ _ c.in-Mul.is c.get-in-Mul.ensures c.get-in-Some.ensures c.requires))
+    (factors_small _ _ _ _ _ _ _ _ c.in-Mul.is c.get-in-Mul.ensures c.get-in-Some.ensures c.requires))
 
 pub coefficient-coefficient-requires-in-Some-constant : goal.coefficient-coefficient-requires-in-Some-constant
 coefficient-coefficient-requires-in-Some-constant t c = (search (rules, the_lemmas), mul_first _ _ _ _ _ _ _ c.in-Mul.is c.get-in-Some-constant.ensures c.requires)
@@ -44,7 +44,7 @@ coefficient-multiplied-requires-in-Some-constant t c =
     let sets = c.args.core.now.sets in
     let small = factors_small _ _ _ _ _ _ _ _ c.in-Mul.is c.get-in-Some-constant.ensures c.get-in-None.ensures c.requires in
     simp to_z-of_z (scaled_coef sets (in_core c.get-in-None.result.now) (in_core c.get-in-Some-constant.result.now) _ _ c.args.x (c.in-Some-constant.ensures) c.coefficient-in-Some-constant.ensures
-        (swapped_small (term_magnitude sets (in_core c.get-in-Some-constant.result.now)) (term_magnitude sets (in_core c.get-in-None.result.now)) small))
+    (swapped_small (term_magnitude sets (in_core c.get-in-Some-constant.result.now)) (term_magnitude sets (in_core c.get-in-None.result.now)) small))
 
 pub coefficient-returns-in-Neg : goal.coefficient-returns-in-Neg
 coefficient-returns-in-Neg t c =

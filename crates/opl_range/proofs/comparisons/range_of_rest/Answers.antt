@@ -1,5 +1,4 @@
 use Rattle.std.proofs.Common.{refl, sym, ap, ◌∙◌, pos}
-use Rattle.std.specs.Prelude.{Some}
 use Rattle.opl_expr.specs.declared.forms.Expr.TheVariants as E
 use Rattle.opl_expr.specs.Range.{ends}
 use Rattle.opl_range.specs.Between.{term_of}

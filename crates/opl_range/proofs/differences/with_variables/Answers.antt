@@ -1,6 +1,4 @@
 use Rattle.opl_range.proofs.Minus.{whole_fits, whole_is}
-use Rattle.opl_range.specs.Between.{between}
-use Rattle.std.proofs.Common.{length}
 use Rattle.opl_range.proofs.differences.with_variables.Goals as goal
 
 pub add-requires : goal.add-requires

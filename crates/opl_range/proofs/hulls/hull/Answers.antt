@@ -1,6 +1,6 @@
 use Rattle.std.proofs.Common.{arith}
 use Rattle.std.proofs.lemmas.Int.{ints}
-use Rattle.opl_range.proofs.Ends.{hull_made, ends_ordered}
+use Rattle.opl_range.proofs.Ends.{hull_made}
 use Rattle.opl_domain.proofs.Numbers.{span_is}
 use Rattle.opl_range.proofs.hulls.hull.Goals as goal
 

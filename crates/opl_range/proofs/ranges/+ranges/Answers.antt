@@ -1,10 +1,9 @@
-use Rattle.std.proofs.Common.{◌≡◌, ◌-◌, ◌+◌, ◌<◌, ◌/◌, [], ◌∷◌, true, refl, ap, sym, ◌∙◌, subst, rules, arith, map, length, drop, get_or, ℤ, pos, to_z, of_z}
-use Rattle.std.specs.Prelude.{FitsSigned, Option, Some, None, IsTrue}
+use Rattle.std.proofs.Common.{◌≡◌, ◌-◌, ◌<◌, ◌/◌, true, refl, ap, sym, ◌∙◌, subst, rules, arith, map, length, drop, get_or, pos}
+use Rattle.std.specs.Prelude.{FitsSigned, Some}
 use Rattle.std.specs.List.{list_all}
 use mir.Syntax.{w64, w128}
 use Rattle.std.proofs.lemmas.Int.{to_z-of_z}
-use Rattle.opl_domain.specs.Span.{point}
-use Rattle.opl_domain.specs.Arithmetic.{span_hull, span_min, span_max}
+use Rattle.opl_domain.specs.Arithmetic.{span_min, span_max}
 use Rattle.opl_expr.specs.declared.forms.Cons.TheFolds.{the_lemmas}
 use Rattle.opl_expr.specs.declared.forms.Op.TheVariants.{Ne}
 use Rattle.opl_expr.specs.declared.tables.Cell.TheVariants as cell
@@ -13,7 +12,7 @@ use Rattle.opl_expr.specs.Options.{lift1, lift_onto}
 use Rattle.opl_expr.specs.Range.{flip, rest, may_be, fact_range, taken}
 use Rattle.opl_expr.specs.Sound.{term_magnitude, keys, is_there, IsSoundTerm, AreSoundTerms, IsSoundFact, AreSoundFacts}
 use Rattle.opl_expr.proofs.Plain.{term_Const, term_Var, term_Sum, term_Min, term_Max, term_At, term_Truth, term_Ask, fact_Fixed, fact_Cmp, fact_And, fact_Or, fact_Imp, fact_Iff, fact_Not, fact_AllDifferent, fact_Capacity, fact_Bound}
-use Rattle.opl_expr.proofs.Parts.{drop_none, sound_at, sound_fact_at, some_terms, any_default}
+use Rattle.opl_expr.proofs.Parts.{drop_none, sound_at, sound_fact_at, some_terms}
 use Rattle.opl_range.specs.Between.{term_of}
 use Rattle.opl_range.proofs.Parts.{sum_parts, least_parts, greatest_parts, neg_part, abs_part, div_first, div_second, rem_first, rem_second, mul_first, mul_second, factors_small, swapped_small, none_left}
 use Rattle.opl_range.proofs.Compare.{opposite_is}

@@ -1,9 +1,9 @@
 use Rattle.std.proofs.Common.{◌≡◌, ◌+◌, ◌<◌, ◌≤◌, map, length, drop}
-use Rattle.opl_domain.specs.Arithmetic.{span_hull, span_min}
+use Rattle.opl_domain.specs.Arithmetic.{span_min}
 use Rattle.opl_expr.specs.declared.forms.Op.TheVariants.{Ne}
-use Rattle.opl_expr.specs.Options.{joined, lift_onto}
+use Rattle.opl_expr.specs.Options.{lift_onto}
 use Rattle.opl_expr.specs.Forms.{Term, Fact, term, fact, terms_of, facts_of, all_different, compared}
-use Rattle.opl_expr.specs.Range.{taken, chosen, masks, cell_range, may_be, rest, linears, fact_range}
+use Rattle.opl_expr.specs.Range.{taken, rest, fact_range}
 use Rattle.opl_range.proofs.Tables.{IsReached, hull_from, marks}
 use Rattle.opl_range.proofs.ranges.+ranges.Given as goal
 

@@ -1,4 +1,4 @@
-use Rattle.std.proofs.Common.{rules, arith}
+use Rattle.std.proofs.Common.{arith}
 use Rattle.opl_range.proofs.Ends.{truths_apart, same_truth_is}
 use Rattle.opl_range.proofs.rows.agree.Goals as goal
 

@@ -1,8 +1,7 @@
-use Rattle.std.proofs.Common.{◌≡◌, rules, map, ap, subst, ◌∙◌}
+use Rattle.std.proofs.Common.{◌≡◌, rules, map, subst}
 use Rattle.std.specs.Prelude.{FitsSigned, Some}
 use mir.Syntax.{w64, w128}
 use Rattle.std.proofs.lemmas.Int.{to_z-of_z}
-use Rattle.opl_domain.specs.Arithmetic.{span_neg}
 use Rattle.opl_expr.specs.Forms.{Term, terms_of, demand_at}
 use Rattle.opl_expr.specs.Range.{rest}
 use Rattle.opl_range.proofs.Demands.{capacity_fits, capacity_is}

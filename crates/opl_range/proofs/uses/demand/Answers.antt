@@ -13,7 +13,7 @@ scaled-requires g c =
     let time = to_z-of_z w64 c.args.time c.ranges.time in
     let k : FitsSigned w128 c.args.u.now.demand = search rules in
     simp to_z-of_z (demand_fits c.args.core.now (g.V.View.family c.args.view.now) c.args.u.now (to_z w64 (of_z w64 c.args.time)) c.has_started.result c.has_not_ended.result c.min-active.result
-        (subst (λ z. IsSoundTerm c.args.core.now.sets (demand_at z c.args.u.now)) (sym time) c.requires.sound) c.has_started.ensures c.has_not_ended.ensures c.min-active.ensures)
+    (subst (λ z. IsSoundTerm c.args.core.now.sets (demand_at z c.args.u.now)) (sym time) c.requires.sound) c.has_started.ensures c.has_not_ended.ensures c.min-active.ensures)
 
 pub returns : goal.returns
 returns g c =

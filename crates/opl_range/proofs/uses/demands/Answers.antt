@@ -29,5 +29,5 @@ loop-left-preserved g c =
     let total = subst (λ z. Some c.loop-left.total ≡ rest (g.V.View.family c.args.view.now) (Term.sum (terms_of (map (demand_at z) (drop c.loop-left.left c.args.uses.now))))) (to_z-of_z w64 c.args.time c.ranges.time) c.loop-left.invariant.1 in (
       omega (arith, c.loop-left.invariant.0),
       subst (λ z. Some c.add-total.result ≡ rest (g.V.View.family c.args.view.now) (Term.sum (terms_of (map (demand_at z) (drop (c.loop-left.left - 1) c.args.uses.now))))) (sym (to_z-of_z w64 c.args.time c.ranges.time))
-      (total_more (g.V.View.family c.args.view.now) c.args.time c.args.uses.now c.loop-left.left none c.demand.result c.loop-left.total c.add-total.result c.loop-left-test.true c.loop-left.invariant.0 e total c.add-total.ensures),
+          (total_more (g.V.View.family c.args.view.now) c.args.time c.args.uses.now c.loop-left.left none c.demand.result c.loop-left.total c.add-total.result c.loop-left-test.true c.loop-left.invariant.0 e total c.add-total.ensures),
     )

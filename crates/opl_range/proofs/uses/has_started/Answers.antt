@@ -1,7 +1,4 @@
 use Rattle.std.proofs.Common.{ap, ◌∙◌}
-use Rattle.std.specs.Prelude.{FitsSigned}
-use mir.Syntax.{w64, w128}
-use Rattle.std.proofs.lemmas.Int.{to_z-of_z}
 use Rattle.opl_domain.specs.Arithmetic.{span_neg}
 use Rattle.opl_range.proofs.Demands.{start_there, started_fits, started_is, point_is}
 use Rattle.opl_range.proofs.uses.has_started.Goals as goal

@@ -1,7 +1,7 @@
-use Rattle.std.proofs.Common.{rules, arith}
+use Rattle.std.proofs.Common.{rules}
 use Rattle.std.specs.Prelude.{FitsSigned}
 use mir.Syntax.{w128}
-use Rattle.std.proofs.lemmas.Int.{ints, to_z-of_z}
+use Rattle.std.proofs.lemmas.Int.{to_z-of_z}
 use Rattle.opl_range.specs.Between.{between}
 use Rattle.opl_range.proofs.Roots.{root_value, root_missing}
 use Rattle.opl_range.proofs.zeros.has_root.Goals as goal

@@ -1,4 +1,4 @@
-use Rattle.std.proofs.Common.{◌≡◌, ◌≤◌, ◌<◌, ℕ, ℤ, pos}
+use Rattle.std.proofs.Common.{◌≡◌, ◌≤◌, ◌<◌, ℕ, pos}
 use Rattle.opl_range.specs.Between.{between}
 use Rattle.opl_range.proofs.zeros.last_variable.Given as goal
 

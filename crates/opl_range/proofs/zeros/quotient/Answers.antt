@@ -1,7 +1,7 @@
 use Rattle.std.proofs.Common.{refl}
 use Rattle.std.specs.Prelude.{FitsSigned, int_div}
 use mir.Syntax.{w128}
-use Rattle.std.proofs.lemmas.Int.{ints, to_z-of_z}
+use Rattle.std.proofs.lemmas.Int.{to_z-of_z}
 use Rattle.opl_range.proofs.Bounds.{abs_div}
 use Rattle.opl_range.proofs.Roots.{quotient_fits}
 use Rattle.opl_range.proofs.zeros.quotient.Goals as goal

@@ -1,6 +1,5 @@
 use Rattle.std.proofs.Common.{arith, length, subst, ◌∙◌}
 use Rattle.std.specs.Prelude.{None}
-use mir.Syntax.{w128}
 use Rattle.std.proofs.lemmas.Int.{to_z-of_z}
 use Rattle.opl_range.specs.Between.{between, IsLast, IsLastVariable}
 use Rattle.opl_range.proofs.Roots.{by_none, by_one}
