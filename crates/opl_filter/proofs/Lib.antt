@@ -1,0 +1,10 @@
+pub mod Removals
+pub mod Runs
+pub mod Unmentioned
+mod Adding
+mod Mentioned
+mod Trying
+mod Outcomes
+mod Ends
+mod Refuting
+mod Example

@@ -1,0 +1,28 @@
+use Rattle.std.proofs.Common.{arith}
+use Rattle.opl_trace.proofs.Families.{below_join}
+use Rattle.opl_filter.proofs.Removals.{left_sets, left_below}
+use Rattle.opl_filter.proofs.Trying.{listed_at, all_first, all_next, all_end, all_stuck}
+use Rattle.opl_filter.proofs.rounds.try_all.Goals as goal
+
+pub loop-x-init : goal.loop-x-init
+loop-x-init g c = all_first _ _ _
+
+pub try_values-requires-clause-sets : goal.try_values-requires-clause-sets
+try_values-requires-clause-sets g c = left_sets _ _ _ c.requires.sets c.loop-x.invariant.removals
+
+pub try_values-requires-clause-variable : goal.try_values-requires-clause-variable
+try_values-requires-clause-variable g c =
+    let listed = listed_at c.args.variables.now c.loop-x.x-index c.loop-x-test.true in
+    omega (arith, c.requires.there _ listed, (left_below _ _ _ c.loop-x.invariant.removals).same)
+
+pub try_values-requires-clause-tests : goal.try_values-requires-clause-tests
+try_values-requires-clause-tests g c F b = c.requires.tests F (below_join F _ _ b (left_below _ _ _ c.loop-x.invariant.removals))
+
+pub returns-in_err-removed : goal.returns-in_err-removed
+returns-in_err-removed g c = all_stuck _ _ _ _ _ _ c.loop-x.invariant.removals c.in_err-removed.ensures c.from_residual.ensures
+
+pub loop-x-preserved : goal.loop-x-preserved
+loop-x-preserved g c = all_next _ _ _ _ _ _ _ _ c.loop-x-test.true c.loop-x.invariant c.in_ok-removed.ensures
+
+pub returns : goal.returns
+returns g c = all_end _ _ _ _ _ _ c.loop-x.invariant c.loop-x-test.false

@@ -1,0 +1,4 @@
+pub mod Mentions
+pub mod Filtering
+pub mod Rounds
+pub mod Laws
