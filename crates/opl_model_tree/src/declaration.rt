@@ -3,7 +3,7 @@ use crate::expression::{AddTree, NameTree, SetTree};
 use opl_list::{Boxed, Seq};
 
 /// A declaration.
-#[derive(Debug, Drop)]
+#[derive(Drop)]
 pub enum DeclTree {
     Data(DataTree),
     Range(RangeTree),
@@ -17,7 +17,7 @@ pub enum DeclTree {
 }
 
 /// `TYPE NAME [DIMS] = INITIAL;`
-#[derive(Debug, Drop)]
+#[derive(Drop)]
 pub struct DataTree {
     pub at: u32,
     pub kind: TypeTree,
@@ -27,7 +27,7 @@ pub struct DataTree {
 }
 
 /// `...` or `ADD`
-#[derive(Debug, Drop)]
+#[derive(Drop)]
 pub enum InitialTree {
     /// The value stands in a data file.
     External(u32),
@@ -35,7 +35,7 @@ pub enum InitialTree {
 }
 
 /// `int`, `NAME` or `{TYPE}`
-#[derive(Debug, Drop)]
+#[derive(Drop)]
 #[cycle(types)]
 pub enum TypeTree {
     Int(u32),
@@ -44,7 +44,7 @@ pub enum TypeTree {
 }
 
 /// `[DIM, DIM, ..]`
-#[derive(Debug, Drop)]
+#[derive(Drop)]
 pub struct DimsTree {
     pub at: u32,
     pub first: DimTree,
@@ -52,7 +52,7 @@ pub struct DimsTree {
 }
 
 /// `SET` or `NAME in SET`
-#[derive(Debug, Drop)]
+#[derive(Drop)]
 pub struct DimTree {
     pub at: u32,
     pub name: Option<NameTree>,
@@ -60,7 +60,7 @@ pub struct DimTree {
 }
 
 /// `range NAME ADD..ADD;`
-#[derive(Debug, Drop)]
+#[derive(Drop)]
 pub struct RangeTree {
     pub at: u32,
     pub name: NameTree,
@@ -69,7 +69,7 @@ pub struct RangeTree {
 }
 
 /// `enum NAME NAMES;`
-#[derive(Debug, Drop)]
+#[derive(Drop)]
 pub struct EnumTree {
     pub at: u32,
     pub name: NameTree,
@@ -77,7 +77,7 @@ pub struct EnumTree {
 }
 
 /// `{NAME, NAME, ..}`, or `...` with or without `=` before it
-#[derive(Debug, Drop)]
+#[derive(Drop)]
 pub enum EnumNamesTree {
     Listed(u32, NameTree, Seq<NameTree>),
     /// The names stand in a data file; whether `=` is written.
@@ -85,7 +85,7 @@ pub enum EnumNamesTree {
 }
 
 /// `struct NAME {FIELD FIELD ..};`
-#[derive(Debug, Drop)]
+#[derive(Drop)]
 pub struct StructTree {
     pub at: u32,
     pub name: NameTree,
@@ -94,7 +94,7 @@ pub struct StructTree {
 }
 
 /// `TYPE NAME;`
-#[derive(Debug, Drop)]
+#[derive(Drop)]
 pub struct FieldTree {
     pub at: u32,
     pub kind: TypeTree,
@@ -102,7 +102,7 @@ pub struct FieldTree {
 }
 
 /// `var TYPE NAME [DIMS] [BOUNDS];`
-#[derive(Debug, Drop)]
+#[derive(Drop)]
 pub struct VariableTree {
     pub at: u32,
     pub kind: VariableTypeTree,
@@ -112,14 +112,14 @@ pub struct VariableTree {
 }
 
 /// `int` or `NAME`
-#[derive(Debug, Drop)]
+#[derive(Drop)]
 pub enum VariableTypeTree {
     Int(u32),
     Named(NameTree),
 }
 
 /// `in ADD..ADD`
-#[derive(Debug, Drop)]
+#[derive(Drop)]
 pub struct BoundsTree {
     pub at: u32,
     pub low: AddTree,
@@ -127,7 +127,7 @@ pub struct BoundsTree {
 }
 
 /// `Activity NAME [DIMS] (ADD);` or `Activity NAME [DIMS] (ADD..ADD);`
-#[derive(Debug, Drop)]
+#[derive(Drop)]
 pub struct ActivityTree {
     pub at: u32,
     pub name: NameTree,
@@ -137,7 +137,7 @@ pub struct ActivityTree {
 }
 
 /// `UnaryResource NAME [DIMS];`
-#[derive(Debug, Drop)]
+#[derive(Drop)]
 pub struct UnaryTree {
     pub at: u32,
     pub name: NameTree,
@@ -145,7 +145,7 @@ pub struct UnaryTree {
 }
 
 /// `DiscreteResource NAME [DIMS] (ADD);`
-#[derive(Debug, Drop)]
+#[derive(Drop)]
 pub struct DiscreteTree {
     pub at: u32,
     pub name: NameTree,
@@ -154,7 +154,7 @@ pub struct DiscreteTree {
 }
 
 /// `scheduleOrigin = ADD;` or `scheduleHorizon = ADD;`
-#[derive(Debug, Drop)]
+#[derive(Drop)]
 pub struct ScheduleTree {
     pub at: u32,
     pub end: ScheduleEnd,
@@ -162,7 +162,7 @@ pub struct ScheduleTree {
 }
 
 /// Which end of the schedule is given.
-#[derive(Debug, Clone, Copy, PartialEq, Eq)]
+#[derive(Clone, Copy, PartialEq, Eq)]
 pub enum ScheduleEnd {
     /// `scheduleOrigin`
     Origin,

@@ -3,14 +3,14 @@ use opl_list::{Boxed, Seq};
 use opl_token::Name;
 
 /// A name where it is written.
-#[derive(Debug, Drop)]
+#[derive(Drop)]
 pub struct NameTree {
     pub at: u32,
     pub text: Name,
 }
 
 /// `IMP <=> IMP <=> ..`
-#[derive(Debug, Drop)]
+#[derive(Drop)]
 #[cycle(expressions)]
 pub struct ExprTree {
     pub at: u32,
@@ -19,7 +19,7 @@ pub struct ExprTree {
 }
 
 /// `OR`, or `OR => IMP`
-#[derive(Debug, Drop)]
+#[derive(Drop)]
 #[cycle(expressions)]
 pub struct ImpTree {
     pub at: u32,
@@ -28,7 +28,7 @@ pub struct ImpTree {
 }
 
 /// `AND \/ AND \/ ..`
-#[derive(Debug, Drop)]
+#[derive(Drop)]
 #[cycle(expressions)]
 pub struct OrTree {
     pub at: u32,
@@ -37,7 +37,7 @@ pub struct OrTree {
 }
 
 /// `NEG & NEG & ..`
-#[derive(Debug, Drop)]
+#[derive(Drop)]
 #[cycle(expressions)]
 pub struct AndTree {
     pub at: u32,
@@ -46,7 +46,7 @@ pub struct AndTree {
 }
 
 /// `not NEG`, or a comparison
-#[derive(Debug, Drop)]
+#[derive(Drop)]
 #[cycle(expressions)]
 pub enum NegTree {
     Not(u32, Boxed<NegTree>),
@@ -54,7 +54,7 @@ pub enum NegTree {
 }
 
 /// `ADD`, `ADD RELATION ADD`, or `ADD in SET`
-#[derive(Debug, Drop)]
+#[derive(Drop)]
 #[cycle(expressions)]
 pub enum CompareTree {
     Single(u32, AddTree),
@@ -63,7 +63,7 @@ pub enum CompareTree {
 }
 
 /// `MUL + MUL - ..`
-#[derive(Debug, Drop)]
+#[derive(Drop)]
 #[cycle(expressions)]
 pub struct AddTree {
     pub at: u32,
@@ -72,7 +72,7 @@ pub struct AddTree {
 }
 
 /// `+ MUL` or `- MUL`
-#[derive(Debug, Drop)]
+#[derive(Drop)]
 #[cycle(expressions)]
 pub struct AddStep {
     pub op: AddOp,
@@ -80,7 +80,7 @@ pub struct AddStep {
 }
 
 /// `OPEN`, or `SIGN * SIGN div ..` with or without a last `* OPEN`
-#[derive(Debug, Drop)]
+#[derive(Drop)]
 #[cycle(expressions)]
 pub enum MulTree {
     Opened(OpenTree),
@@ -88,7 +88,7 @@ pub enum MulTree {
 }
 
 /// `* SIGN`, `div SIGN` or `mod SIGN`
-#[derive(Debug, Drop)]
+#[derive(Drop)]
 #[cycle(expressions)]
 pub struct MulStep {
     pub op: MulOp,
@@ -96,7 +96,7 @@ pub struct MulStep {
 }
 
 /// `* OPEN`, `div OPEN` or `mod OPEN`
-#[derive(Debug, Drop)]
+#[derive(Drop)]
 #[cycle(expressions)]
 pub struct LastStep {
     pub op: MulOp,
@@ -104,7 +104,7 @@ pub struct LastStep {
 }
 
 /// `- OPEN`, or `sum (PARAMS) MUL` and the like
-#[derive(Debug, Drop)]
+#[derive(Drop)]
 #[cycle(expressions)]
 pub enum OpenTree {
     NegativeOpen(u32, Boxed<OpenTree>),
@@ -112,7 +112,7 @@ pub enum OpenTree {
 }
 
 /// `- SIGN`, or a postfix expression
-#[derive(Debug, Drop)]
+#[derive(Drop)]
 #[cycle(expressions)]
 pub enum SignTree {
     Negative(u32, Boxed<SignTree>),
@@ -120,7 +120,7 @@ pub enum SignTree {
 }
 
 /// `PRIM` with subscripts and fields behind it
-#[derive(Debug, Drop)]
+#[derive(Drop)]
 #[cycle(expressions)]
 pub struct PostTree {
     pub at: u32,
@@ -129,7 +129,7 @@ pub struct PostTree {
 }
 
 /// `[ADD, ADD, ..]` or `.NAME`, where the name may be any word
-#[derive(Debug, Drop)]
+#[derive(Drop)]
 #[cycle(expressions)]
 pub enum SuffixTree {
     Subscripts(SubscriptsTree),
@@ -137,7 +137,7 @@ pub enum SuffixTree {
 }
 
 /// `[ADD, ADD, ..]`
-#[derive(Debug, Drop)]
+#[derive(Drop)]
 #[cycle(expressions)]
 pub struct SubscriptsTree {
     pub at: u32,
@@ -146,7 +146,7 @@ pub struct SubscriptsTree {
 }
 
 /// What an expression begins with.
-#[derive(Debug, Drop)]
+#[derive(Drop)]
 #[cycle(expressions)]
 pub enum PrimTree {
     Number(u32, i128),
@@ -172,7 +172,7 @@ pub enum PrimTree {
 }
 
 /// `ADD:ADD`
-#[derive(Debug, Drop)]
+#[derive(Drop)]
 #[cycle(expressions)]
 pub struct KeyedTree {
     pub key: AddTree,
@@ -180,7 +180,7 @@ pub struct KeyedTree {
 }
 
 /// `ADD` or `ADD..ADD`
-#[derive(Debug, Drop)]
+#[derive(Drop)]
 #[cycle(expressions)]
 pub struct SetTree {
     pub at: u32,
@@ -189,7 +189,7 @@ pub struct SetTree {
 }
 
 /// `GROUP, GROUP & ..`, with or without `: EXPR`
-#[derive(Debug, Drop)]
+#[derive(Drop)]
 #[cycle(expressions)]
 pub struct ParamsTree {
     pub at: u32,
@@ -199,7 +199,7 @@ pub struct ParamsTree {
 }
 
 /// `, GROUP` or `& GROUP`
-#[derive(Debug, Drop)]
+#[derive(Drop)]
 #[cycle(expressions)]
 pub struct GroupStep {
     pub separator: GroupSeparator,
@@ -207,7 +207,7 @@ pub struct GroupStep {
 }
 
 /// `PATTERN, PATTERN, .. in SET`, with or without `ordered` before it
-#[derive(Debug, Drop)]
+#[derive(Drop)]
 #[cycle(expressions)]
 pub struct GroupTree {
     pub at: u32,
@@ -218,14 +218,14 @@ pub struct GroupTree {
 }
 
 /// `NAME` or `<NAME, NAME, ..>`
-#[derive(Debug, Drop)]
+#[derive(Drop)]
 pub enum PatternTree {
     Single(NameTree),
     Record(u32, NameTree, Seq<NameTree>),
 }
 
 /// The sign of a comparison.
-#[derive(Debug, Clone, Copy, PartialEq, Eq)]
+#[derive(Clone, Copy, PartialEq, Eq)]
 pub enum Relation {
     /// `=`
     Equal,
@@ -242,7 +242,7 @@ pub enum Relation {
 }
 
 /// The sign of a sum's step.
-#[derive(Debug, Clone, Copy, PartialEq, Eq)]
+#[derive(Clone, Copy, PartialEq, Eq)]
 pub enum AddOp {
     /// `+`
     Plus,
@@ -251,7 +251,7 @@ pub enum AddOp {
 }
 
 /// The sign of a product's step.
-#[derive(Debug, Clone, Copy, PartialEq, Eq)]
+#[derive(Clone, Copy, PartialEq, Eq)]
 pub enum MulOp {
     /// `*`
     Times,
@@ -262,7 +262,7 @@ pub enum MulOp {
 }
 
 /// The word of an aggregate.
-#[derive(Debug, Clone, Copy, PartialEq, Eq)]
+#[derive(Clone, Copy, PartialEq, Eq)]
 pub enum AggregateOp {
     /// `sum`
     Sum,
@@ -275,7 +275,7 @@ pub enum AggregateOp {
 }
 
 /// A function of one expression.
-#[derive(Debug, Clone, Copy, PartialEq, Eq)]
+#[derive(Clone, Copy, PartialEq, Eq)]
 pub enum CallOp {
     /// `abs`
     Absolute,
@@ -284,7 +284,7 @@ pub enum CallOp {
 }
 
 /// A question on the set of a variable.
-#[derive(Debug, Clone, Copy, PartialEq, Eq)]
+#[derive(Clone, Copy, PartialEq, Eq)]
 pub enum QuestionOp {
     /// `dsize`
     Size,
@@ -297,7 +297,7 @@ pub enum QuestionOp {
 }
 
 /// What stands between two groups of parameters.
-#[derive(Debug, Clone, Copy, PartialEq, Eq)]
+#[derive(Clone, Copy, PartialEq, Eq)]
 pub enum GroupSeparator {
     /// `,`
     Comma,

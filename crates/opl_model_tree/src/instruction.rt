@@ -3,7 +3,7 @@ use crate::expression::{AddTree, ExprTree, NameTree, ParamsTree, PostTree, Subsc
 use opl_list::{Boxed, Seq};
 
 /// What a model asks for.
-#[derive(Debug, Drop)]
+#[derive(Drop)]
 pub enum InstrTree {
     /// `solve BLOCK;`
     Solve(u32, BlockTree),
@@ -12,7 +12,7 @@ pub enum InstrTree {
 }
 
 /// Which value of the objective is the best.
-#[derive(Debug, Clone, Copy, PartialEq, Eq)]
+#[derive(Clone, Copy, PartialEq, Eq)]
 pub enum Optimum {
     /// `minimize`
     Least,
@@ -21,7 +21,7 @@ pub enum Optimum {
 }
 
 /// `{ITEMS}`
-#[derive(Debug, Drop)]
+#[derive(Drop)]
 #[cycle(items)]
 pub struct BlockTree {
     pub at: u32,
@@ -29,7 +29,7 @@ pub struct BlockTree {
 }
 
 /// Items with `;` between them. A list with items may end with one more `;`, an empty one may not.
-#[derive(Debug, Drop)]
+#[derive(Drop)]
 #[cycle(items)]
 pub enum ItemsTree {
     Empty(u32),
@@ -37,7 +37,7 @@ pub enum ItemsTree {
 }
 
 /// An item of a block.
-#[derive(Debug, Drop)]
+#[derive(Drop)]
 #[cycle(items)]
 pub enum ItemTree {
     Block(BlockTree),
@@ -52,7 +52,7 @@ pub enum ItemTree {
 }
 
 /// `POST requires NAME`, with `(ADD)` before the name and subscripts behind it where they are written
-#[derive(Debug, Drop)]
+#[derive(Drop)]
 pub struct RequiresTree {
     pub at: u32,
     pub activity: PostTree,

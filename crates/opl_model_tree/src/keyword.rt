@@ -1,7 +1,7 @@
 //! The words of the language itself, which no name may be.
 
 /// A word that a rule of the grammar names: of models, of data files or of scripts.
-#[derive(Debug, Clone, Copy, PartialEq, Eq)]
+#[derive(Clone, Copy, PartialEq, Eq)]
 pub enum Keyword {
     /// `Activity`
     Activity,

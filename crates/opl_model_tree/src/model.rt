@@ -5,7 +5,7 @@ use crate::search::SearchTree;
 use opl_list::Seq;
 
 /// A model: its declarations, then its instruction, then its search section if it has one.
-#[derive(Debug, Drop)]
+#[derive(Drop)]
 pub struct ModelTree {
     pub at: u32,
     pub decls: Seq<DeclTree>,

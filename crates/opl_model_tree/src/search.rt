@@ -3,14 +3,14 @@ use crate::expression::{AddTree, ExprTree, ParamsTree, PostTree};
 use opl_list::{Boxed, Seq};
 
 /// `search {STATEMENTS};`
-#[derive(Debug, Drop)]
+#[derive(Drop)]
 pub struct SearchTree {
     pub at: u32,
     pub block: SearchBlockTree,
 }
 
 /// `{STATEMENTS}`
-#[derive(Debug, Drop)]
+#[derive(Drop)]
 #[cycle(statements)]
 pub struct SearchBlockTree {
     pub at: u32,
@@ -18,7 +18,7 @@ pub struct SearchBlockTree {
 }
 
 /// Statements with `;` between them. A list with statements may end with one more `;`, an empty one may not.
-#[derive(Debug, Drop)]
+#[derive(Drop)]
 #[cycle(statements)]
 pub enum StatementsTree {
     Empty(u32),
@@ -26,7 +26,7 @@ pub enum StatementsTree {
 }
 
 /// A statement of a search section.
-#[derive(Debug, Drop)]
+#[derive(Drop)]
 #[cycle(statements)]
 pub enum StatementTree {
     Block(SearchBlockTree),
@@ -48,7 +48,7 @@ pub enum StatementTree {
 }
 
 /// The word of a statement with parameters.
-#[derive(Debug, Clone, Copy, PartialEq, Eq)]
+#[derive(Clone, Copy, PartialEq, Eq)]
 pub enum BranchOp {
     /// `tryall`
     TryAll,
@@ -59,7 +59,7 @@ pub enum BranchOp {
 }
 
 /// The word of a statement that decides a whole item.
-#[derive(Debug, Clone, Copy, PartialEq, Eq)]
+#[derive(Clone, Copy, PartialEq, Eq)]
 pub enum LabelOp {
     /// `generate`
     Generate,
@@ -68,7 +68,7 @@ pub enum LabelOp {
 }
 
 /// `PARAMS`, or `PARAMS ORDER`
-#[derive(Debug, Drop)]
+#[derive(Drop)]
 pub struct OrderedParamsTree {
     pub at: u32,
     pub params: ParamsTree,
@@ -76,7 +76,7 @@ pub struct OrderedParamsTree {
 }
 
 /// `ordered by increasing ADD` or `ordered by decreasing ADD`
-#[derive(Debug, Drop)]
+#[derive(Drop)]
 pub struct OrderTree {
     pub at: u32,
     /// Whether the least key comes first.
