@@ -85,35 +85,85 @@ abbrev pub nested_if_any : Option ℕ → ℕ
 nested_if_any None = 0
 nested_if_any (Some n) = 1 + n
 
--- A name where it is written
+-- a name where it is written
 unfoldable pub depth_name : NameTree → ℕ
 depth_name t = 0
 
--- NAME or <NAME, NAME, ..>
+-- `NAME` or `<NAME, NAME, ..>`
 unfoldable pub depth_pattern : PatternTree → ℕ
 depth_pattern (patterns.Single named) = 0
 depth_pattern (patterns.Record at head rest) = 1
 
--- ADD, ADD RELATION ADD, or ADD in SET
+-- `IMP <=> IMP <=> ..`
+abbrev pub expr_depth : ExprLayer ℕ → ℕ
+expr_depth t = max t.first (greatest t.rest)
+
+-- `OR`, or `OR => IMP`
+abbrev pub imp_depth : ImpLayer ℕ → ℕ
+imp_depth t = max t.premise (nested_if_any t.conclusion)
+
+-- `AND \/ AND \/ ..`
+abbrev pub or_depth : OrLayer ℕ → ℕ
+or_depth t = max t.first (greatest t.rest)
+
+-- `NEG & NEG & ..`
+abbrev pub and_depth : AndLayer ℕ → ℕ
+and_depth t = max t.first (greatest t.rest)
+
+-- `not NEG`, or a comparison
+abbrev pub neg_depth : NegLayer ℕ → ℕ
+neg_depth (NegTree-F.Not at inner) = 1 + inner
+neg_depth (NegTree-F.Compare inner) = inner
+
+-- `ADD`, `ADD RELATION ADD`, or `ADD in SET`
 abbrev pub compare_depth : CompareLayer ℕ → ℕ
 compare_depth (CompareTree-F.Single at only) = only
 compare_depth (CompareTree-F.Related at left relation right) = max left right
 compare_depth (CompareTree-F.Member at element set) = max element set
 
--- OPEN, or SIGN * SIGN div .. with or without a last * OPEN
+-- `MUL + MUL - ..`
+abbrev pub add_depth : AddLayer ℕ → ℕ
+add_depth t = max t.first (greatest t.rest)
+
+-- `+ MUL` or `- MUL`
+abbrev pub add_step_depth : AddStepLayer ℕ → ℕ
+add_step_depth t = t.term
+
+-- `OPEN`, or `SIGN * SIGN div ..` with or without a last `* OPEN`
 abbrev pub mul_depth : MulLayer ℕ → ℕ
 mul_depth (MulTree-F.Opened inner) = inner
 mul_depth (MulTree-F.Product at head rest last) = max head (max (greatest rest) (if_any last))
 
--- not NEG, or a comparison
-abbrev pub neg_depth : NegLayer ℕ → ℕ
-neg_depth (NegTree-F.Not at inner) = 1 + inner
-neg_depth (NegTree-F.Compare inner) = inner
+-- `* SIGN`, `div SIGN` or `mod SIGN`
+abbrev pub mul_step_depth : MulStepLayer ℕ → ℕ
+mul_step_depth t = t.factor
 
--- - OPEN, or sum (PARAMS) MUL and the like
+-- `* OPEN`, `div OPEN` or `mod OPEN`
+abbrev pub last_step_depth : LastStepLayer ℕ → ℕ
+last_step_depth t = t.factor
+
+-- `- OPEN`, or `sum (PARAMS) MUL` and the like
 abbrev pub open_depth : OpenLayer ℕ → ℕ
 open_depth (OpenTree-F.NegativeOpen at inner) = 1 + inner
 open_depth (OpenTree-F.Aggregate at op params body) = 1 + (max (1 + params) body)
+
+-- `- SIGN`, or a postfix expression
+abbrev pub sign_depth : SignLayer ℕ → ℕ
+sign_depth (SignTree-F.Negative at inner) = 1 + inner
+sign_depth (SignTree-F.Postfix inner) = inner
+
+-- `PRIM` with subscripts and fields behind it
+abbrev pub post_depth : PostLayer ℕ → ℕ
+post_depth t = max t.prim (greatest t.suffixes)
+
+-- `[ADD, ADD, ..]` or `.NAME`, where the name may be any word
+abbrev pub suffix_depth : SuffixLayer ℕ → ℕ
+suffix_depth (SuffixTree-F.Subscripts inner) = inner
+suffix_depth (SuffixTree-F.Field at field) = 0
+
+-- `[ADD, ADD, ..]`
+abbrev pub subscripts_depth : SubscriptsLayer ℕ → ℕ
+subscripts_depth t = 1 + (max t.first (greatest t.rest))
 
 -- what an expression begins with
 abbrev pub prim_depth : PrimLayer ℕ → ℕ
@@ -129,113 +179,90 @@ prim_depth (PrimTree-F.Call at op argument) = 1 + argument
 prim_depth (PrimTree-F.AllDifferent at argument) = 1 + argument
 prim_depth (PrimTree-F.Question at op argument) = 1 + argument
 
--- - SIGN, or a postfix expression
-abbrev pub sign_depth : SignLayer ℕ → ℕ
-sign_depth (SignTree-F.Negative at inner) = 1 + inner
-sign_depth (SignTree-F.Postfix inner) = inner
-
--- [ADD, ADD, ..] or .NAME, where the name may be any word
-abbrev pub suffix_depth : SuffixLayer ℕ → ℕ
-suffix_depth (SuffixTree-F.Subscripts inner) = inner
-suffix_depth (SuffixTree-F.Field at field) = 0
-
--- + MUL or - MUL
-abbrev pub add_step_depth : AddStepLayer ℕ → ℕ
-add_step_depth t = t.term
-
--- MUL + MUL -
-abbrev pub add_depth : AddLayer ℕ → ℕ
-add_depth t = max t.first (greatest t.rest)
-
--- NEG & NEG &
-abbrev pub and_depth : AndLayer ℕ → ℕ
-and_depth t = max t.first (greatest t.rest)
-
--- IMP <=> IMP <=>
-abbrev pub expr_depth : ExprLayer ℕ → ℕ
-expr_depth t = max t.first (greatest t.rest)
-
--- , GROUP or & GROUP
-abbrev pub group_step_depth : GroupStepLayer ℕ → ℕ
-group_step_depth t = t.group
-
--- PATTERN, PATTERN, .. in SET, with or without ordered before it
-abbrev pub group_depth : GroupLayer ℕ → ℕ
-group_depth t = max (depth_pattern t.first) (max (greatest (map depth_pattern t.rest)) t.set)
-
--- OR, or OR => IMP
-abbrev pub imp_depth : ImpLayer ℕ → ℕ
-imp_depth t = max t.premise (nested_if_any t.conclusion)
-
--- ADD:ADD
+-- `ADD:ADD`
 abbrev pub keyed_depth : KeyedLayer ℕ → ℕ
 keyed_depth t = max t.key t.value
 
--- * OPEN, div OPEN or mod OPEN
-abbrev pub last_step_depth : LastStepLayer ℕ → ℕ
-last_step_depth t = t.factor
-
--- * SIGN, div SIGN or mod SIGN
-abbrev pub mul_step_depth : MulStepLayer ℕ → ℕ
-mul_step_depth t = t.factor
-
--- AND \/ AND \/
-abbrev pub or_depth : OrLayer ℕ → ℕ
-or_depth t = max t.first (greatest t.rest)
-
--- GROUP, GROUP & .., with or without : EXPR
-abbrev pub params_depth : ParamsLayer ℕ → ℕ
-params_depth t = max t.first (max (greatest t.rest) (if_any t.condition))
-
--- PRIM with subscripts and fields behind it
-abbrev pub post_depth : PostLayer ℕ → ℕ
-post_depth t = max t.prim (greatest t.suffixes)
-
--- ADD or ADD..ADD
+-- `ADD` or `ADD..ADD`
 abbrev pub set_depth : SetLayer ℕ → ℕ
 set_depth t = max t.low (if_any t.high)
 
--- [ADD, ADD, ..]
-abbrev pub subscripts_depth : SubscriptsLayer ℕ → ℕ
-subscripts_depth t = 1 + (max t.first (greatest t.rest))
+-- `GROUP, GROUP & ..`, with or without `: EXPR`
+abbrev pub params_depth : ParamsLayer ℕ → ℕ
+params_depth t = max t.first (max (greatest t.rest) (if_any t.condition))
+
+-- `, GROUP` or `& GROUP`
+abbrev pub group_step_depth : GroupStepLayer ℕ → ℕ
+group_step_depth t = t.group
+
+-- `PATTERN, PATTERN, .. in SET`, with or without `ordered` before it
+abbrev pub group_depth : GroupLayer ℕ → ℕ
+group_depth t = max (depth_pattern t.first) (max (greatest (map depth_pattern t.rest)) t.set)
 
 -- what each node nests, once its parts have
 abbrev pub depth_steps : ExpressionSteps ℕ
 depth_steps = record { at_compare = compare_depth; at_mul = mul_depth; at_neg = neg_depth; at_open = open_depth; at_prim = prim_depth; at_sign = sign_depth; at_suffix = suffix_depth; at_add_step = add_step_depth; at_add = add_depth; at_and = and_depth; at_expr = expr_depth; at_group_step = group_step_depth; at_group = group_depth; at_imp = imp_depth; at_keyed = keyed_depth; at_last_step = last_step_depth; at_mul_step = mul_step_depth; at_or = or_depth; at_params = params_depth; at_post = post_depth; at_set = set_depth; at_subscripts = subscripts_depth }
 
 -- the levels of each kind of expression
-unfoldable pub depth_compare : CompareTree → ℕ
-depth_compare = compare_result depth_steps
+unfoldable pub depth_expr : ExprTree → ℕ
+depth_expr = expr_result depth_steps
 
-unfoldable pub depth_mul : MulTree → ℕ
-depth_mul = mul_result depth_steps
+unfoldable pub depth_imp : ImpTree → ℕ
+depth_imp = imp_result depth_steps
 
-unfoldable pub depth_neg : NegTree → ℕ
-depth_neg = neg_result depth_steps
-
-unfoldable pub depth_open : OpenTree → ℕ
-depth_open = open_result depth_steps
-
-unfoldable pub depth_prim : PrimTree → ℕ
-depth_prim = prim_result depth_steps
-
-unfoldable pub depth_sign : SignTree → ℕ
-depth_sign = sign_result depth_steps
-
-unfoldable pub depth_suffix : SuffixTree → ℕ
-depth_suffix = suffix_result depth_steps
-
-unfoldable pub depth_add_step : AddStep → ℕ
-depth_add_step = add_step_result depth_steps
-
-unfoldable pub depth_add : AddTree → ℕ
-depth_add = add_result depth_steps
+unfoldable pub depth_or : OrTree → ℕ
+depth_or = or_result depth_steps
 
 unfoldable pub depth_and : AndTree → ℕ
 depth_and = and_result depth_steps
 
-unfoldable pub depth_expr : ExprTree → ℕ
-depth_expr = expr_result depth_steps
+unfoldable pub depth_neg : NegTree → ℕ
+depth_neg = neg_result depth_steps
+
+unfoldable pub depth_compare : CompareTree → ℕ
+depth_compare = compare_result depth_steps
+
+unfoldable pub depth_add : AddTree → ℕ
+depth_add = add_result depth_steps
+
+unfoldable pub depth_add_step : AddStep → ℕ
+depth_add_step = add_step_result depth_steps
+
+unfoldable pub depth_mul : MulTree → ℕ
+depth_mul = mul_result depth_steps
+
+unfoldable pub depth_mul_step : MulStep → ℕ
+depth_mul_step = mul_step_result depth_steps
+
+unfoldable pub depth_last_step : LastStep → ℕ
+depth_last_step = last_step_result depth_steps
+
+unfoldable pub depth_open : OpenTree → ℕ
+depth_open = open_result depth_steps
+
+unfoldable pub depth_sign : SignTree → ℕ
+depth_sign = sign_result depth_steps
+
+unfoldable pub depth_post : PostTree → ℕ
+depth_post = post_result depth_steps
+
+unfoldable pub depth_suffix : SuffixTree → ℕ
+depth_suffix = suffix_result depth_steps
+
+unfoldable pub depth_subscripts : SubscriptsTree → ℕ
+depth_subscripts = subscripts_result depth_steps
+
+unfoldable pub depth_prim : PrimTree → ℕ
+depth_prim = prim_result depth_steps
+
+unfoldable pub depth_keyed : KeyedTree → ℕ
+depth_keyed = keyed_result depth_steps
+
+unfoldable pub depth_set : SetTree → ℕ
+depth_set = set_result depth_steps
+
+unfoldable pub depth_params : ParamsTree → ℕ
+depth_params = params_result depth_steps
 
 unfoldable pub depth_group_step : GroupStep → ℕ
 depth_group_step = group_step_result depth_steps
@@ -243,111 +270,84 @@ depth_group_step = group_step_result depth_steps
 unfoldable pub depth_group : GroupTree → ℕ
 depth_group = group_result depth_steps
 
-unfoldable pub depth_imp : ImpTree → ℕ
-depth_imp = imp_result depth_steps
-
-unfoldable pub depth_keyed : KeyedTree → ℕ
-depth_keyed = keyed_result depth_steps
-
-unfoldable pub depth_last_step : LastStep → ℕ
-depth_last_step = last_step_result depth_steps
-
-unfoldable pub depth_mul_step : MulStep → ℕ
-depth_mul_step = mul_step_result depth_steps
-
-unfoldable pub depth_or : OrTree → ℕ
-depth_or = or_result depth_steps
-
-unfoldable pub depth_params : ParamsTree → ℕ
-depth_params = params_result depth_steps
-
-unfoldable pub depth_post : PostTree → ℕ
-depth_post = post_result depth_steps
-
-unfoldable pub depth_set : SetTree → ℕ
-depth_set = set_result depth_steps
-
-unfoldable pub depth_subscripts : SubscriptsTree → ℕ
-depth_subscripts = subscripts_result depth_steps
-
--- int, NAME or {TYPE}
+-- `int`, `NAME` or `{TYPE}`
 abbrev pub type_depth : TypeTree-F ℕ → ℕ
 type_depth (TypeTree-F.Int at) = 0
 type_depth (TypeTree-F.Named named) = 0
 type_depth (TypeTree-F.Set at inner) = 1 + inner
 
--- the levels of the whole
+-- the levels of a type
 unfoldable pub depth_type : TypeTree → ℕ
 depth_type = fold-TypeTree ℕ type_depth
 
--- SET or NAME in SET
+-- `SET` or `NAME in SET`
 unfoldable pub depth_dim : DimTree → ℕ
 depth_dim t = depth_set t.set
 
--- [DIM, DIM, ..]
+-- `[DIM, DIM, ..]`
 unfoldable pub depth_dims : DimsTree → ℕ
 depth_dims t = 1 + (max (depth_dim t.first) (greatest (map depth_dim t.rest)))
 
--- ... or ADD
+-- `...` or `ADD`
 unfoldable pub depth_initial : InitialTree → ℕ
 depth_initial (initials.External at) = 0
 depth_initial (initials.Written value) = depth_add value
 
--- TYPE NAME [DIMS] = INITIAL;
+-- `TYPE NAME [DIMS] = INITIAL;`
 unfoldable pub depth_data : DataTree → ℕ
 depth_data t = max (depth_type t.kind) (max (if_any (option_map depth_dims t.dims)) (depth_initial t.initial))
 
--- range NAME ADD..ADD;
+-- `range NAME ADD..ADD;`
 unfoldable pub depth_range : RangeTree → ℕ
 depth_range t = max (depth_add t.low) (depth_add t.high)
 
--- {NAME, NAME, ..}, or ... with or without = before it
+-- `{NAME, NAME, ..}`, or `...` with or without `=` before it
 unfoldable pub depth_enum_names : EnumNamesTree → ℕ
 depth_enum_names (enum_names.Listed at head rest) = 1
 depth_enum_names (enum_names.External at is_equated) = 0
 
--- enum NAME NAMES;
+-- `enum NAME NAMES;`
 unfoldable pub depth_enum : EnumTree → ℕ
 depth_enum t = depth_enum_names t.names
 
--- TYPE NAME;
+-- `TYPE NAME;`
 unfoldable pub depth_field : FieldTree → ℕ
 depth_field t = depth_type t.kind
 
--- struct NAME {FIELD FIELD ..};
+-- `struct NAME {FIELD FIELD ..};`
 unfoldable pub depth_struct : StructTree → ℕ
 depth_struct t = 1 + (max (depth_field t.first) (greatest (map depth_field t.rest)))
 
--- int or NAME
+-- `int` or `NAME`
 unfoldable pub depth_variable_type : VariableTypeTree → ℕ
 depth_variable_type (variable_types.Int at) = 0
 depth_variable_type (variable_types.Named named) = 0
 
--- in ADD..ADD
+-- `in ADD..ADD`
 unfoldable pub depth_bounds : BoundsTree → ℕ
 depth_bounds t = max (depth_add t.low) (depth_add t.high)
 
--- var TYPE NAME [DIMS] [BOUNDS];
+-- `var TYPE NAME [DIMS] [BOUNDS];`
 unfoldable pub depth_variable : VariableTree → ℕ
 depth_variable t = max (if_any (option_map depth_dims t.dims)) (if_any (option_map depth_bounds t.bounds))
 
--- activity NAME [DIMS] (ADD); or Activity NAME [DIMS] (ADD..ADD);
+-- `Activity NAME [DIMS] (ADD);` or `Activity NAME [DIMS] (ADD..ADD);`
 unfoldable pub depth_activity : ActivityTree → ℕ
 depth_activity t = max (if_any (option_map depth_dims t.dims)) (1 + (max (depth_add t.shortest) (if_any (option_map depth_add t.longest))))
 
--- unaryResource NAME [DIMS];
+-- `UnaryResource NAME [DIMS];`
 unfoldable pub depth_unary : UnaryTree → ℕ
 depth_unary t = if_any (option_map depth_dims t.dims)
 
--- discreteResource NAME [DIMS] (ADD);
+-- `DiscreteResource NAME [DIMS] (ADD);`
 unfoldable pub depth_discrete : DiscreteTree → ℕ
 depth_discrete t = max (if_any (option_map depth_dims t.dims)) (1 + (depth_add t.capacity))
 
--- scheduleOrigin = ADD; or scheduleHorizon = ADD;
+-- `scheduleOrigin = ADD;` or `scheduleHorizon = ADD;`
 unfoldable pub depth_schedule : ScheduleTree → ℕ
 depth_schedule t = depth_add t.value
 
--- A declaration
+-- a declaration
 unfoldable pub depth_decl : DeclTree → ℕ
 depth_decl (decls.Data inner) = depth_data inner
 depth_decl (decls.Range inner) = depth_range inner
@@ -359,9 +359,18 @@ depth_decl (decls.Unary inner) = depth_unary inner
 depth_decl (decls.Discrete inner) = depth_discrete inner
 depth_decl (decls.Schedule inner) = depth_schedule inner
 
--- POST requires NAME, with (ADD) before the name and subscripts behind it where they are written
+-- `POST requires NAME`, with `(ADD)` before the name and subscripts behind it where they are written
 unfoldable pub depth_requires : RequiresTree → ℕ
 depth_requires t = max (depth_post t.activity) (max (nested_if_any (option_map depth_add t.demand)) (if_any (option_map depth_subscripts t.subscripts)))
+
+-- `{ITEMS}`
+abbrev pub block_depth : BlockTree-F ℕ ℕ ℕ → ℕ
+block_depth t = 1 + t.items
+
+-- items with `;` between them. A list with items may end with one more `;`, an empty one may not
+abbrev pub items_depth : ItemsTree-F ℕ ℕ ℕ → ℕ
+items_depth (ItemsTree-F.Empty at) = 0
+items_depth (ItemsTree-F.Several at head rest is_closed) = max head (greatest rest)
 
 -- an item of a block
 abbrev pub item_depth : ItemTree-F ℕ ℕ ℕ → ℕ
@@ -372,16 +381,7 @@ item_depth (ItemTree-F.Precedes at earlier later) = max (depth_post earlier) (de
 item_depth (ItemTree-F.Requires inner) = depth_requires inner
 item_depth (ItemTree-F.Constraint inner) = depth_expr inner
 
--- items with ; between them. A list with items may end with one more ;, an empty one may not
-abbrev pub items_depth : ItemsTree-F ℕ ℕ ℕ → ℕ
-items_depth (ItemsTree-F.Empty at) = 0
-items_depth (ItemsTree-F.Several at head rest is_closed) = max head (greatest rest)
-
--- {ITEMS}
-abbrev pub block_depth : BlockTree-F ℕ ℕ ℕ → ℕ
-block_depth t = 1 + t.items
-
--- the levels of the whole
+-- the levels of an item, of a list of items and of a block
 unfoldable pub depth_item : ItemTree → ℕ
 depth_item = fold-ItemTree ℕ ℕ ℕ item_depth items_depth block_depth
 
@@ -396,15 +396,24 @@ unfoldable pub depth_instr : InstrTree → ℕ
 depth_instr (instrs.Solve at block) = depth_block block
 depth_instr (instrs.Optimize at optimum objective block) = max (depth_expr objective) (depth_block block)
 
--- ordered by increasing ADD or ordered by decreasing ADD
+-- `ordered by increasing ADD` or `ordered by decreasing ADD`
 unfoldable pub depth_order : OrderTree → ℕ
 depth_order t = depth_add t.key
 
--- PARAMS, or PARAMS ORDER
+-- `PARAMS`, or `PARAMS ORDER`
 unfoldable pub depth_ordered_params : OrderedParamsTree → ℕ
 depth_ordered_params t = max (depth_params t.params) (if_any (option_map depth_order t.order))
 
--- A statement of a search section
+-- `{STATEMENTS}`
+abbrev pub search_block_depth : SearchBlockTree-F ℕ ℕ ℕ → ℕ
+search_block_depth t = 1 + t.statements
+
+-- statements with `;` between them. A list with statements may end with one more `;`, an empty one may not
+abbrev pub statements_depth : StatementsTree-F ℕ ℕ ℕ → ℕ
+statements_depth (StatementsTree-F.Empty at) = 0
+statements_depth (StatementsTree-F.Several at head rest is_closed) = max head (greatest rest)
+
+-- a statement of a search section
 abbrev pub statement_depth : StatementTree-F ℕ ℕ ℕ → ℕ
 statement_depth (StatementTree-F.Block inner) = inner
 statement_depth (StatementTree-F.Try at head second rest) = 1 + (max head (max second (greatest rest)))
@@ -416,16 +425,7 @@ statement_depth (StatementTree-F.Label at op argument) = 1 + (depth_post argumen
 statement_depth (StatementTree-F.Precedes at earlier later) = max (depth_post earlier) (depth_post later)
 statement_depth (StatementTree-F.Constraint inner) = depth_expr inner
 
--- statements with ; between them. A list with statements may end with one more ;, an empty one may not
-abbrev pub statements_depth : StatementsTree-F ℕ ℕ ℕ → ℕ
-statements_depth (StatementsTree-F.Empty at) = 0
-statements_depth (StatementsTree-F.Several at head rest is_closed) = max head (greatest rest)
-
--- {STATEMENTS}
-abbrev pub search_block_depth : SearchBlockTree-F ℕ ℕ ℕ → ℕ
-search_block_depth t = 1 + t.statements
-
--- the levels of the whole
+-- the levels of a statement, of a list of statements and of a block
 unfoldable pub depth_statement : StatementTree → ℕ
 depth_statement = fold-StatementTree ℕ ℕ ℕ statement_depth statements_depth search_block_depth
 
@@ -435,10 +435,10 @@ depth_statements = fold-StatementsTree ℕ ℕ ℕ statement_depth statements_de
 unfoldable pub depth_search_block : SearchBlockTree → ℕ
 depth_search_block = fold-SearchBlockTree ℕ ℕ ℕ statement_depth statements_depth search_block_depth
 
--- search {STATEMENTS};
+-- `search {STATEMENTS};`
 unfoldable pub depth_search : SearchTree → ℕ
 depth_search t = depth_search_block t.block
 
--- A model: its declarations, then its instruction, then its search section if it has one
+-- a model: its declarations, then its instruction, then its search section if it has one
 unfoldable pub depth_model : ModelTree → ℕ
 depth_model t = max (greatest (map depth_decl t.decls)) (max (depth_instr t.instr) (if_any (option_map depth_search t.search)))

@@ -225,35 +225,85 @@ abbrev pub direction_word : Bool → Keyword
 direction_word true = keywords.Increasing
 direction_word false = keywords.Decreasing
 
--- A name where it is written
+-- a name where it is written
 unfoldable pub marks_name : NameTree → Marks
 marks_name t = place t.at ∷ token (name t.text) ∷ []
 
--- NAME or <NAME, NAME, ..>
+-- `NAME` or `<NAME, NAME, ..>`
 unfoldable pub marks_pattern : PatternTree → Marks
 marks_pattern (patterns.Single named) = marks_name named
 marks_pattern (patterns.Record at head rest) = place at ∷ token (sign signs.Less) ∷ (marks_name head ++ (behind signs.Comma (map marks_name rest) ++ token (sign signs.Greater) ∷ []))
 
--- ADD, ADD RELATION ADD, or ADD in SET
+-- `IMP <=> IMP <=> ..`
+abbrev pub expr_marks : ExprLayer Marks → Marks
+expr_marks t = place t.at ∷ (t.first ++ behind signs.Equivalent t.rest)
+
+-- `OR`, or `OR => IMP`
+abbrev pub imp_marks : ImpLayer Marks → Marks
+imp_marks t = place t.at ∷ (t.premise ++ after (sign signs.Implies) t.conclusion)
+
+-- `AND \/ AND \/ ..`
+abbrev pub or_marks : OrLayer Marks → Marks
+or_marks t = place t.at ∷ (t.first ++ behind signs.Or t.rest)
+
+-- `NEG & NEG & ..`
+abbrev pub and_marks : AndLayer Marks → Marks
+and_marks t = place t.at ∷ (t.first ++ behind signs.And t.rest)
+
+-- `not NEG`, or a comparison
+abbrev pub neg_marks : NegLayer Marks → Marks
+neg_marks (NegTree-F.Not at inner) = place at ∷ token (word keywords.Not) ∷ inner
+neg_marks (NegTree-F.Compare inner) = inner
+
+-- `ADD`, `ADD RELATION ADD`, or `ADD in SET`
 abbrev pub compare_marks : CompareLayer Marks → Marks
 compare_marks (CompareTree-F.Single at only) = place at ∷ only
 compare_marks (CompareTree-F.Related at left relation right) = place at ∷ (left ++ token (sign (relation_sign relation)) ∷ right)
 compare_marks (CompareTree-F.Member at element set) = place at ∷ (element ++ token (word keywords.In) ∷ set)
 
--- OPEN, or SIGN * SIGN div .. with or without a last * OPEN
+-- `MUL + MUL - ..`
+abbrev pub add_marks : AddLayer Marks → Marks
+add_marks t = place t.at ∷ (t.first ++ joined t.rest)
+
+-- `+ MUL` or `- MUL`
+abbrev pub add_step_marks : AddStepLayer Marks → Marks
+add_step_marks t = token (sign (add_sign t.op)) ∷ t.term
+
+-- `OPEN`, or `SIGN * SIGN div ..` with or without a last `* OPEN`
 abbrev pub mul_marks : MulLayer Marks → Marks
 mul_marks (MulTree-F.Opened inner) = inner
 mul_marks (MulTree-F.Product at head rest last) = place at ∷ (head ++ (joined rest ++ written last))
 
--- not NEG, or a comparison
-abbrev pub neg_marks : NegLayer Marks → Marks
-neg_marks (NegTree-F.Not at inner) = place at ∷ token (word keywords.Not) ∷ inner
-neg_marks (NegTree-F.Compare inner) = inner
+-- `* SIGN`, `div SIGN` or `mod SIGN`
+abbrev pub mul_step_marks : MulStepLayer Marks → Marks
+mul_step_marks t = token (mul_part t.op) ∷ t.factor
 
--- - OPEN, or sum (PARAMS) MUL and the like
+-- `* OPEN`, `div OPEN` or `mod OPEN`
+abbrev pub last_step_marks : LastStepLayer Marks → Marks
+last_step_marks t = token (mul_part t.op) ∷ t.factor
+
+-- `- OPEN`, or `sum (PARAMS) MUL` and the like
 abbrev pub open_marks : OpenLayer Marks → Marks
 open_marks (OpenTree-F.NegativeOpen at inner) = place at ∷ token (sign signs.Minus) ∷ inner
 open_marks (OpenTree-F.Aggregate at op params body) = place at ∷ token (word (aggregate_word op)) ∷ token (sign signs.OpenParenthesis) ∷ (params ++ token (sign signs.CloseParenthesis) ∷ body)
+
+-- `- SIGN`, or a postfix expression
+abbrev pub sign_marks : SignLayer Marks → Marks
+sign_marks (SignTree-F.Negative at inner) = place at ∷ token (sign signs.Minus) ∷ inner
+sign_marks (SignTree-F.Postfix inner) = inner
+
+-- `PRIM` with subscripts and fields behind it
+abbrev pub post_marks : PostLayer Marks → Marks
+post_marks t = place t.at ∷ (t.prim ++ joined t.suffixes)
+
+-- `[ADD, ADD, ..]` or `.NAME`, where the name may be any word
+abbrev pub suffix_marks : SuffixLayer Marks → Marks
+suffix_marks (SuffixTree-F.Subscripts inner) = inner
+suffix_marks (SuffixTree-F.Field at field) = place at ∷ token (sign signs.Dot) ∷ place field.at ∷ token (any field.text) ∷ []
+
+-- `[ADD, ADD, ..]`
+abbrev pub subscripts_marks : SubscriptsLayer Marks → Marks
+subscripts_marks t = place t.at ∷ token (sign signs.OpenBracket) ∷ (t.first ++ (behind signs.Comma t.rest ++ token (sign signs.CloseBracket) ∷ []))
 
 -- what an expression begins with
 abbrev pub prim_marks : PrimLayer Marks → Marks
@@ -269,113 +319,90 @@ prim_marks (PrimTree-F.Call at op argument) = place at ∷ token (word (call_wor
 prim_marks (PrimTree-F.AllDifferent at argument) = place at ∷ token (word keywords.AllDifferent) ∷ token (sign signs.OpenParenthesis) ∷ (argument ++ token (sign signs.CloseParenthesis) ∷ [])
 prim_marks (PrimTree-F.Question at op argument) = place at ∷ token (word (question_word op)) ∷ token (sign signs.OpenParenthesis) ∷ (argument ++ token (sign signs.CloseParenthesis) ∷ [])
 
--- - SIGN, or a postfix expression
-abbrev pub sign_marks : SignLayer Marks → Marks
-sign_marks (SignTree-F.Negative at inner) = place at ∷ token (sign signs.Minus) ∷ inner
-sign_marks (SignTree-F.Postfix inner) = inner
-
--- [ADD, ADD, ..] or .NAME, where the name may be any word
-abbrev pub suffix_marks : SuffixLayer Marks → Marks
-suffix_marks (SuffixTree-F.Subscripts inner) = inner
-suffix_marks (SuffixTree-F.Field at field) = place at ∷ token (sign signs.Dot) ∷ place field.at ∷ token (any field.text) ∷ []
-
--- + MUL or - MUL
-abbrev pub add_step_marks : AddStepLayer Marks → Marks
-add_step_marks t = token (sign (add_sign t.op)) ∷ t.term
-
--- MUL + MUL -
-abbrev pub add_marks : AddLayer Marks → Marks
-add_marks t = place t.at ∷ (t.first ++ joined t.rest)
-
--- NEG & NEG &
-abbrev pub and_marks : AndLayer Marks → Marks
-and_marks t = place t.at ∷ (t.first ++ behind signs.And t.rest)
-
--- IMP <=> IMP <=>
-abbrev pub expr_marks : ExprLayer Marks → Marks
-expr_marks t = place t.at ∷ (t.first ++ behind signs.Equivalent t.rest)
-
--- , GROUP or & GROUP
-abbrev pub group_step_marks : GroupStepLayer Marks → Marks
-group_step_marks t = token (sign (separator_sign t.separator)) ∷ t.group
-
--- PATTERN, PATTERN, .. in SET, with or without ordered before it
-abbrev pub group_marks : GroupLayer Marks → Marks
-group_marks t = place t.at ∷ (optional (word keywords.Ordered) t.is_ordered ++ (marks_pattern t.first ++ (behind signs.Comma (map marks_pattern t.rest) ++ token (word keywords.In) ∷ t.set)))
-
--- OR, or OR => IMP
-abbrev pub imp_marks : ImpLayer Marks → Marks
-imp_marks t = place t.at ∷ (t.premise ++ after (sign signs.Implies) t.conclusion)
-
--- ADD:ADD
+-- `ADD:ADD`
 abbrev pub keyed_marks : KeyedLayer Marks → Marks
 keyed_marks t = t.key ++ token (sign signs.Colon) ∷ t.value
 
--- * OPEN, div OPEN or mod OPEN
-abbrev pub last_step_marks : LastStepLayer Marks → Marks
-last_step_marks t = token (mul_part t.op) ∷ t.factor
-
--- * SIGN, div SIGN or mod SIGN
-abbrev pub mul_step_marks : MulStepLayer Marks → Marks
-mul_step_marks t = token (mul_part t.op) ∷ t.factor
-
--- AND \/ AND \/
-abbrev pub or_marks : OrLayer Marks → Marks
-or_marks t = place t.at ∷ (t.first ++ behind signs.Or t.rest)
-
--- GROUP, GROUP & .., with or without : EXPR
-abbrev pub params_marks : ParamsLayer Marks → Marks
-params_marks t = place t.at ∷ (t.first ++ (joined t.rest ++ after (sign signs.Colon) t.condition))
-
--- PRIM with subscripts and fields behind it
-abbrev pub post_marks : PostLayer Marks → Marks
-post_marks t = place t.at ∷ (t.prim ++ joined t.suffixes)
-
--- ADD or ADD..ADD
+-- `ADD` or `ADD..ADD`
 abbrev pub set_marks : SetLayer Marks → Marks
 set_marks t = place t.at ∷ (t.low ++ after (sign signs.Range) t.high)
 
--- [ADD, ADD, ..]
-abbrev pub subscripts_marks : SubscriptsLayer Marks → Marks
-subscripts_marks t = place t.at ∷ token (sign signs.OpenBracket) ∷ (t.first ++ (behind signs.Comma t.rest ++ token (sign signs.CloseBracket) ∷ []))
+-- `GROUP, GROUP & ..`, with or without `: EXPR`
+abbrev pub params_marks : ParamsLayer Marks → Marks
+params_marks t = place t.at ∷ (t.first ++ (joined t.rest ++ after (sign signs.Colon) t.condition))
+
+-- `, GROUP` or `& GROUP`
+abbrev pub group_step_marks : GroupStepLayer Marks → Marks
+group_step_marks t = token (sign (separator_sign t.separator)) ∷ t.group
+
+-- `PATTERN, PATTERN, .. in SET`, with or without `ordered` before it
+abbrev pub group_marks : GroupLayer Marks → Marks
+group_marks t = place t.at ∷ (optional (word keywords.Ordered) t.is_ordered ++ (marks_pattern t.first ++ (behind signs.Comma (map marks_pattern t.rest) ++ token (word keywords.In) ∷ t.set)))
 
 -- what each node writes, once its parts have
 abbrev pub marks_steps : ExpressionSteps Marks
 marks_steps = record { at_compare = compare_marks; at_mul = mul_marks; at_neg = neg_marks; at_open = open_marks; at_prim = prim_marks; at_sign = sign_marks; at_suffix = suffix_marks; at_add_step = add_step_marks; at_add = add_marks; at_and = and_marks; at_expr = expr_marks; at_group_step = group_step_marks; at_group = group_marks; at_imp = imp_marks; at_keyed = keyed_marks; at_last_step = last_step_marks; at_mul_step = mul_step_marks; at_or = or_marks; at_params = params_marks; at_post = post_marks; at_set = set_marks; at_subscripts = subscripts_marks }
 
 -- the marks of each kind of expression
-unfoldable pub marks_compare : CompareTree → Marks
-marks_compare = compare_result marks_steps
+unfoldable pub marks_expr : ExprTree → Marks
+marks_expr = expr_result marks_steps
 
-unfoldable pub marks_mul : MulTree → Marks
-marks_mul = mul_result marks_steps
+unfoldable pub marks_imp : ImpTree → Marks
+marks_imp = imp_result marks_steps
 
-unfoldable pub marks_neg : NegTree → Marks
-marks_neg = neg_result marks_steps
-
-unfoldable pub marks_open : OpenTree → Marks
-marks_open = open_result marks_steps
-
-unfoldable pub marks_prim : PrimTree → Marks
-marks_prim = prim_result marks_steps
-
-unfoldable pub marks_sign : SignTree → Marks
-marks_sign = sign_result marks_steps
-
-unfoldable pub marks_suffix : SuffixTree → Marks
-marks_suffix = suffix_result marks_steps
-
-unfoldable pub marks_add_step : AddStep → Marks
-marks_add_step = add_step_result marks_steps
-
-unfoldable pub marks_add : AddTree → Marks
-marks_add = add_result marks_steps
+unfoldable pub marks_or : OrTree → Marks
+marks_or = or_result marks_steps
 
 unfoldable pub marks_and : AndTree → Marks
 marks_and = and_result marks_steps
 
-unfoldable pub marks_expr : ExprTree → Marks
-marks_expr = expr_result marks_steps
+unfoldable pub marks_neg : NegTree → Marks
+marks_neg = neg_result marks_steps
+
+unfoldable pub marks_compare : CompareTree → Marks
+marks_compare = compare_result marks_steps
+
+unfoldable pub marks_add : AddTree → Marks
+marks_add = add_result marks_steps
+
+unfoldable pub marks_add_step : AddStep → Marks
+marks_add_step = add_step_result marks_steps
+
+unfoldable pub marks_mul : MulTree → Marks
+marks_mul = mul_result marks_steps
+
+unfoldable pub marks_mul_step : MulStep → Marks
+marks_mul_step = mul_step_result marks_steps
+
+unfoldable pub marks_last_step : LastStep → Marks
+marks_last_step = last_step_result marks_steps
+
+unfoldable pub marks_open : OpenTree → Marks
+marks_open = open_result marks_steps
+
+unfoldable pub marks_sign : SignTree → Marks
+marks_sign = sign_result marks_steps
+
+unfoldable pub marks_post : PostTree → Marks
+marks_post = post_result marks_steps
+
+unfoldable pub marks_suffix : SuffixTree → Marks
+marks_suffix = suffix_result marks_steps
+
+unfoldable pub marks_subscripts : SubscriptsTree → Marks
+marks_subscripts = subscripts_result marks_steps
+
+unfoldable pub marks_prim : PrimTree → Marks
+marks_prim = prim_result marks_steps
+
+unfoldable pub marks_keyed : KeyedTree → Marks
+marks_keyed = keyed_result marks_steps
+
+unfoldable pub marks_set : SetTree → Marks
+marks_set = set_result marks_steps
+
+unfoldable pub marks_params : ParamsTree → Marks
+marks_params = params_result marks_steps
 
 unfoldable pub marks_group_step : GroupStep → Marks
 marks_group_step = group_step_result marks_steps
@@ -383,111 +410,84 @@ marks_group_step = group_step_result marks_steps
 unfoldable pub marks_group : GroupTree → Marks
 marks_group = group_result marks_steps
 
-unfoldable pub marks_imp : ImpTree → Marks
-marks_imp = imp_result marks_steps
-
-unfoldable pub marks_keyed : KeyedTree → Marks
-marks_keyed = keyed_result marks_steps
-
-unfoldable pub marks_last_step : LastStep → Marks
-marks_last_step = last_step_result marks_steps
-
-unfoldable pub marks_mul_step : MulStep → Marks
-marks_mul_step = mul_step_result marks_steps
-
-unfoldable pub marks_or : OrTree → Marks
-marks_or = or_result marks_steps
-
-unfoldable pub marks_params : ParamsTree → Marks
-marks_params = params_result marks_steps
-
-unfoldable pub marks_post : PostTree → Marks
-marks_post = post_result marks_steps
-
-unfoldable pub marks_set : SetTree → Marks
-marks_set = set_result marks_steps
-
-unfoldable pub marks_subscripts : SubscriptsTree → Marks
-marks_subscripts = subscripts_result marks_steps
-
--- int, NAME or {TYPE}
+-- `int`, `NAME` or `{TYPE}`
 abbrev pub type_marks : TypeTree-F Marks → Marks
 type_marks (TypeTree-F.Int at) = place at ∷ token (word keywords.Int) ∷ []
 type_marks (TypeTree-F.Named named) = marks_name named
 type_marks (TypeTree-F.Set at inner) = place at ∷ token (sign signs.OpenBrace) ∷ (inner ++ token (sign signs.CloseBrace) ∷ [])
 
--- the marks of the whole
+-- the marks of a type
 unfoldable pub marks_type : TypeTree → Marks
 marks_type = fold-TypeTree Marks type_marks
 
--- SET or NAME in SET
+-- `SET` or `NAME in SET`
 unfoldable pub marks_dim : DimTree → Marks
 marks_dim t = place t.at ∷ (before (word keywords.In) (option_map marks_name t.name) ++ marks_set t.set)
 
--- [DIM, DIM, ..]
+-- `[DIM, DIM, ..]`
 unfoldable pub marks_dims : DimsTree → Marks
 marks_dims t = place t.at ∷ token (sign signs.OpenBracket) ∷ (marks_dim t.first ++ (behind signs.Comma (map marks_dim t.rest) ++ token (sign signs.CloseBracket) ∷ []))
 
--- ... or ADD
+-- `...` or `ADD`
 unfoldable pub marks_initial : InitialTree → Marks
 marks_initial (initials.External at) = place at ∷ token (sign signs.Ellipsis) ∷ []
 marks_initial (initials.Written value) = marks_add value
 
--- TYPE NAME [DIMS] = INITIAL;
+-- `TYPE NAME [DIMS] = INITIAL;`
 unfoldable pub marks_data : DataTree → Marks
 marks_data t = place t.at ∷ (marks_type t.kind ++ (marks_name t.name ++ (written (option_map marks_dims t.dims) ++ token (sign signs.Equal) ∷ (marks_initial t.initial ++ token (sign signs.Semicolon) ∷ []))))
 
--- range NAME ADD..ADD;
+-- `range NAME ADD..ADD;`
 unfoldable pub marks_range : RangeTree → Marks
 marks_range t = place t.at ∷ token (word keywords.Range) ∷ (marks_name t.name ++ (marks_add t.low ++ token (sign signs.Range) ∷ (marks_add t.high ++ token (sign signs.Semicolon) ∷ [])))
 
--- {NAME, NAME, ..}, or ... with or without = before it
+-- `{NAME, NAME, ..}`, or `...` with or without `=` before it
 unfoldable pub marks_enum_names : EnumNamesTree → Marks
 marks_enum_names (enum_names.Listed at head rest) = place at ∷ token (sign signs.OpenBrace) ∷ (marks_name head ++ (behind signs.Comma (map marks_name rest) ++ token (sign signs.CloseBrace) ∷ []))
 marks_enum_names (enum_names.External at is_equated) = place at ∷ (optional (sign signs.Equal) is_equated ++ token (sign signs.Ellipsis) ∷ [])
 
--- enum NAME NAMES;
+-- `enum NAME NAMES;`
 unfoldable pub marks_enum : EnumTree → Marks
 marks_enum t = place t.at ∷ token (word keywords.Enum) ∷ (marks_name t.name ++ (marks_enum_names t.names ++ token (sign signs.Semicolon) ∷ []))
 
--- TYPE NAME;
+-- `TYPE NAME;`
 unfoldable pub marks_field : FieldTree → Marks
 marks_field t = place t.at ∷ (marks_type t.kind ++ (marks_name t.name ++ token (sign signs.Semicolon) ∷ []))
 
--- struct NAME {FIELD FIELD ..};
+-- `struct NAME {FIELD FIELD ..};`
 unfoldable pub marks_struct : StructTree → Marks
 marks_struct t = place t.at ∷ token (word keywords.Struct) ∷ (marks_name t.name ++ token (sign signs.OpenBrace) ∷ (marks_field t.first ++ (joined (map marks_field t.rest) ++ token (sign signs.CloseBrace) ∷ token (sign signs.Semicolon) ∷ [])))
 
--- int or NAME
+-- `int` or `NAME`
 unfoldable pub marks_variable_type : VariableTypeTree → Marks
 marks_variable_type (variable_types.Int at) = place at ∷ token (word keywords.Int) ∷ []
 marks_variable_type (variable_types.Named named) = marks_name named
 
--- in ADD..ADD
+-- `in ADD..ADD`
 unfoldable pub marks_bounds : BoundsTree → Marks
 marks_bounds t = place t.at ∷ token (word keywords.In) ∷ (marks_add t.low ++ token (sign signs.Range) ∷ marks_add t.high)
 
--- var TYPE NAME [DIMS] [BOUNDS];
+-- `var TYPE NAME [DIMS] [BOUNDS];`
 unfoldable pub marks_variable : VariableTree → Marks
 marks_variable t = place t.at ∷ token (word keywords.Var) ∷ (marks_variable_type t.kind ++ (marks_name t.name ++ (written (option_map marks_dims t.dims) ++ (written (option_map marks_bounds t.bounds) ++ token (sign signs.Semicolon) ∷ []))))
 
--- activity NAME [DIMS] (ADD); or Activity NAME [DIMS] (ADD..ADD);
+-- `Activity NAME [DIMS] (ADD);` or `Activity NAME [DIMS] (ADD..ADD);`
 unfoldable pub marks_activity : ActivityTree → Marks
 marks_activity t = place t.at ∷ token (word keywords.Activity) ∷ (marks_name t.name ++ (written (option_map marks_dims t.dims) ++ token (sign signs.OpenParenthesis) ∷ (marks_add t.shortest ++ (after (sign signs.Range) (option_map marks_add t.longest) ++ token (sign signs.CloseParenthesis) ∷ token (sign signs.Semicolon) ∷ []))))
 
--- unaryResource NAME [DIMS];
+-- `UnaryResource NAME [DIMS];`
 unfoldable pub marks_unary : UnaryTree → Marks
 marks_unary t = place t.at ∷ token (word keywords.UnaryResource) ∷ (marks_name t.name ++ (written (option_map marks_dims t.dims) ++ token (sign signs.Semicolon) ∷ []))
 
--- discreteResource NAME [DIMS] (ADD);
+-- `DiscreteResource NAME [DIMS] (ADD);`
 unfoldable pub marks_discrete : DiscreteTree → Marks
 marks_discrete t = place t.at ∷ token (word keywords.DiscreteResource) ∷ (marks_name t.name ++ (written (option_map marks_dims t.dims) ++ token (sign signs.OpenParenthesis) ∷ (marks_add t.capacity ++ token (sign signs.CloseParenthesis) ∷ token (sign signs.Semicolon) ∷ [])))
 
--- scheduleOrigin = ADD; or scheduleHorizon = ADD;
+-- `scheduleOrigin = ADD;` or `scheduleHorizon = ADD;`
 unfoldable pub marks_schedule : ScheduleTree → Marks
 marks_schedule t = place t.at ∷ token (word (schedule_word t.end)) ∷ token (sign signs.Equal) ∷ (marks_add t.value ++ token (sign signs.Semicolon) ∷ [])
 
--- A declaration
+-- a declaration
 unfoldable pub marks_decl : DeclTree → Marks
 marks_decl (decls.Data inner) = marks_data inner
 marks_decl (decls.Range inner) = marks_range inner
@@ -499,9 +499,18 @@ marks_decl (decls.Unary inner) = marks_unary inner
 marks_decl (decls.Discrete inner) = marks_discrete inner
 marks_decl (decls.Schedule inner) = marks_schedule inner
 
--- POST requires NAME, with (ADD) before the name and subscripts behind it where they are written
+-- `POST requires NAME`, with `(ADD)` before the name and subscripts behind it where they are written
 unfoldable pub marks_requires : RequiresTree → Marks
 marks_requires t = place t.at ∷ (marks_post t.activity ++ token (word keywords.Requires) ∷ (enclosed signs.OpenParenthesis signs.CloseParenthesis (option_map marks_add t.demand) ++ (marks_name t.resource ++ written (option_map marks_subscripts t.subscripts))))
+
+-- `{ITEMS}`
+abbrev pub block_marks : BlockTree-F Marks Marks Marks → Marks
+block_marks t = place t.at ∷ token (sign signs.OpenBrace) ∷ (t.items ++ token (sign signs.CloseBrace) ∷ [])
+
+-- items with `;` between them. A list with items may end with one more `;`, an empty one may not
+abbrev pub items_marks : ItemsTree-F Marks Marks Marks → Marks
+items_marks (ItemsTree-F.Empty at) = place at ∷ []
+items_marks (ItemsTree-F.Several at head rest is_closed) = place at ∷ (head ++ (behind signs.Semicolon rest ++ optional (sign signs.Semicolon) is_closed))
 
 -- an item of a block
 abbrev pub item_marks : ItemTree-F Marks Marks Marks → Marks
@@ -512,16 +521,7 @@ item_marks (ItemTree-F.Precedes at earlier later) = unbraced ∷ place at ∷ (m
 item_marks (ItemTree-F.Requires inner) = unbraced ∷ marks_requires inner
 item_marks (ItemTree-F.Constraint inner) = unbraced ∷ marks_expr inner
 
--- items with ; between them. A list with items may end with one more ;, an empty one may not
-abbrev pub items_marks : ItemsTree-F Marks Marks Marks → Marks
-items_marks (ItemsTree-F.Empty at) = place at ∷ []
-items_marks (ItemsTree-F.Several at head rest is_closed) = place at ∷ (head ++ (behind signs.Semicolon rest ++ optional (sign signs.Semicolon) is_closed))
-
--- {ITEMS}
-abbrev pub block_marks : BlockTree-F Marks Marks Marks → Marks
-block_marks t = place t.at ∷ token (sign signs.OpenBrace) ∷ (t.items ++ token (sign signs.CloseBrace) ∷ [])
-
--- the marks of the whole
+-- the marks of an item, of a list of items and of a block
 unfoldable pub marks_item : ItemTree → Marks
 marks_item = fold-ItemTree Marks Marks Marks item_marks items_marks block_marks
 
@@ -536,15 +536,24 @@ unfoldable pub marks_instr : InstrTree → Marks
 marks_instr (instrs.Solve at block) = place at ∷ token (word keywords.Solve) ∷ (marks_block block ++ token (sign signs.Semicolon) ∷ [])
 marks_instr (instrs.Optimize at optimum objective block) = place at ∷ token (word (optimum_word optimum)) ∷ (marks_expr objective ++ token (word keywords.Subject) ∷ token (word keywords.To) ∷ (marks_block block ++ token (sign signs.Semicolon) ∷ []))
 
--- ordered by increasing ADD or ordered by decreasing ADD
+-- `ordered by increasing ADD` or `ordered by decreasing ADD`
 unfoldable pub marks_order : OrderTree → Marks
 marks_order t = place t.at ∷ token (word keywords.Ordered) ∷ token (word keywords.By) ∷ token (word (direction_word t.is_increasing)) ∷ marks_add t.key
 
--- PARAMS, or PARAMS ORDER
+-- `PARAMS`, or `PARAMS ORDER`
 unfoldable pub marks_ordered_params : OrderedParamsTree → Marks
 marks_ordered_params t = place t.at ∷ (marks_params t.params ++ written (option_map marks_order t.order))
 
--- A statement of a search section
+-- `{STATEMENTS}`
+abbrev pub search_block_marks : SearchBlockTree-F Marks Marks Marks → Marks
+search_block_marks t = place t.at ∷ token (sign signs.OpenBrace) ∷ (t.statements ++ token (sign signs.CloseBrace) ∷ [])
+
+-- statements with `;` between them. A list with statements may end with one more `;`, an empty one may not
+abbrev pub statements_marks : StatementsTree-F Marks Marks Marks → Marks
+statements_marks (StatementsTree-F.Empty at) = place at ∷ []
+statements_marks (StatementsTree-F.Several at head rest is_closed) = place at ∷ (head ++ (behind signs.Semicolon rest ++ optional (sign signs.Semicolon) is_closed))
+
+-- a statement of a search section
 abbrev pub statement_marks : StatementTree-F Marks Marks Marks → Marks
 statement_marks (StatementTree-F.Block inner) = inner
 statement_marks (StatementTree-F.Try at head second rest) = place at ∷ token (word keywords.Try) ∷ (head ++ token (sign signs.Bar) ∷ (second ++ (behind signs.Bar rest ++ token (word keywords.EndTry) ∷ [])))
@@ -556,16 +565,7 @@ statement_marks (StatementTree-F.Label at op argument) = place at ∷ token (wor
 statement_marks (StatementTree-F.Precedes at earlier later) = unbraced ∷ place at ∷ (marks_post earlier ++ token (word keywords.Precedes) ∷ marks_post later)
 statement_marks (StatementTree-F.Constraint inner) = unbraced ∷ marks_expr inner
 
--- statements with ; between them. A list with statements may end with one more ;, an empty one may not
-abbrev pub statements_marks : StatementsTree-F Marks Marks Marks → Marks
-statements_marks (StatementsTree-F.Empty at) = place at ∷ []
-statements_marks (StatementsTree-F.Several at head rest is_closed) = place at ∷ (head ++ (behind signs.Semicolon rest ++ optional (sign signs.Semicolon) is_closed))
-
--- {STATEMENTS}
-abbrev pub search_block_marks : SearchBlockTree-F Marks Marks Marks → Marks
-search_block_marks t = place t.at ∷ token (sign signs.OpenBrace) ∷ (t.statements ++ token (sign signs.CloseBrace) ∷ [])
-
--- the marks of the whole
+-- the marks of a statement, of a list of statements and of a block
 unfoldable pub marks_statement : StatementTree → Marks
 marks_statement = fold-StatementTree Marks Marks Marks statement_marks statements_marks search_block_marks
 
@@ -575,10 +575,10 @@ marks_statements = fold-StatementsTree Marks Marks Marks statement_marks stateme
 unfoldable pub marks_search_block : SearchBlockTree → Marks
 marks_search_block = fold-SearchBlockTree Marks Marks Marks statement_marks statements_marks search_block_marks
 
--- search {STATEMENTS};
+-- `search {STATEMENTS};`
 unfoldable pub marks_search : SearchTree → Marks
 marks_search t = place t.at ∷ token (word keywords.Search) ∷ (marks_search_block t.block ++ token (sign signs.Semicolon) ∷ [])
 
--- A model: its declarations, then its instruction, then its search section if it has one
+-- a model: its declarations, then its instruction, then its search section if it has one
 unfoldable pub marks_model : ModelTree → Marks
 marks_model t = place t.at ∷ (joined (map marks_decl t.decls) ++ (marks_instr t.instr ++ written (option_map marks_search t.search)))
