@@ -1,0 +1,10 @@
+//! The plain program that measures how deep a model's tree nests, beside the definition.
+#![tactic(auto)]
+
+mod declaration;
+mod expression;
+mod instruction;
+mod model;
+mod search;
+
+pub use model::depth_model;
