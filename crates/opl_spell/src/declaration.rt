@@ -1,5 +1,6 @@
 //! How declarations are spelt.
 ghost use Rattle.std.specs.Prelude.{◌≡◌, ◌++◌, OnOk, map};
+ghost use Rattle.std.specs.Option.{option_map};
 ghost use Rattle.opl_model_tree.specs.Marks as marks;
 ghost use Rattle.opl_model_tree.specs.Spelling.{kinds_of};
 
@@ -7,9 +8,9 @@ use crate::expression::{spell_add, spell_more_names, spell_name, spell_set};
 use crate::token::{push_sign, push_word};
 use opl_list::Seq;
 use opl_model_tree::{
-    ActivityTree, BoundsTree, DataTree, DeclTree, DimTree, DimsTree, DiscreteTree, EnumNamesTree,
-    EnumTree, FieldTree, InitialTree, Keyword, RangeTree, ScheduleEnd, ScheduleTree, StructTree,
-    TypeTree, UnaryTree, VariableTree, VariableTypeTree,
+    ActivityTree, AddTree, BoundsTree, DataTree, DeclTree, DimTree, DimsTree, DiscreteTree,
+    EnumNamesTree, EnumTree, FieldTree, InitialTree, Keyword, RangeTree, ScheduleEnd, ScheduleTree,
+    StructTree, TypeTree, UnaryTree, VariableTree, VariableTypeTree,
 };
 use opl_token::{Kind, Sign};
 use std::alloc::{AllocError, Global};
@@ -43,7 +44,7 @@ pub(crate) fn spell_decl(alloc: Global, t: &DeclTree, out: &mut Seq<Kind>) -> Re
 }
 
 /// Adds the tokens of declarations.
-#[tactic(auto, using(opl_model_tree::proofs::Spelt::spelt))]
+#[tactic(auto, using(crate::proofs::Lists::lists))]
 pub(crate) fn spell_decls(
     alloc: Global,
     decls: &[DeclTree],
@@ -124,7 +125,7 @@ fn spell_dim(alloc: Global, t: &DimTree, out: &mut Seq<Kind>) -> Result<(), Allo
 }
 
 /// Adds the tokens of dimensions, each behind a sign.
-#[tactic(auto, using(opl_model_tree::proofs::Spelt::spelt))]
+#[tactic(auto, using(crate::proofs::Lists::lists))]
 fn spell_more_dims(alloc: Global, dims: &[DimTree], out: &mut Seq<Kind>) -> Result<(), AllocError>
     ensures { OnOk result (out.new ≡ out.old ++ kinds_of (marks.behind Sign.Comma (map marks.marks_dim dims.now))) }
 {
@@ -205,7 +206,7 @@ fn spell_field(alloc: Global, t: &FieldTree, out: &mut Seq<Kind>) -> Result<(), 
 }
 
 /// Adds the tokens of fields.
-#[tactic(auto, using(opl_model_tree::proofs::Spelt::spelt))]
+#[tactic(auto, using(crate::proofs::Lists::lists))]
 fn spell_fields(alloc: Global, fields: &[FieldTree], out: &mut Seq<Kind>) -> Result<(), AllocError>
     ensures { OnOk result (out.new ≡ out.old ++ kinds_of (marks.joined (map marks.marks_field fields.now))) }
 {
@@ -269,13 +270,27 @@ fn spell_activity(alloc: Global, t: &ActivityTree, out: &mut Seq<Kind>) -> Resul
         spell_dims(alloc, dims, out)?;
     }
     push_sign(Sign::OpenParenthesis, out)?;
-    spell_add(alloc, &t.shortest, out)?;
-    if let Some(longest) = &t.longest {
-        push_sign(Sign::Range, out)?;
-        spell_add(alloc, longest, out)?;
-    }
+    spell_span(alloc, &t.shortest, &t.longest, out)?;
     push_sign(Sign::CloseParenthesis, out)?;
     push_sign(Sign::Semicolon, out)
+}
+
+/// Adds the tokens of one value, or of the ends of a range.
+#[tactic(auto, using(opl_model_tree::proofs::Spelt::spelt))]
+fn spell_span(
+    alloc: Global,
+    low: &AddTree,
+    high: &Option<AddTree>,
+    out: &mut Seq<Kind>,
+) -> Result<(), AllocError>
+    ensures { OnOk result (out.new ≡ out.old ++ kinds_of (marks.marks_add low.now ++ marks.after (marks.sign Sign.Range) (option_map marks.marks_add high.now))) }
+{
+    spell_add(alloc, low, out)?;
+    if let Some(high) = high {
+        push_sign(Sign::Range, out)?;
+        spell_add(alloc, high, out)?;
+    }
+    Ok(())
 }
 
 /// Adds the tokens of a declaration of a unary resource.

@@ -3,7 +3,7 @@ ghost use Rattle.std.specs.Prelude.{◌≡◌, ◌++◌, ◌∷◌, [], OnOk, ma
 ghost use Rattle.opl_model_tree.specs.Marks as marks;
 ghost use Rattle.opl_model_tree.specs.Spelling.{kind_of, kinds_of};
 
-use crate::token::{push_number, push_sign, push_text, push_word};
+use crate::token::{push_between, push_number, push_sign, push_text, push_word};
 use opl_list::Seq;
 use opl_model_tree::{
     AddOp, AddStep, AddTree, AggregateOp, AndTree, CallOp, CompareTree, ExprTree, GroupSeparator,
@@ -102,7 +102,7 @@ pub(crate) fn spell_name(alloc: Global, t: &NameTree, out: &mut Seq<Kind>) -> Re
 }
 
 /// Adds the tokens of names, each behind a sign.
-#[tactic(auto, using(opl_model_tree::proofs::Spelt::spelt))]
+#[tactic(auto, using(crate::proofs::Lists::lists))]
 pub(crate) fn spell_more_names(
     alloc: Global,
     names: &[NameTree],
@@ -143,7 +143,7 @@ fn spell_imp(alloc: Global, t: &ImpTree, out: &mut Seq<Kind>) -> Result<(), Allo
 
 /// Adds the tokens of implications, each behind a sign.
 #[cycle(expressions)]
-#[tactic(auto, using(opl_model_tree::proofs::Spelt::spelt))]
+#[tactic(auto, using(crate::proofs::Lists::lists))]
 fn spell_more_imps(alloc: Global, imps: &[ImpTree], out: &mut Seq<Kind>) -> Result<(), AllocError>
     ensures { OnOk result (out.new ≡ out.old ++ kinds_of (marks.behind Sign.Equivalent (map marks.marks_imp imps.now))) }
 {
@@ -176,7 +176,7 @@ fn spell_and(alloc: Global, t: &AndTree, out: &mut Seq<Kind>) -> Result<(), Allo
 
 /// Adds the tokens of conjunctions, each behind a sign.
 #[cycle(expressions)]
-#[tactic(auto, using(opl_model_tree::proofs::Spelt::spelt))]
+#[tactic(auto, using(crate::proofs::Lists::lists))]
 fn spell_more_ands(alloc: Global, ands: &[AndTree], out: &mut Seq<Kind>) -> Result<(), AllocError>
     ensures { OnOk result (out.new ≡ out.old ++ kinds_of (marks.behind Sign.Or (map marks.marks_and ands.now))) }
 {
@@ -204,7 +204,7 @@ fn spell_neg(alloc: Global, t: &NegTree, out: &mut Seq<Kind>) -> Result<(), Allo
 
 /// Adds the tokens of negations, each behind a sign.
 #[cycle(expressions)]
-#[tactic(auto, using(opl_model_tree::proofs::Spelt::spelt))]
+#[tactic(auto, using(crate::proofs::Lists::lists))]
 fn spell_more_negs(alloc: Global, negs: &[NegTree], out: &mut Seq<Kind>) -> Result<(), AllocError>
     ensures { OnOk result (out.new ≡ out.old ++ kinds_of (marks.behind Sign.And (map marks.marks_neg negs.now))) }
 {
@@ -248,7 +248,7 @@ pub(crate) fn spell_add(alloc: Global, t: &AddTree, out: &mut Seq<Kind>) -> Resu
 
 /// Adds the tokens of sums, each behind a sign.
 #[cycle(expressions)]
-#[tactic(auto, using(opl_model_tree::proofs::Spelt::spelt))]
+#[tactic(auto, using(crate::proofs::Lists::lists))]
 fn spell_more_adds(alloc: Global, adds: &[AddTree], out: &mut Seq<Kind>) -> Result<(), AllocError>
     ensures { OnOk result (out.new ≡ out.old ++ kinds_of (marks.behind Sign.Comma (map marks.marks_add adds.now))) }
 {
@@ -261,17 +261,17 @@ fn spell_more_adds(alloc: Global, adds: &[AddTree], out: &mut Seq<Kind>) -> Resu
 
 /// Adds the tokens of sums, with a sign between.
 #[cycle(expressions)]
-#[tactic(auto, using(opl_model_tree::proofs::Spelt::spelt))]
+#[tactic(auto, using(crate::proofs::Lists::separated))]
 fn spell_adds(alloc: Global, adds: &[AddTree], out: &mut Seq<Kind>) -> Result<(), AllocError>
     ensures { OnOk result (out.new ≡ out.old ++ kinds_of (marks.several Sign.Comma (map marks.marks_add adds.now))) }
 {
-    match adds.split_first() {
-        Some((first, rest)) => {
-            spell_add(alloc, first, out)?;
-            spell_more_adds(alloc, rest, out)
-        }
-        None => Ok(()),
+    let mut is_first = true;
+    for add in adds {
+        push_between(Sign::Comma, is_first, out)?;
+        spell_add(alloc, add, out)?;
+        is_first = false;
     }
+    Ok(())
 }
 
 /// Adds the tokens of a step of a sum.
@@ -286,7 +286,7 @@ fn spell_add_step(alloc: Global, t: &AddStep, out: &mut Seq<Kind>) -> Result<(),
 
 /// Adds the tokens of steps of a sum.
 #[cycle(expressions)]
-#[tactic(auto, using(opl_model_tree::proofs::Spelt::spelt))]
+#[tactic(auto, using(crate::proofs::Lists::lists))]
 fn spell_add_steps(
     alloc: Global,
     add_steps: &[AddStep],
@@ -331,7 +331,7 @@ fn spell_mul_step(alloc: Global, t: &MulStep, out: &mut Seq<Kind>) -> Result<(),
 
 /// Adds the tokens of steps of a product.
 #[cycle(expressions)]
-#[tactic(auto, using(opl_model_tree::proofs::Spelt::spelt))]
+#[tactic(auto, using(crate::proofs::Lists::lists))]
 fn spell_mul_steps(
     alloc: Global,
     mul_steps: &[MulStep],
@@ -418,7 +418,7 @@ fn spell_suffix(alloc: Global, t: &SuffixTree, out: &mut Seq<Kind>) -> Result<()
 
 /// Adds the tokens of suffixes.
 #[cycle(expressions)]
-#[tactic(auto, using(opl_model_tree::proofs::Spelt::spelt))]
+#[tactic(auto, using(crate::proofs::Lists::lists))]
 fn spell_suffixes(
     alloc: Global,
     suffixes: &[SuffixTree],
@@ -458,14 +458,20 @@ fn spell_prim(alloc: Global, t: &PrimTree, out: &mut Seq<Kind>) -> Result<(), Al
         PrimTree::Number(_, value) => push_number(*value, out),
         PrimTree::Named(named) => spell_name(alloc, named, out),
         PrimTree::Bracket(_, inner) => spell_bracket(alloc, inner.get(), out),
-        PrimTree::Record(_, head, rest) => spell_record(alloc, head.get(), rest.as_slice(), out),
+        PrimTree::Record(_, head, rest) => {
+            push_sign(Sign::Less, out)?;
+            spell_add(alloc, head.get(), out)?;
+            spell_more_adds(alloc, rest.as_slice(), out)?;
+            push_sign(Sign::Greater, out)
+        }
         PrimTree::Listed(_, elements) => spell_listed(alloc, elements.as_slice(), out),
-        PrimTree::Described(_, element, params) => spell_described(
-            alloc,
-            element.get(),
-            params.get(),
-            out,
-        ),
+        PrimTree::Described(_, element, params) => {
+            push_sign(Sign::OpenBrace, out)?;
+            spell_add(alloc, element.get(), out)?;
+            push_sign(Sign::Bar, out)?;
+            spell_params(alloc, params.get(), out)?;
+            push_sign(Sign::CloseBrace, out)
+        }
         PrimTree::Array(_, elements) => spell_array(alloc, elements.as_slice(), out),
         PrimTree::KeyedArray(_, elements) => spell_keyed_array(alloc, elements.as_slice(), out),
         PrimTree::Call(_, op, argument) => spell_call(alloc, *op, argument.get(), out),
@@ -485,23 +491,6 @@ fn spell_bracket(alloc: Global, inner: &ExprTree, out: &mut Seq<Kind>) -> Result
     push_sign(Sign::CloseParenthesis, out)
 }
 
-/// Adds the tokens of a record.
-#[cycle(expressions)]
-#[tactic(auto, using(opl_model_tree::proofs::Spelt::spelt))]
-fn spell_record(
-    alloc: Global,
-    head: &AddTree,
-    rest: &[AddTree],
-    out: &mut Seq<Kind>,
-) -> Result<(), AllocError>
-    ensures { OnOk result (out.new ≡ out.old ++ kinds_of (marks.token (marks.sign Sign.Less) ∷ (marks.marks_add head.now ++ (marks.behind Sign.Comma (map marks.marks_add rest.now) ++ marks.token (marks.sign Sign.Greater) ∷ [])))) }
-{
-    push_sign(Sign::Less, out)?;
-    spell_add(alloc, head, out)?;
-    spell_more_adds(alloc, rest, out)?;
-    push_sign(Sign::Greater, out)
-}
-
 /// Adds the tokens of a set that lists its elements.
 #[cycle(expressions)]
 #[tactic(auto, using(opl_model_tree::proofs::Spelt::spelt))]
@@ -510,24 +499,6 @@ fn spell_listed(alloc: Global, elements: &[AddTree], out: &mut Seq<Kind>) -> Res
 {
     push_sign(Sign::OpenBrace, out)?;
     spell_adds(alloc, elements, out)?;
-    push_sign(Sign::CloseBrace, out)
-}
-
-/// Adds the tokens of a set that describes its elements.
-#[cycle(expressions)]
-#[tactic(auto, using(opl_model_tree::proofs::Spelt::spelt))]
-fn spell_described(
-    alloc: Global,
-    element: &AddTree,
-    params: &ParamsTree,
-    out: &mut Seq<Kind>,
-) -> Result<(), AllocError>
-    ensures { OnOk result (out.new ≡ out.old ++ kinds_of (marks.token (marks.sign Sign.OpenBrace) ∷ (marks.marks_add element.now ++ marks.token (marks.sign Sign.Bar) ∷ (marks.marks_params params.now ++ marks.token (marks.sign Sign.CloseBrace) ∷ [])))) }
-{
-    push_sign(Sign::OpenBrace, out)?;
-    spell_add(alloc, element, out)?;
-    push_sign(Sign::Bar, out)?;
-    spell_params(alloc, params, out)?;
     push_sign(Sign::CloseBrace, out)
 }
 
@@ -620,32 +591,15 @@ fn spell_keyed(alloc: Global, t: &KeyedTree, out: &mut Seq<Kind>) -> Result<(), 
 
 /// Adds the tokens of pairs, with a sign between.
 #[cycle(expressions)]
-#[tactic(auto, using(opl_model_tree::proofs::Spelt::spelt))]
+#[tactic(auto, using(crate::proofs::Lists::separated))]
 fn spell_pairs(alloc: Global, pairs: &[KeyedTree], out: &mut Seq<Kind>) -> Result<(), AllocError>
     ensures { OnOk result (out.new ≡ out.old ++ kinds_of (marks.several Sign.Comma (map marks.marks_keyed pairs.now))) }
 {
-    match pairs.split_first() {
-        Some((first, rest)) => {
-            spell_keyed(alloc, first, out)?;
-            spell_more_pairs(alloc, rest, out)
-        }
-        None => Ok(()),
-    }
-}
-
-/// Adds the tokens of pairs, each behind a sign.
-#[cycle(expressions)]
-#[tactic(auto, using(opl_model_tree::proofs::Spelt::spelt))]
-fn spell_more_pairs(
-    alloc: Global,
-    pairs: &[KeyedTree],
-    out: &mut Seq<Kind>,
-) -> Result<(), AllocError>
-    ensures { OnOk result (out.new ≡ out.old ++ kinds_of (marks.behind Sign.Comma (map marks.marks_keyed pairs.now))) }
-{
+    let mut is_first = true;
     for pair in pairs {
-        push_sign(Sign::Comma, out)?;
+        push_between(Sign::Comma, is_first, out)?;
         spell_keyed(alloc, pair, out)?;
+        is_first = false;
     }
     Ok(())
 }
@@ -695,7 +649,7 @@ fn spell_group_step(alloc: Global, t: &GroupStep, out: &mut Seq<Kind>) -> Result
 
 /// Adds the tokens of further groups.
 #[cycle(expressions)]
-#[tactic(auto, using(opl_model_tree::proofs::Spelt::spelt))]
+#[tactic(auto, using(crate::proofs::Lists::lists))]
 fn spell_group_steps(
     alloc: Global,
     group_steps: &[GroupStep],
@@ -741,7 +695,7 @@ fn spell_pattern(alloc: Global, t: &PatternTree, out: &mut Seq<Kind>) -> Result<
 }
 
 /// Adds the tokens of patterns, each behind a sign.
-#[tactic(auto, using(opl_model_tree::proofs::Spelt::spelt))]
+#[tactic(auto, using(crate::proofs::Lists::lists))]
 fn spell_more_patterns(
     alloc: Global,
     patterns: &[PatternTree],

@@ -1,6 +1,5 @@
 //! How the instruction, its block and its items are spelt.
 ghost use Rattle.std.specs.Prelude.{◌≡◌, ◌++◌, ◌∷◌, [], OnOk, map};
-ghost use Rattle.std.specs.Option.{option_map};
 ghost use Rattle.opl_model_tree.specs.Marks as marks;
 ghost use Rattle.opl_model_tree.specs.Spelling.{kinds_of};
 
@@ -90,55 +89,23 @@ fn spell_item(alloc: Global, t: &ItemTree, out: &mut Seq<Kind>) -> Result<(), Al
 {
     match t {
         ItemTree::Block(inner) => spell_block(alloc, inner, out),
-        ItemTree::ForAll(_, params, body) => spell_for_all(alloc, params, body.get(), out),
-        ItemTree::If(_, condition, holds, fails) => spell_conditional_items(
-            alloc, condition, holds, fails, out,
-        ),
+        ItemTree::ForAll(_, params, body) => {
+            spell_for_all(alloc, params, out)?;
+            spell_item(alloc, body.get(), out)
+        }
+        ItemTree::If(_, condition, holds, fails) => {
+            spell_if(alloc, condition, out)?;
+            spell_items(alloc, holds, out)?;
+            if let Some(fails) = fails {
+                push_word(alloc, Keyword::Else, out)?;
+                spell_items(alloc, fails, out)?;
+            }
+            push_word(alloc, Keyword::EndIf, out)
+        }
         ItemTree::Precedes(_, earlier, later) => spell_precedence(alloc, earlier, later, out),
         ItemTree::Requires(inner) => spell_requires(alloc, inner, out),
         ItemTree::Constraint(inner) => spell_expr(alloc, inner, out),
     }
-}
-
-/// Adds the tokens of `forall`.
-#[cycle(items)]
-#[tactic(auto, using(opl_model_tree::proofs::Spelt::spelt))]
-fn spell_for_all(
-    alloc: Global,
-    params: &ParamsTree,
-    body: &ItemTree,
-    out: &mut Seq<Kind>,
-) -> Result<(), AllocError>
-    ensures { OnOk result (out.new ≡ out.old ++ kinds_of (marks.token (marks.word Keyword.ForAll) ∷ marks.token (marks.sign Sign.OpenParenthesis) ∷ (marks.marks_params params.now ++ marks.token (marks.sign Sign.CloseParenthesis) ∷ marks.marks_item body.now))) }
-{
-    push_word(alloc, Keyword::ForAll, out)?;
-    push_sign(Sign::OpenParenthesis, out)?;
-    spell_params(alloc, params, out)?;
-    push_sign(Sign::CloseParenthesis, out)?;
-    spell_item(alloc, body, out)
-}
-
-/// Adds the tokens of a conditional item.
-#[cycle(items)]
-#[tactic(auto, using(opl_model_tree::proofs::Spelt::spelt))]
-fn spell_conditional_items(
-    alloc: Global,
-    condition: &ExprTree,
-    holds: &ItemsTree,
-    fails: &Option<ItemsTree>,
-    out: &mut Seq<Kind>,
-) -> Result<(), AllocError>
-    ensures { OnOk result (out.new ≡ out.old ++ kinds_of (marks.token (marks.word Keyword.If) ∷ (marks.marks_expr condition.now ++ marks.token (marks.word Keyword.Then) ∷ (marks.marks_items holds.now ++ (marks.after (marks.word Keyword.Else) (option_map marks.marks_items fails.now) ++ marks.token (marks.word Keyword.EndIf) ∷ []))))) }
-{
-    push_word(alloc, Keyword::If, out)?;
-    spell_expr(alloc, condition, out)?;
-    push_word(alloc, Keyword::Then, out)?;
-    spell_items(alloc, holds, out)?;
-    if let Some(fails) = fails {
-        push_word(alloc, Keyword::Else, out)?;
-        spell_items(alloc, fails, out)?;
-    }
-    push_word(alloc, Keyword::EndIf, out)
 }
 
 /// Adds the tokens of a precedence.
@@ -156,9 +123,34 @@ fn spell_precedence(
     spell_post(alloc, later, out)
 }
 
+/// Adds the tokens of `forall (PARAMS)`.
+#[tactic(auto, using(opl_model_tree::proofs::Spelt::spelt))]
+fn spell_for_all(alloc: Global, params: &ParamsTree, out: &mut Seq<Kind>) -> Result<(), AllocError>
+    ensures { OnOk result (out.new ≡ out.old ++ kinds_of (marks.token (marks.word Keyword.ForAll) ∷ marks.token (marks.sign Sign.OpenParenthesis) ∷ (marks.marks_params params.now ++ marks.token (marks.sign Sign.CloseParenthesis) ∷ []))) }
+{
+    push_word(alloc, Keyword::ForAll, out)?;
+    push_sign(Sign::OpenParenthesis, out)?;
+    spell_params(alloc, params, out)?;
+    push_sign(Sign::CloseParenthesis, out)
+}
+
+/// Adds the tokens of `if CONDITION then`.
+#[tactic(auto, using(opl_model_tree::proofs::Spelt::spelt))]
+pub(crate) fn spell_if(
+    alloc: Global,
+    condition: &ExprTree,
+    out: &mut Seq<Kind>,
+) -> Result<(), AllocError>
+    ensures { OnOk result (out.new ≡ out.old ++ kinds_of (marks.token (marks.word Keyword.If) ∷ (marks.marks_expr condition.now ++ marks.token (marks.word Keyword.Then) ∷ []))) }
+{
+    push_word(alloc, Keyword::If, out)?;
+    spell_expr(alloc, condition, out)?;
+    push_word(alloc, Keyword::Then, out)
+}
+
 /// Adds the tokens of items, each behind a sign.
 #[cycle(items)]
-#[tactic(auto, using(opl_model_tree::proofs::Spelt::spelt))]
+#[tactic(auto, using(crate::proofs::Lists::lists))]
 fn spell_more_items(
     alloc: Global,
     items: &[ItemTree],

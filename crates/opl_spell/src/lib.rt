@@ -6,6 +6,8 @@ mod expression;
 mod instruction;
 mod model;
 mod search;
+#[cfg(test)]
+mod tests;
 mod token;
 
 pub use model::spell_model;

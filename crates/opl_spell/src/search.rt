@@ -1,10 +1,10 @@
 //! How the search section is spelt.
 ghost use Rattle.std.specs.Prelude.{◌≡◌, ◌++◌, ◌∷◌, [], OnOk, map};
-ghost use Rattle.std.specs.Option.{option_map};
 ghost use Rattle.opl_model_tree.specs.Marks as marks;
 ghost use Rattle.opl_model_tree.specs.Spelling.{kinds_of};
 
 use crate::expression::{spell_add, spell_expr, spell_params, spell_post};
+use crate::instruction::spell_if;
 use crate::token::{push_sign, push_word};
 use opl_list::Seq;
 use opl_model_tree::{
@@ -100,7 +100,7 @@ fn spell_statements(
 
 /// Adds the tokens of lists of statements, each behind a sign.
 #[cycle(statements)]
-#[tactic(auto, using(opl_model_tree::proofs::Spelt::spelt))]
+#[tactic(auto, using(crate::proofs::Lists::lists))]
 fn spell_more_alternatives(
     alloc: Global,
     alternatives: &[StatementsTree],
@@ -123,118 +123,41 @@ fn spell_statement(alloc: Global, t: &StatementTree, out: &mut Seq<Kind>) -> Res
 {
     match t {
         StatementTree::Block(inner) => spell_search_block(alloc, inner, out),
-        StatementTree::Try(_, head, second, rest) => spell_alternatives_of(
-            alloc,
-            head,
-            second,
-            rest.as_slice(),
-            out,
-        ),
-        StatementTree::Branch(_, op, params, body) => spell_branch(
-            alloc,
-            *op,
-            params,
-            body.get(),
-            out,
-        ),
+        StatementTree::Try(_, head, second, rest) => {
+            push_word(alloc, Keyword::Try, out)?;
+            spell_statements(alloc, head, out)?;
+            push_sign(Sign::Bar, out)?;
+            spell_statements(alloc, second, out)?;
+            spell_more_alternatives(alloc, rest.as_slice(), out)?;
+            push_word(alloc, Keyword::EndTry, out)
+        }
+        StatementTree::Branch(_, op, params, body) => {
+            spell_branch(alloc, *op, params, out)?;
+            spell_statement(alloc, body.get(), out)
+        }
         StatementTree::Once(_, body) => {
             push_word(alloc, Keyword::Once, out)?;
             spell_statement(alloc, body.get(), out)
         }
-        StatementTree::While(_, condition, body) => spell_repeated(
-            alloc,
-            condition,
-            body.get(),
-            out,
-        ),
-        StatementTree::If(_, condition, holds, fails) => spell_conditional_statements(
-            alloc, condition, holds, fails, out,
-        ),
+        StatementTree::While(_, condition, body) => {
+            spell_while(alloc, condition, out)?;
+            spell_statement(alloc, body.get(), out)
+        }
+        StatementTree::If(_, condition, holds, fails) => {
+            spell_if(alloc, condition, out)?;
+            spell_statements(alloc, holds, out)?;
+            if let Some(fails) = fails {
+                push_word(alloc, Keyword::Else, out)?;
+                spell_statements(alloc, fails, out)?;
+            }
+            push_word(alloc, Keyword::EndIf, out)
+        }
         StatementTree::Label(_, op, argument) => spell_label(alloc, *op, argument, out),
         StatementTree::Precedes(_, earlier, later) => spell_precedence_statement(
             alloc, earlier, later, out,
         ),
         StatementTree::Constraint(inner) => spell_expr(alloc, inner, out),
     }
-}
-
-/// Adds the tokens of `try`.
-#[cycle(statements)]
-#[tactic(auto, using(opl_model_tree::proofs::Spelt::spelt))]
-fn spell_alternatives_of(
-    alloc: Global,
-    head: &StatementsTree,
-    second: &StatementsTree,
-    rest: &[StatementsTree],
-    out: &mut Seq<Kind>,
-) -> Result<(), AllocError>
-    ensures { OnOk result (out.new ≡ out.old ++ kinds_of (marks.token (marks.word Keyword.Try) ∷ (marks.marks_statements head.now ++ marks.token (marks.sign Sign.Bar) ∷ (marks.marks_statements second.now ++ (marks.behind Sign.Bar (map marks.marks_statements rest.now) ++ marks.token (marks.word Keyword.EndTry) ∷ []))))) }
-{
-    push_word(alloc, Keyword::Try, out)?;
-    spell_statements(alloc, head, out)?;
-    push_sign(Sign::Bar, out)?;
-    spell_statements(alloc, second, out)?;
-    spell_more_alternatives(alloc, rest, out)?;
-    push_word(alloc, Keyword::EndTry, out)
-}
-
-/// Adds the tokens of a statement with parameters.
-#[cycle(statements)]
-#[tactic(auto, using(opl_model_tree::proofs::Spelt::spelt))]
-fn spell_branch(
-    alloc: Global,
-    op: BranchOp,
-    params: &OrderedParamsTree,
-    body: &StatementTree,
-    out: &mut Seq<Kind>,
-) -> Result<(), AllocError>
-    ensures { OnOk result (out.new ≡ out.old ++ kinds_of (marks.token (marks.word (marks.branch_word op)) ∷ marks.token (marks.sign Sign.OpenParenthesis) ∷ (marks.marks_ordered_params params.now ++ marks.token (marks.sign Sign.CloseParenthesis) ∷ marks.marks_statement body.now))) }
-{
-    push_word(alloc, branch_word(op), out)?;
-    push_sign(Sign::OpenParenthesis, out)?;
-    spell_ordered_params(alloc, params, out)?;
-    push_sign(Sign::CloseParenthesis, out)?;
-    spell_statement(alloc, body, out)
-}
-
-/// Adds the tokens of `while`.
-#[cycle(statements)]
-#[tactic(auto, using(opl_model_tree::proofs::Spelt::spelt))]
-fn spell_repeated(
-    alloc: Global,
-    condition: &ExprTree,
-    body: &StatementTree,
-    out: &mut Seq<Kind>,
-) -> Result<(), AllocError>
-    ensures { OnOk result (out.new ≡ out.old ++ kinds_of (marks.token (marks.word Keyword.While) ∷ (marks.marks_expr condition.now ++ marks.token (marks.word Keyword.Do) ∷ marks.marks_statement body.now))) }
-{
-    push_word(alloc, Keyword::While, out)?;
-    spell_expr(alloc, condition, out)?;
-    push_word(alloc, Keyword::Do, out)?;
-    spell_statement(alloc, body, out)
-}
-
-/// Adds the tokens of a conditional statement.
-#[cycle(statements)]
-#[tactic(auto, using(opl_model_tree::proofs::Spelt::spelt))]
-fn spell_conditional_statements(
-    alloc: Global,
-    condition: &ExprTree,
-    holds: &StatementsTree,
-    fails: &Option<StatementsTree>,
-    out: &mut Seq<Kind>,
-) -> Result<(), AllocError>
-    ensures { OnOk result (out.new ≡ out.old ++ kinds_of (marks.token (marks.word Keyword.If) ∷ (marks.marks_expr condition.now ++ marks.token (marks.word Keyword.Then) ∷ (marks.marks_statements holds.now ++ (marks.after (marks.word Keyword.Else) (option_map marks.marks_statements fails.now) ++ marks.token (marks.word Keyword.EndIf) ∷ []))))) }
-{
-    push_word(alloc, Keyword::If, out)?;
-    spell_expr(alloc, condition, out)?;
-    push_word(alloc, Keyword::Then, out)?;
-    spell_statements(alloc, holds, out)?;
-    if let Some(fails) = fails {
-        push_word(alloc, Keyword::Else, out)?;
-        spell_statements(alloc, fails, out)?;
-    }
-    push_word(alloc, Keyword::EndIf, out)
 }
 
 /// Adds the tokens of a statement that decides an item.
@@ -268,9 +191,35 @@ fn spell_precedence_statement(
     spell_post(alloc, later, out)
 }
 
+/// Adds the tokens of a word and the parameters behind it.
+#[tactic(auto, using(opl_model_tree::proofs::Spelt::spelt))]
+fn spell_branch(
+    alloc: Global,
+    op: BranchOp,
+    params: &OrderedParamsTree,
+    out: &mut Seq<Kind>,
+) -> Result<(), AllocError>
+    ensures { OnOk result (out.new ≡ out.old ++ kinds_of (marks.token (marks.word (marks.branch_word op)) ∷ marks.token (marks.sign Sign.OpenParenthesis) ∷ (marks.marks_ordered_params params.now ++ marks.token (marks.sign Sign.CloseParenthesis) ∷ []))) }
+{
+    push_word(alloc, branch_word(op), out)?;
+    push_sign(Sign::OpenParenthesis, out)?;
+    spell_ordered_params(alloc, params, out)?;
+    push_sign(Sign::CloseParenthesis, out)
+}
+
+/// Adds the tokens of `while CONDITION do`.
+#[tactic(auto, using(opl_model_tree::proofs::Spelt::spelt))]
+fn spell_while(alloc: Global, condition: &ExprTree, out: &mut Seq<Kind>) -> Result<(), AllocError>
+    ensures { OnOk result (out.new ≡ out.old ++ kinds_of (marks.token (marks.word Keyword.While) ∷ (marks.marks_expr condition.now ++ marks.token (marks.word Keyword.Do) ∷ []))) }
+{
+    push_word(alloc, Keyword::While, out)?;
+    spell_expr(alloc, condition, out)?;
+    push_word(alloc, Keyword::Do, out)
+}
+
 /// Adds the tokens of statements, each behind a sign.
 #[cycle(statements)]
-#[tactic(auto, using(opl_model_tree::proofs::Spelt::spelt))]
+#[tactic(auto, using(crate::proofs::Lists::lists))]
 fn spell_more_statements(
     alloc: Global,
     statements: &[StatementTree],

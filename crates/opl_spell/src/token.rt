@@ -1,6 +1,8 @@
 //! How one token is spelt.
-ghost use Rattle.std.specs.Prelude.{◌≡◌, ◌++◌, ◌∷◌, [], OnOk};
+ghost use Rattle.std.specs.Prelude.{◌≡◌, ◌++◌, ◌∷◌, [], OnOk, not};
 ghost use Rattle.opl_model_tree.specs.Keywords.{keyword_text};
+ghost use Rattle.opl_model_tree.specs.Marks as marks;
+ghost use Rattle.opl_model_tree.specs.Spelling.{kinds_of};
 
 use opl_list::Seq;
 use opl_model_tree::Keyword;
@@ -26,6 +28,20 @@ pub(crate) fn push_sign(sign: Sign, out: &mut Seq<Kind>) -> Result<(), AllocErro
     ensures { OnOk result (out.new ≡ out.old ++ Kind.Sign sign ∷ []) }
 {
     out.push(Kind::Sign(sign))
+}
+
+/// Adds the sign that stands between parts, before each but the first.
+pub(crate) fn push_between(
+    sign: Sign,
+    is_first: bool,
+    out: &mut Seq<Kind>,
+) -> Result<(), AllocError>
+    ensures { OnOk result (out.new ≡ out.old ++ kinds_of (marks.optional (marks.sign sign) (not is_first))) }
+{
+    if is_first {
+        return Ok(());
+    }
+    push_sign(sign, out)
 }
 
 /// Adds a number.
