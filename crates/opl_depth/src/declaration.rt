@@ -4,7 +4,11 @@ ghost use Rattle.std.specs.Option.{option_map};
 ghost use Rattle.opl_model_tree.specs.Depth as depth;
 
 use crate::expression::{depth_add, depth_set};
-use opl_model_tree::{ActivityTree, BoundsTree, DataTree, DeclTree, DimTree, DimsTree, DiscreteTree, EnumNamesTree, EnumTree, FieldTree, InitialTree, RangeTree, ScheduleTree, StructTree, TypeTree, UnaryTree, VariableTree};
+use opl_model_tree::{
+    ActivityTree, BoundsTree, DataTree, DeclTree, DimTree, DimsTree, DiscreteTree, EnumNamesTree,
+    EnumTree, FieldTree, InitialTree, RangeTree, ScheduleTree, StructTree, TypeTree, UnaryTree,
+    VariableTree,
+};
 
 /// How deep dimensions nest, where they are written.
 fn depth_dims_if_any(dims: &Option<DimsTree>) -> u32
@@ -55,7 +59,9 @@ fn depth_data(t: &DataTree) -> u32
     requires { depth.depth_data t.now < 2 ^ 32 }
     ensures { result ≡ depth.depth_data t.now }
 {
-    depth_type(&t.kind).max(depth_dims_if_any(&t.dims)).max(depth_initial(&t.initial))
+    depth_type(&t.kind)
+        .max(depth_dims_if_any(&t.dims))
+        .max(depth_initial(&t.initial))
 }
 
 /// How deep an initial value nests.

@@ -2,7 +2,11 @@
 ghost use Rattle.std.specs.Prelude.{◌≡◌, ◌<◌, ◌^◌, map};
 ghost use Rattle.opl_model_tree.specs.Depth as depth;
 
-use opl_model_tree::{AddStep, AddTree, AndTree, CompareTree, ExprTree, GroupStep, GroupTree, ImpTree, KeyedTree, LastStep, MulStep, MulTree, NegTree, OpenTree, OrTree, ParamsTree, PatternTree, PostTree, PrimTree, SetTree, SignTree, SubscriptsTree, SuffixTree};
+use opl_model_tree::{
+    AddStep, AddTree, AndTree, CompareTree, ExprTree, GroupStep, GroupTree, ImpTree, KeyedTree,
+    LastStep, MulStep, MulTree, NegTree, OpenTree, OrTree, ParamsTree, PatternTree, PostTree,
+    PrimTree, SetTree, SignTree, SubscriptsTree, SuffixTree,
+};
 
 /// How deep an expression nests.
 #[cycle(expressions)]
@@ -112,7 +116,9 @@ fn depth_compare(t: &CompareTree) -> u32
 {
     match t {
         CompareTree::Single(_, only) => depth_add(only.get()),
-        CompareTree::Related(_, left, _, right) => depth_add(left.get()).max(depth_add(right.get())),
+        CompareTree::Related(_, left, _, right) => depth_add(left.get()).max(depth_add(
+            right.get(),
+        )),
         CompareTree::Member(_, element, set) => depth_add(element.get()).max(depth_set(set.get())),
     }
 }
@@ -227,7 +233,8 @@ fn depth_open(t: &OpenTree) -> u32
 {
     match t {
         OpenTree::NegativeOpen(_, inner) => 1 + depth_open(inner.get()),
-        OpenTree::Aggregate(_, _, params, body) => 1 + (1 + depth_params(params.get())).max(depth_mul(body.get())),
+        OpenTree::Aggregate(_, _, params, body) => 1
+            + (1 + depth_params(params.get())).max(depth_mul(body.get())),
     }
 }
 
@@ -302,9 +309,11 @@ fn depth_prim(t: &PrimTree) -> u32
         PrimTree::Number(..) => 0,
         PrimTree::Named(..) => 0,
         PrimTree::Bracket(_, inner) => 1 + depth_expr(inner.get()),
-        PrimTree::Record(_, head, rest) => 1 + depth_add(head.get()).max(deepest_adds(rest.as_slice())),
+        PrimTree::Record(_, head, rest) => 1
+            + depth_add(head.get()).max(deepest_adds(rest.as_slice())),
         PrimTree::Listed(_, elements) => 1 + deepest_adds(elements.as_slice()),
-        PrimTree::Described(_, element, params) => 1 + depth_add(element.get()).max(depth_params(params.get())),
+        PrimTree::Described(_, element, params) => 1
+            + depth_add(element.get()).max(depth_params(params.get())),
         PrimTree::Array(_, elements) => 1 + deepest_adds(elements.as_slice()),
         PrimTree::KeyedArray(_, elements) => 1 + deepest_pairs(elements.as_slice()),
         PrimTree::Call(_, _, argument) => 1 + depth_expr(argument.get()),
@@ -396,7 +405,9 @@ fn depth_group(t: &GroupTree) -> u32
     requires { depth.depth_group t.now < 2 ^ 32 }
     ensures { result ≡ depth.depth_group t.now }
 {
-    depth_pattern(&t.first).max(deepest_patterns(t.rest.as_slice())).max(depth_set(&t.set))
+    depth_pattern(&t.first)
+        .max(deepest_patterns(t.rest.as_slice()))
+        .max(depth_set(&t.set))
 }
 
 /// How deep a pattern nests.

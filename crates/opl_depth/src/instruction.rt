@@ -25,7 +25,9 @@ pub(crate) fn depth_instr(t: &InstrTree) -> u32
 {
     match t {
         InstrTree::Solve(_, block) => depth_block(block),
-        InstrTree::Optimize(_, _, objective, block) => depth_expr(objective).max(depth_block(block)),
+        InstrTree::Optimize(_, _, objective, block) => depth_expr(objective).max(depth_block(
+            block,
+        )),
     }
 }
 
@@ -48,7 +50,9 @@ fn depth_items(t: &ItemsTree) -> u32
 {
     match t {
         ItemsTree::Empty(..) => 0,
-        ItemsTree::Several(_, head, rest, _) => depth_item(head.get()).max(deepest_items(rest.as_slice())),
+        ItemsTree::Several(_, head, rest, _) => depth_item(head.get()).max(deepest_items(
+            rest.as_slice(),
+        )),
     }
 }
 
@@ -61,7 +65,8 @@ fn depth_item(t: &ItemTree) -> u32
 {
     match t {
         ItemTree::Block(inner) => depth_block(inner),
-        ItemTree::ForAll(_, params, body) => 1 + (1 + depth_params(params)).max(depth_item(body.get())),
+        ItemTree::ForAll(_, params, body) => 1
+            + (1 + depth_params(params)).max(depth_item(body.get())),
         ItemTree::If(_, condition, holds, fails) => {
             let rest = depth_expr(condition).max(depth_items(holds));
             match fails {

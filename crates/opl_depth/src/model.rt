@@ -2,10 +2,10 @@
 ghost use Rattle.std.specs.Prelude.{◌≡◌, ◌<◌, ◌^◌};
 ghost use Rattle.opl_model_tree.specs.Depth as depth;
 
-use crate::declaration::{deepest_decls};
-use crate::instruction::{depth_instr};
-use crate::search::{depth_search};
-use opl_model_tree::{ModelTree};
+use crate::declaration::deepest_decls;
+use crate::instruction::depth_instr;
+use crate::search::depth_search;
+use opl_model_tree::ModelTree;
 
 /// How deep a model nests.
 #[tactic(auto, using(opl_model_tree::proofs::Depth::model_depth))]

@@ -3,7 +3,9 @@ ghost use Rattle.std.specs.Prelude.{◌≡◌, ◌<◌, ◌^◌, map};
 ghost use Rattle.opl_model_tree.specs.Depth as depth;
 
 use crate::expression::{depth_add, depth_expr, depth_params, depth_post};
-use opl_model_tree::{OrderTree, OrderedParamsTree, SearchBlockTree, SearchTree, StatementTree, StatementsTree};
+use opl_model_tree::{
+    OrderTree, OrderedParamsTree, SearchBlockTree, SearchTree, StatementTree, StatementsTree,
+};
 
 /// How deep a search section nests.
 #[tactic(auto, using(opl_model_tree::proofs::Depth::search_depth))]
@@ -33,7 +35,9 @@ fn depth_statements(t: &StatementsTree) -> u32
 {
     match t {
         StatementsTree::Empty(..) => 0,
-        StatementsTree::Several(_, head, rest, _) => depth_statement(head.get()).max(deepest_statements(rest.as_slice())),
+        StatementsTree::Several(_, head, rest, _) => depth_statement(head.get()).max(
+            deepest_statements(rest.as_slice()),
+        ),
     }
 }
 
@@ -60,10 +64,15 @@ fn depth_statement(t: &StatementTree) -> u32
 {
     match t {
         StatementTree::Block(inner) => depth_search_block(inner),
-        StatementTree::Try(_, head, second, rest) => 1 + depth_statements(head).max(depth_statements(second)).max(deepest_lists(rest.as_slice())),
-        StatementTree::Branch(_, _, params, body) => 1 + (1 + depth_ordered_params(params)).max(depth_statement(body.get())),
+        StatementTree::Try(_, head, second, rest) => 1
+            + depth_statements(head)
+                .max(depth_statements(second))
+                .max(deepest_lists(rest.as_slice())),
+        StatementTree::Branch(_, _, params, body) => 1
+            + (1 + depth_ordered_params(params)).max(depth_statement(body.get())),
         StatementTree::Once(_, body) => 1 + depth_statement(body.get()),
-        StatementTree::While(_, condition, body) => 1 + depth_expr(condition).max(depth_statement(body.get())),
+        StatementTree::While(_, condition, body) => 1
+            + depth_expr(condition).max(depth_statement(body.get())),
         StatementTree::If(_, condition, holds, fails) => {
             let rest = depth_expr(condition).max(depth_statements(holds));
             match fails {
