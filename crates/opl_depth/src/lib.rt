@@ -4,7 +4,10 @@
 mod declaration;
 mod expression;
 mod instruction;
+mod level;
 mod model;
 mod search;
+#[cfg(test)]
+mod tests;
 
 pub use model::depth_model;
