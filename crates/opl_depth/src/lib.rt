@@ -1,0 +1,13 @@
+//! The plain program that measures how deep a model's tree nests, beside the definition.
+#![tactic(auto)]
+
+mod declaration;
+mod expression;
+mod instruction;
+mod level;
+mod model;
+mod search;
+#[cfg(test)]
+mod tests;
+
+pub use model::depth_model;
