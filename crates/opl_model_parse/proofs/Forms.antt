@@ -1,0 +1,494 @@
+-- Phrases with their place, phrases by the next token, and phrases made into another value.
+use Rattle.std.proofs.Common.{◌≡◌, ℕ, max, ◌≤◌, Bool, true, false, cond, ◌⊎◌, inl, inr, List, [], ◌∷◌, ◌++◌, Option, Some, None, Ok, Err, refl, sym, ap, ◌∙◌, subst, arith}
+use Rattle.opl_model_parse.specs.Marks.{Mark, place}
+use Rattle.opl_token.specs.declared.token.Kind.{Kind}
+use Rattle.opl_model_parse.specs.Input.{Input, Stop, Outcome, Parser, kind, place as place_at, and_then, ◌>>=◌, pure, here}
+use Rattle.opl_model_parse.proofs.Outcomes.{ok_one, ok_not_err, bind_ok, Broke, bind_err}
+use Rattle.opl_model_parse.proofs.Takes.{Takes, Begins, takes_begins, same_front, stop_front}
+use Rattle.opl_model_parse.proofs.Phrases.{Shape, Accepts, Before, Sound, Sample, Samples, Good, Viable, Faults, Fails, AllFail, nests_too_deep, More, Law, Any, more_bind, more_test}
+
+-- ---- a phrase with its place
+
+abbrev pub placed : {A : Type 0} → Parser A → Parser (ℕ × A)
+placed p = here >>= (λ at. p >>= (λ a. pure (at, a)))
+
+abbrev pub placed_shape : {A : Type 0} → Shape A → Shape (ℕ × A)
+placed_shape s = record {
+  marks = λ c. place c.0 ∷ s.marks c.1;
+  Tag = s.Tag;
+  tag = λ c. s.tag c.1;
+  depth = λ c. s.depth c.1;
+  fits = λ c. s.fits c.1;
+  closes = s.closes;
+  begins = s.begins;
+}
+
+module _ {A : Type 0} (n : ℕ) (p : Parser A) (s : Shape A) (P : Good n p s) where
+  placed_accepts : (i : Input) (c : ℕ × A) (j : Input) → Accepts p s c.1 i j → Accepts (placed p) (placed_shape s) c i j
+  placed_accepts i c j x = record { value = (place_at i, x.value); is = rw x.is refl; same = x.same }
+
+  placed_good : Good n (placed p) (placed_shape s)
+  placed_good = record {
+    sound = λ i c j h.
+        let w = bind_ok (p i) (λ a. pure (place_at i, a)) c j h in
+        let a = P.sound i w.value w.mid w.first in
+        let both : Sound (placed p) (placed_shape s) n i (place_at i, w.value) w.mid = record {
+          takes = (refl, a.takes);
+          fits = a.fits;
+          deep = a.deep;
+          again = λ i' j' b e. placed_accepts i' (place_at i, w.value) j' (a.again i' j' b e);
+          before = λ tail. let x = a.before tail in record { start = x.start; begins = x.begins };
+        } in
+        subst (λ (x : (ℕ × A) × Input). Sound (placed p) (placed_shape s) n i x.0 x.1) (ok_one w.second) both;
+    complete = λ i c j fits d h e. let first = P.complete i c.1 j fits d h.1 e in rw (first, h.0) refl;
+    accepts = λ i c j fits d h e. placed_accepts i c j (P.accepts i c.1 j fits d h e);
+    front = λ i c j F d h e. P.front i c.1 j F d h.1 e;
+    sample = λ tail h. let a = P.sample tail h in record { whole = a.whole; value = (place_at a.whole, a.value); takes = (refl, a.takes); starts = a.starts };
+  }
+
+  placed_fail : (i : Input) (e : Stop) → Fails p s i e → Fails (placed p) (placed_shape s) i e
+  placed_fail i e f = record {
+    front = f.front;
+    stop = f.stop;
+    begins = f.begins;
+    position = f.position;
+    again = λ j m b c. let x = f.again j m b c in record { fault = x.fault; is = rw x.is refl; like = x.like };
+    viable = λ tail h.
+        let a = f.viable tail h in
+        record { whole = a.whole; mid = a.mid; value = (place_at a.whole, a.value); begins = a.begins; takes = (refl, a.takes); starts = a.starts };
+  }
+
+  placed_broke : AllFail p s → (i : Input) (e : Stop) → (p i ≡ Err e) ⊎ Broke {B = ℕ × A} (p i) (λ a. pure (place_at i, a)) e → Fails (placed p) (placed_shape s) i e
+  placed_broke f i e (inl h) = placed_fail i e (f i e h)
+  placed_broke f i e (inr w) = absurd (ok_not_err w.second)
+
+  placed_fails : AllFail p s → AllFail (placed p) (placed_shape s)
+  placed_fails f i e h = placed_broke f i e (bind_err (p i) (λ a. pure (place_at i, a)) e h)
+
+placed_more : {A : Type 0} (p q : Parser A) → More p q → More (placed p) (placed q)
+placed_more p q h i = more_bind (p i) (q i) (λ a. pure (place_at i, a)) (λ a. pure (place_at i, a)) (h i) (λ a j d. refl)
+
+pub placed_law : {A : Type 0} {n : ℕ} {p q : Parser A} {s : Shape A} → Law n p q s → Law n (placed p) (placed q) (placed_shape s)
+placed_law {A} {n} {p} {q} {s} P = record { good = placed_good n p s P.good; fails = placed_fails n p s P.good P.fails; more = placed_more p q P.more }
+
+-- ---- a phrase or nothing, by the next token
+
+abbrev pub maybe : {A : Type 0} → (Option Kind → Bool) → Parser A → Parser (Option A)
+maybe {A} test p = λ i. cond {A = Outcome (Option A)} (test (kind i)) ((p >>= (λ a. pure (Some a))) i) (Ok (None, i))
+
+abbrev pub maybe_marks : {A : Type 0} → Shape A → Option A → List Mark
+maybe_marks s None = []
+maybe_marks s (Some a) = s.marks a
+
+abbrev pub maybe_tag : {A : Type 0} (s : Shape A) → Option A → Option s.Tag
+maybe_tag s None = None
+maybe_tag s (Some a) = Some (s.tag a)
+
+abbrev pub maybe_depth : {A : Type 0} → Shape A → Option A → ℕ
+maybe_depth s None = 0
+maybe_depth s (Some a) = s.depth a
+
+abbrev pub maybe_fits : {A : Type 0} → Shape A → Option A → Type 0
+maybe_fits s None = Unit {0}
+maybe_fits s (Some a) = s.fits a
+
+abbrev pub maybe_shape : {A : Type 0} → (Option Kind → Bool) → Shape A → Shape (Option A)
+maybe_shape test s = record {
+  marks = maybe_marks s;
+  Tag = Option s.Tag;
+  tag = maybe_tag s;
+  depth = maybe_depth s;
+  fits = maybe_fits s;
+  closes = λ k. s.closes k × (test k ≡ false);
+  begins = λ F k. (test k ≡ true) ⊎ F k;
+}
+
+-- whatever the phrase begins with passes the test
+abbrev pub Passes : {A : Type 0} → (Option Kind → Bool) → Shape A → Type 1
+Passes test s = (F : Option Kind → Type 0) (k : Option Kind) → s.begins F k → test k ≡ true
+
+module _ {A : Type 0} (n : ℕ) (test : Option Kind → Bool) (p : Parser A) (s : Shape A) (P : Good n p s) (passes : Passes test s) where
+  maybe_some : (i : Input) (a : A) (j : Input) → test (kind i) ≡ true → p i ≡ Ok (a, j) → maybe test p i ≡ Ok (Some a, j)
+  maybe_some i a j t h = rw (t, h) refl
+
+  maybe_none : (i j : Input) → i ≡ j → test (kind j) ≡ false → maybe test p i ≡ Ok (None, j)
+  maybe_none i j h e = let e' : test (kind i) ≡ false = ap (λ x. test (kind x)) h ∙ e in rw (e', h) refl
+
+  maybe_read : (i : Input) (a : A) (j : Input) → Accepts p s a i j → Accepts (maybe test p) (maybe_shape test s) (Some a) i j
+  maybe_read i a j x =
+      let b = P.sound i x.value j x.is in
+      let t = passes Any (kind i) (P.front i x.value j Any b.deep b.takes tt) in
+      record { value = Some x.value; is = maybe_some i x.value j t x.is; same = ap Some x.same }
+
+  maybe_sound : (i : Input) (o : Option A) (j : Input) (b : Bool) → test (kind i) ≡ b → cond {A = Outcome (Option A)} b ((p >>= (λ a. pure (Some a))) i) (Ok (None, i)) ≡ Ok (o, j) → Sound (maybe test p) (maybe_shape test s) n i o j
+  maybe_sound i o j true e h =
+      let w = bind_ok (p i) (λ a. pure (Some a)) o j h in
+      let a = P.sound i w.value w.mid w.first in
+      let some : Sound (maybe test p) (maybe_shape test s) n i (Some w.value) w.mid = record {
+        takes = a.takes;
+        fits = a.fits;
+        deep = a.deep;
+        again = λ i' j' b c. maybe_read i' w.value j' (a.again i' j' b c);
+        before = λ tail. let x = a.before tail in record { start = x.start; begins = x.begins };
+      } in
+      subst (λ (x : Option A × Input). Sound (maybe test p) (maybe_shape test s) n i x.0 x.1) (ok_one w.second) some
+  maybe_sound i o j false e h =
+      let none : Sound (maybe test p) (maybe_shape test s) n i None i = record {
+        takes = refl;
+        fits = tt;
+        deep = omega arith;
+        again = λ i' j' b c. record { value = None; is = maybe_none i' j' b (ap test c ∙ e); same = refl };
+        before = λ tail. record { start = tail; begins = refl };
+      } in
+      subst (λ (x : Option A × Input). Sound (maybe test p) (maybe_shape test s) n i x.0 x.1) (ok_one h) none
+
+  maybe_complete : (i : Input) (o : Option A) (j : Input) → maybe_fits s o → maybe_depth s o ≤ n → Takes (maybe_marks s o) i j → s.closes (kind j) × (test (kind j) ≡ false) → maybe test p i ≡ Ok (o, j)
+  maybe_complete i None j fits d h e = maybe_none i j h e.1
+  maybe_complete i (Some a) j fits d h e = maybe_some i a j (passes Any (kind i) (P.front i a j Any d h tt)) (P.complete i a j fits d h e.0)
+
+  maybe_accepts : (i : Input) (o : Option A) (j : Input) → maybe_fits s o → maybe_depth s o ≤ n → Begins (maybe_marks s o) i j → s.closes (kind j) × (test (kind j) ≡ false) → Accepts (maybe test p) (maybe_shape test s) o i j
+  maybe_accepts i None j fits d h e = record { value = None; is = maybe_none i j h e.1; same = refl }
+  maybe_accepts i (Some a) j fits d h e = maybe_read i a j (P.accepts i a j fits d h e.0)
+
+  maybe_front : (i : Input) (o : Option A) (j : Input) (F : Option Kind → Type 0) → maybe_depth s o ≤ n → Takes (maybe_marks s o) i j → F (kind j) → (test (kind i) ≡ true) ⊎ F (kind i)
+  maybe_front i None j F d h e = inr (subst (λ x. F (kind x)) (sym h) e)
+  maybe_front i (Some a) j F d h e = inl (passes Any (kind i) (P.front i a j Any d h tt))
+
+  pub maybe_good : Good n (maybe test p) (maybe_shape test s)
+  maybe_good = record {
+    sound = λ i o j h. maybe_sound i o j (test (kind i)) refl h;
+    complete = maybe_complete;
+    accepts = maybe_accepts;
+    front = maybe_front;
+    sample = λ tail h. record { whole = tail; value = None; takes = refl; starts = λ F k. inr k };
+  }
+
+  maybe_fail : (i : Input) (e : Stop) → test (kind i) ≡ true → Fails p s i e → Fails (maybe test p) (maybe_shape test s) i e
+  maybe_fail i e t f = record {
+    front = f.front;
+    stop = f.stop;
+    begins = f.begins;
+    position = f.position;
+    again = λ j m b c.
+        let x = f.again j m b c in
+        let same = stop_front e f.front i f.stop j m i f.stop f.position f.begins b c in
+        let t' : test (kind j) ≡ true = ap test same ∙ t in
+        let first = x.is in
+        record { fault = x.fault; is = rw (t', first) refl; like = x.like };
+    viable = λ tail h.
+        let a = f.viable tail h.0 in
+        record { whole = a.whole; mid = a.mid; value = Some a.value; begins = a.begins; takes = a.takes; starts = λ F k. inl (passes F (kind a.whole) (a.starts F k)) };
+  }
+
+  maybe_broke : (i : Input) (e : Stop) → (p i ≡ Err e → Fails p s i e) → (b : Bool) → test (kind i) ≡ b → cond {A = Outcome (Option A)} b ((p >>= (λ a. pure (Some a))) i) (Ok (None, i)) ≡ Err e → Fails (maybe test p) (maybe_shape test s) i e
+  maybe_broke i e f true t h = maybe_broke_at (bind_err (p i) (λ a. pure (Some a)) e h) where
+    maybe_broke_at : (p i ≡ Err e) ⊎ Broke {B = Option A} (p i) (λ a. pure (Some a)) e → Fails (maybe test p) (maybe_shape test s) i e
+    maybe_broke_at (inl c) = maybe_fail i e t (f c)
+    maybe_broke_at (inr w) = absurd (ok_not_err w.second)
+  maybe_broke i e f false t h = absurd (ok_not_err h)
+
+  pub maybe_fails_at : (i : Input) (e : Stop) → (p i ≡ Err e → Fails p s i e) → maybe test p i ≡ Err e → Fails (maybe test p) (maybe_shape test s) i e
+  maybe_fails_at i e f h = maybe_broke i e f (test (kind i)) refl h
+
+pub maybe_more : {A : Type 0} (test : Option Kind → Bool) (p q : Parser A) → More p q → More (maybe test p) (maybe test q)
+maybe_more {A} test p q h i = more_test {A = Option A} (test (kind i)) ((p >>= (λ a. pure (Some a))) i) (Ok (None, i)) ((q >>= (λ a. pure (Some a))) i) (Ok (None, i))
+    (more_bind (p i) (q i) (λ a. pure (Some a)) (λ a. pure (Some a)) (h i) (λ a j d. refl)) (λ d. refl)
+
+pub maybe_law : {A : Type 0} {n : ℕ} {p q : Parser A} {s : Shape A} (test : Option Kind → Bool) → Law n p q s → Passes test s → Law n (maybe test p) (maybe test q) (maybe_shape test s)
+maybe_law {A} {n} {p} {q} {s} test P passes = record {
+  good = maybe_good n test p s P.good passes;
+  fails = λ i e. maybe_fails_at n test p s P.good passes i e (P.fails i e);
+  more = maybe_more test p q P.more;
+}
+
+-- ---- one of two phrases, by the next token
+
+abbrev pub either : {A B : Type 0} → (Option Kind → Bool) → Parser A → Parser B → Parser (A ⊎ B)
+either {A} {B} test p q = λ i. cond {A = Outcome (A ⊎ B)} (test (kind i)) ((p >>= (λ a. pure (inl a))) i) ((q >>= (λ b. pure (inr b))) i)
+
+abbrev pub by_side {ℓ} : {A B : Type 0} {X : Type ℓ} → (A → X) → (B → X) → A ⊎ B → X
+by_side f g (inl a) = f a
+by_side f g (inr b) = g b
+
+abbrev pub either_shape : {A B : Type 0} → Shape A → Shape B → Shape (A ⊎ B)
+either_shape s t = record {
+  marks = by_side s.marks t.marks;
+  Tag = s.Tag ⊎ t.Tag;
+  tag = by_side (λ a. inl (s.tag a)) (λ b. inr (t.tag b));
+  depth = by_side s.depth t.depth;
+  fits = by_side s.fits t.fits;
+  closes = λ k. s.closes k × t.closes k;
+  begins = λ F k. s.begins F k ⊎ t.begins F k;
+}
+
+-- nothing that the phrase begins with passes the test
+abbrev pub Misses : {A : Type 0} → (Option Kind → Bool) → Shape A → Type 1
+Misses test s = (F : Option Kind → Type 0) (k : Option Kind) → s.begins F k → test k ≡ false
+
+module _ {A B : Type 0} (n : ℕ) (test : Option Kind → Bool) (p : Parser A) (s : Shape A) (q : Parser B) (t : Shape B) (P : Good n p s) (Q : Good n q t) (passes : Passes test s) (misses : Misses test t) where
+  either_left : (i : Input) (a : A) (j : Input) → test (kind i) ≡ true → p i ≡ Ok (a, j) → either test p q i ≡ Ok (inl a, j)
+  either_left i a j b h = rw (b, h) refl
+
+  either_right : (i : Input) (a : B) (j : Input) → test (kind i) ≡ false → q i ≡ Ok (a, j) → either test p q i ≡ Ok (inr a, j)
+  either_right i a j b h = rw (b, h) refl
+
+  left_read : (i : Input) (a : A) (j : Input) → Accepts p s a i j → Accepts (either test p q) (either_shape s t) (inl a) i j
+  left_read i a j x =
+      let b = P.sound i x.value j x.is in
+      let c = passes Any (kind i) (P.front i x.value j Any b.deep b.takes tt) in
+      record { value = inl x.value; is = either_left i x.value j c x.is; same = ap inl x.same }
+
+  right_read : (i : Input) (a : B) (j : Input) → Accepts q t a i j → Accepts (either test p q) (either_shape s t) (inr a) i j
+  right_read i a j x =
+      let b = Q.sound i x.value j x.is in
+      let c = misses Any (kind i) (Q.front i x.value j Any b.deep b.takes tt) in
+      record { value = inr x.value; is = either_right i x.value j c x.is; same = ap inr x.same }
+
+  either_sound : (i : Input) (c : A ⊎ B) (j : Input) (b : Bool) → cond {A = Outcome (A ⊎ B)} b ((p >>= (λ a. pure (inl a))) i) ((q >>= (λ x. pure (inr x))) i) ≡ Ok (c, j) → Sound (either test p q) (either_shape s t) n i c j
+  either_sound i c j true h =
+      let w = bind_ok (p i) (λ a. pure (inl a)) c j h in
+      let a = P.sound i w.value w.mid w.first in
+      let left : Sound (either test p q) (either_shape s t) n i (inl w.value) w.mid = record {
+        takes = a.takes;
+        fits = a.fits;
+        deep = a.deep;
+        again = λ i' j' b c. left_read i' w.value j' (a.again i' j' b c);
+        before = λ tail. let x = a.before tail in record { start = x.start; begins = x.begins };
+      } in
+      subst (λ (x : (A ⊎ B) × Input). Sound (either test p q) (either_shape s t) n i x.0 x.1) (ok_one w.second) left
+  either_sound i c j false h =
+      let w = bind_ok (q i) (λ a. pure (inr a)) c j h in
+      let a = Q.sound i w.value w.mid w.first in
+      let right : Sound (either test p q) (either_shape s t) n i (inr w.value) w.mid = record {
+        takes = a.takes;
+        fits = a.fits;
+        deep = a.deep;
+        again = λ i' j' b c. right_read i' w.value j' (a.again i' j' b c);
+        before = λ tail. let x = a.before tail in record { start = x.start; begins = x.begins };
+      } in
+      subst (λ (x : (A ⊎ B) × Input). Sound (either test p q) (either_shape s t) n i x.0 x.1) (ok_one w.second) right
+
+  either_complete : (i : Input) (c : A ⊎ B) (j : Input) → by_side s.fits t.fits c → by_side s.depth t.depth c ≤ n → Takes (by_side s.marks t.marks c) i j → s.closes (kind j) × t.closes (kind j) → either test p q i ≡ Ok (c, j)
+  either_complete i (inl a) j fits d h e = either_left i a j (passes Any (kind i) (P.front i a j Any d h tt)) (P.complete i a j fits d h e.0)
+  either_complete i (inr a) j fits d h e = either_right i a j (misses Any (kind i) (Q.front i a j Any d h tt)) (Q.complete i a j fits d h e.1)
+
+  either_accepts : (i : Input) (c : A ⊎ B) (j : Input) → by_side s.fits t.fits c → by_side s.depth t.depth c ≤ n → Begins (by_side s.marks t.marks c) i j → s.closes (kind j) × t.closes (kind j) → Accepts (either test p q) (either_shape s t) c i j
+  either_accepts i (inl a) j fits d h e = left_read i a j (P.accepts i a j fits d h e.0)
+  either_accepts i (inr a) j fits d h e = right_read i a j (Q.accepts i a j fits d h e.1)
+
+  either_front : (i : Input) (c : A ⊎ B) (j : Input) (F : Option Kind → Type 0) → by_side s.depth t.depth c ≤ n → Takes (by_side s.marks t.marks c) i j → F (kind j) → s.begins F (kind i) ⊎ t.begins F (kind i)
+  either_front i (inl a) j F d h e = inl (P.front i a j F d h e)
+  either_front i (inr a) j F d h e = inr (Q.front i a j F d h e)
+
+  either_good : Good n (either test p q) (either_shape s t)
+  either_good = record {
+    sound = λ i c j h. either_sound i c j (test (kind i)) h;
+    complete = either_complete;
+    accepts = either_accepts;
+    front = either_front;
+    sample = λ tail h. let a = Q.sample tail h.1 in record { whole = a.whole; value = inr a.value; takes = a.takes; starts = λ F k. inr (a.starts F k) };
+  }
+
+  left_fail : (i : Input) (e : Stop) → test (kind i) ≡ true → Fails p s i e → Fails (either test p q) (either_shape s t) i e
+  left_fail i e b f = record {
+    front = f.front;
+    stop = f.stop;
+    begins = f.begins;
+    position = f.position;
+    again = λ j m h c.
+        let x = f.again j m h c in
+        let same = stop_front e f.front i f.stop j m i f.stop f.position f.begins h c in
+        let b' : test (kind j) ≡ true = ap test same ∙ b in
+        let first = x.is in
+        record { fault = x.fault; is = rw (b', first) refl; like = x.like };
+    viable = λ tail h.
+        let a = f.viable tail h.0 in
+        record { whole = a.whole; mid = a.mid; value = inl a.value; begins = a.begins; takes = a.takes; starts = λ F k. inl (a.starts F k) };
+  }
+
+  right_fail : (i : Input) (e : Stop) → test (kind i) ≡ false → Fails q t i e → Fails (either test p q) (either_shape s t) i e
+  right_fail i e b f = record {
+    front = f.front;
+    stop = f.stop;
+    begins = f.begins;
+    position = f.position;
+    again = λ j m h c.
+        let x = f.again j m h c in
+        let same = stop_front e f.front i f.stop j m i f.stop f.position f.begins h c in
+        let b' : test (kind j) ≡ false = ap test same ∙ b in
+        let first = x.is in
+        record { fault = x.fault; is = rw (b', first) refl; like = x.like };
+    viable = λ tail h.
+        let a = f.viable tail h.1 in
+        record { whole = a.whole; mid = a.mid; value = inr a.value; begins = a.begins; takes = a.takes; starts = λ F k. inr (a.starts F k) };
+  }
+
+  either_broke : AllFail p s → AllFail q t → (i : Input) (e : Stop) (b : Bool) → test (kind i) ≡ b → cond {A = Outcome (A ⊎ B)} b ((p >>= (λ a. pure (inl a))) i) ((q >>= (λ x. pure (inr x))) i) ≡ Err e → Fails (either test p q) (either_shape s t) i e
+  either_broke f g i e true b h = left_broke (bind_err (p i) (λ a. pure (inl a)) e h) where
+    left_broke : (p i ≡ Err e) ⊎ Broke {B = A ⊎ B} (p i) (λ a. pure (inl a)) e → Fails (either test p q) (either_shape s t) i e
+    left_broke (inl c) = left_fail i e b (f i e c)
+    left_broke (inr w) = absurd (ok_not_err w.second)
+  either_broke f g i e false b h = right_broke (bind_err (q i) (λ a. pure (inr a)) e h) where
+    right_broke : (q i ≡ Err e) ⊎ Broke {B = A ⊎ B} (q i) (λ a. pure (inr a)) e → Fails (either test p q) (either_shape s t) i e
+    right_broke (inl c) = right_fail i e b (g i e c)
+    right_broke (inr w) = absurd (ok_not_err w.second)
+
+  either_fails : AllFail p s → AllFail q t → AllFail (either test p q) (either_shape s t)
+  either_fails f g i e h = either_broke f g i e (test (kind i)) refl h
+
+either_more : {A B : Type 0} (test : Option Kind → Bool) (p p' : Parser A) (q q' : Parser B) → More p p' → More q q' → More (either test p q) (either test p' q')
+either_more {A} {B} test p p' q q' h k i = more_test {A = A ⊎ B} (test (kind i)) ((p >>= (λ a. pure (inl a))) i) ((q >>= (λ b. pure (inr b))) i) ((p' >>= (λ a. pure (inl a))) i) ((q' >>= (λ b. pure (inr b))) i)
+    (more_bind (p i) (p' i) (λ a. pure (inl a)) (λ a. pure (inl a)) (h i) (λ a j d. refl))
+    (more_bind (q i) (q' i) (λ a. pure (inr a)) (λ a. pure (inr a)) (k i) (λ a j d. refl))
+
+-- the sample is the second's
+pub either_law : {A B : Type 0} {n : ℕ} {p p' : Parser A} {s : Shape A} {q q' : Parser B} {t : Shape B} (test : Option Kind → Bool) → Law n p p' s → Law n q q' t → Passes test s → Misses test t → Law n (either test p q) (either test p' q') (either_shape s t)
+either_law {A} {B} {n} {p} {p'} {s} {q} {q'} {t} test P Q passes misses = record {
+  good = either_good n test p s q t P.good Q.good passes misses;
+  fails = either_fails n test p s q t P.good Q.good passes misses P.fails Q.fails;
+  more = either_more test p p' q q' P.more Q.more;
+}
+
+-- ---- a phrase made into another value
+
+abbrev pub mapped : {A C : Type 0} → (A → C) → Parser A → Parser C
+mapped to p = p >>= (λ a. pure (to a))
+
+-- the same phrase, seen as another value
+abbrev pub mapped_shape : {A C : Type 0} → (C → List Mark) → (C → ℕ) → (C → A) → Shape A → Shape C
+mapped_shape marks depth from s = record {
+  marks = marks;
+  Tag = s.Tag;
+  tag = λ c. s.tag (from c);
+  depth = depth;
+  fits = λ c. s.fits (from c);
+  closes = s.closes;
+  begins = s.begins;
+}
+
+-- the two values have the same marks and nest as deep, and each gives the other back
+pub record Same {A C : Type 0} (s : Shape A) (marks : C → List Mark) (depth : C → ℕ) (to : A → C) (from : C → A) : Type 0 where
+  pub there : (c : C) → to (from c) ≡ c
+  pub back : (a : A) → from (to a) ≡ a
+  pub spelt : (c : C) → marks c ≡ s.marks (from c)
+  pub deep : (c : C) → depth c ≡ s.depth (from c)
+
+module _ {A C : Type 0} (n : ℕ) (p : Parser A) (s : Shape A) (P : Good n p s) (marks : C → List Mark) (depth : C → ℕ) (to : A → C) (from : C → A) (same : Same s marks depth to from) (read : Parser C) (is : (i : Input) → read i ≡ mapped to p i) where
+  mapped_there : (i : Input) (a : A) (j : Input) → p i ≡ Ok (a, j) → read i ≡ Ok (to a, j)
+  mapped_there i a j h = is i ∙ rw h refl
+
+  mapped_marks : (a : A) → marks (to a) ≡ s.marks a
+  mapped_marks a = same.spelt (to a) ∙ ap s.marks (same.back a)
+
+  mapped_read : (i : Input) (a : A) (c : C) (j : Input) → from c ≡ a → Accepts p s a i j → Accepts read (mapped_shape marks depth from s) c i j
+  mapped_read i a c j e x = record { value = to x.value; is = mapped_there i x.value j x.is; same = ap s.tag (same.back x.value) ∙ (x.same ∙ ap s.tag (sym e)) }
+
+  mapped_good : Good n read (mapped_shape marks depth from s)
+  mapped_good = record {
+    sound = λ i c j h.
+        let w = bind_ok (p i) (λ a. pure (to a)) c j (sym (is i) ∙ h) in
+        let a = P.sound i w.value w.mid w.first in
+        let made : Sound read (mapped_shape marks depth from s) n i (to w.value) w.mid = record {
+          takes = subst (λ ms. Takes ms i w.mid) (sym (mapped_marks w.value)) a.takes;
+          fits = subst s.fits (sym (same.back w.value)) a.fits;
+          deep = subst (λ d. d ≤ n) (sym (same.deep (to w.value) ∙ ap s.depth (same.back w.value))) a.deep;
+          again = λ i' j' b e. mapped_read i' w.value (to w.value) j' (same.back w.value) (a.again i' j' (subst (λ ms. Begins ms i' j') (mapped_marks w.value) b) e);
+          before = λ tail. let x = a.before tail in record { start = x.start; begins = subst (λ ms. Begins ms x.start tail) (sym (mapped_marks w.value)) x.begins };
+        } in
+        subst (λ (x : C × Input). Sound read (mapped_shape marks depth from s) n i x.0 x.1) (ok_one w.second) made;
+    complete = λ i c j fits d h e.
+        let first = P.complete i (from c) j fits (subst (λ x. x ≤ n) (same.deep c) d) (subst (λ ms. Takes ms i j) (same.spelt c) h) e in
+        mapped_there i (from c) j first ∙ ap (λ x. Ok (x, j)) (same.there c);
+    accepts = λ i c j fits d h e. mapped_read i (from c) c j refl (P.accepts i (from c) j fits (subst (λ x. x ≤ n) (same.deep c) d) (subst (λ ms. Begins ms i j) (same.spelt c) h) e);
+    front = λ i c j F d h e. P.front i (from c) j F (subst (λ x. x ≤ n) (same.deep c) d) (subst (λ ms. Takes ms i j) (same.spelt c) h) e;
+    sample = λ tail h.
+        let a = P.sample tail h in
+        record { whole = a.whole; value = to a.value; takes = subst (λ ms. Takes ms a.whole tail) (sym (mapped_marks a.value)) a.takes; starts = a.starts };
+  }
+
+  mapped_fail : (i : Input) (e : Stop) → Fails p s i e → Fails read (mapped_shape marks depth from s) i e
+  mapped_fail i e f = record {
+    front = f.front;
+    stop = f.stop;
+    begins = f.begins;
+    position = f.position;
+    again = λ j m h c. let x = f.again j m h c in record { fault = x.fault; is = is j ∙ rw x.is refl; like = x.like };
+    viable = λ tail h.
+        let a = f.viable tail h in
+        record { whole = a.whole; mid = a.mid; value = to a.value; begins = a.begins; takes = subst (λ ms. Takes ms a.whole tail) (sym (mapped_marks a.value)) a.takes; starts = a.starts };
+  }
+
+  mapped_broke : (i : Input) (e : Stop) → (p i ≡ Err e → Fails p s i e) → (p i ≡ Err e) ⊎ Broke {B = C} (p i) (λ a. pure (to a)) e → Fails read (mapped_shape marks depth from s) i e
+  mapped_broke i e f (inl h) = mapped_fail i e (f h)
+  mapped_broke i e f (inr w) = absurd (ok_not_err w.second)
+
+  pub mapped_fails_at : (i : Input) (e : Stop) → (p i ≡ Err e → Fails p s i e) → read i ≡ Err e → Fails read (mapped_shape marks depth from s) i e
+  mapped_fails_at i e f h = mapped_broke i e f (bind_err (p i) (λ a. pure (to a)) e (sym (is i) ∙ h))
+
+pub mapped_more : {A C : Type 0} (to : A → C) (p q : Parser A) → More p q → More (mapped to p) (mapped to q)
+mapped_more to p q h i = more_bind (p i) (q i) (λ a. pure (to a)) (λ a. pure (to a)) (h i) (λ a j d. refl)
+
+-- readers that give the same as others
+pub more_as : {A : Type 0} (p p' q q' : Parser A) → ((i : Input) → p' i ≡ p i) → ((i : Input) → q' i ≡ q i) → More p q → More p' q'
+more_as p p' q q' e f h i d = e i ∙ (h i (ap (λ o. nests_too_deep o) (sym (e i)) ∙ d) ∙ sym (f i))
+
+pub mapped_law : {A C : Type 0} {n : ℕ} {p q : Parser A} {s : Shape A} → Law n p q s → (marks : C → List Mark) (depth : C → ℕ) (to : A → C) (from : C → A) → Same s marks depth to from →
+    (read above : Parser C) → ((i : Input) → read i ≡ mapped to p i) → ((i : Input) → above i ≡ mapped to q i) → Law n read above (mapped_shape marks depth from s)
+mapped_law {A} {C} {n} {p} {q} {s} P marks depth to from same read above is are = record {
+  good = mapped_good n p s P.good marks depth to from same read is;
+  fails = λ i e. mapped_fails_at n p s P.good marks depth to from same read is i e (P.fails i e);
+  more = more_as (mapped to p) read (mapped to q) above is are (mapped_more to p q P.more);
+}
+
+-- ---- the same phrase with its shape written otherwise
+
+pub record Reshaped {A : Type 0} (s u : Shape A) : Type 1 where
+  pub marks : (a : A) → u.marks a ≡ s.marks a
+  pub tags : (a b : A) → s.tag a ≡ s.tag b → u.tag a ≡ u.tag b
+  pub depth : (a : A) → u.depth a ≡ s.depth a
+  pub fits_to : (a : A) → s.fits a → u.fits a
+  pub fits_from : (a : A) → u.fits a → s.fits a
+  pub closes : (k : Option Kind) → u.closes k → s.closes k
+  pub begins : (F : Option Kind → Type 0) (k : Option Kind) → s.begins F k → u.begins F k
+
+module _ {A : Type 0} (n : ℕ) (p : Parser A) (s u : Shape A) (r : Reshaped s u) where
+  retagged : (a : A) (i j : Input) → Accepts p s a i j → Accepts p u a i j
+  retagged a i j x = record { value = x.value; is = x.is; same = r.tags x.value a x.same }
+
+  pub reshaped_good : Good n p s → Good n p u
+  reshaped_good P = record {
+    sound = λ i a j e.
+        let x = P.sound i a j e in
+        record {
+          takes = subst (λ ms. Takes ms i j) (sym (r.marks a)) x.takes;
+          fits = r.fits_to a x.fits;
+          deep = subst (λ d. d ≤ n) (sym (r.depth a)) x.deep;
+          again = λ i' j' b c. retagged a i' j' (x.again i' j' (subst (λ ms. Begins ms i' j') (r.marks a) b) c);
+          before = λ tail. let y = x.before tail in record { start = y.start; begins = subst (λ ms. Begins ms y.start tail) (sym (r.marks a)) y.begins };
+        };
+    complete = λ i a j fits d t e. P.complete i a j (r.fits_from a fits) (subst (λ x. x ≤ n) (r.depth a) d) (subst (λ ms. Takes ms i j) (r.marks a) t) (r.closes (kind j) e);
+    accepts = λ i a j fits d t e. retagged a i j (P.accepts i a j (r.fits_from a fits) (subst (λ x. x ≤ n) (r.depth a) d) (subst (λ ms. Begins ms i j) (r.marks a) t) (r.closes (kind j) e));
+    front = λ i a j F d t e. r.begins F (kind i) (P.front i a j F (subst (λ x. x ≤ n) (r.depth a) d) (subst (λ ms. Takes ms i j) (r.marks a) t) e);
+    sample = λ tail e.
+        let a = P.sample tail (r.closes (kind tail) e) in
+        record { whole = a.whole; value = a.value; takes = subst (λ ms. Takes ms a.whole tail) (sym (r.marks a.value)) a.takes; starts = λ F k. r.begins F (kind a.whole) (a.starts F k) };
+  }
+
+  pub reshaped_fails_at : (i : Input) (e : Stop) → Fails p s i e → Fails p u i e
+  reshaped_fails_at i e x = record {
+    front = x.front;
+    stop = x.stop;
+    begins = x.begins;
+    position = x.position;
+    again = x.again;
+    viable = λ tail c.
+        let a = x.viable tail (r.closes (kind tail) c) in
+        record { whole = a.whole; mid = a.mid; value = a.value; begins = a.begins; takes = subst (λ ms. Takes ms a.whole tail) (sym (r.marks a.value)) a.takes; starts = λ F k. r.begins F (kind a.whole) (a.starts F k) };
+  }
+
+pub reshaped_law : {A : Type 0} {n : ℕ} {p q : Parser A} {s u : Shape A} → Law n p q s → Reshaped s u → Law n p q u
+reshaped_law {A} {n} {p} {q} {s} {u} P r = record {
+  good = reshaped_good n p s u r P.good;
+  fails = λ i e h. reshaped_fails_at n p s u r i e (P.fails i e h);
+  more = P.more;
+}

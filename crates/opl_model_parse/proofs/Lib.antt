@@ -1,0 +1,6 @@
+pub mod Outcomes
+pub mod Takes
+pub mod Phrases
+pub mod Forms
+
+

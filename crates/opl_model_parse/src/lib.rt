@@ -1,0 +1,2 @@
+//! The parser of whole models: from the tokens of a text to their tree.
+#![tactic(auto)]
