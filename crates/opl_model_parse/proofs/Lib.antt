@@ -2,5 +2,7 @@ pub mod Outcomes
 pub mod Takes
 pub mod Phrases
 pub mod Forms
+pub mod Levels
+pub mod Toy
 
 

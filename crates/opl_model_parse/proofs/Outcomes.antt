@@ -1,5 +1,5 @@
 -- What an outcome of two steps says of each.
-use Rattle.std.proofs.Common.{◌≡◌, ◌⊎◌, inl, inr, Result, Ok, Err, refl}
+use Rattle.std.proofs.Common.{◌≡◌, ◌⊎◌, inl, inr, Bool, true, false, cond, Result, Ok, Err, refl}
 use Rattle.opl_model_parse.specs.Input.{Input, Stop, Outcome, Parser, and_then}
 
 pub ok_one : {X : Type 0} {x y : X} → ◌≡◌ {A = Result X Stop} (Ok x) (Ok y) → x ≡ y
@@ -40,3 +40,9 @@ and_then_assoc (Err e) f g = refl
 pub and_then_pure : {X : Type 0} (o : Outcome X) → and_then o (λ x. λ i. Ok (x, i)) ≡ o
 and_then_pure (Ok c) = refl
 and_then_pure (Err at) = refl
+
+pub and_then_cond : {A B : Type 0} (b : Bool) (o u : Outcome A) (f : A → Parser B) → and_then (cond {A = Outcome A} b o u) f ≡ cond {A = Outcome B} b (and_then o f) (and_then u f)
+and_then_cond true o u f = refl
+and_then_cond false o u f = refl
+
+pub ruleset steps = (and_then_assoc, and_then_cond)
