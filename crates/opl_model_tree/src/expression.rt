@@ -57,9 +57,9 @@ pub enum NegTree {
 #[derive(Drop)]
 #[cycle(expressions)]
 pub enum CompareTree {
-    Single(u32, AddTree),
-    Related(u32, AddTree, Relation, AddTree),
-    Member(u32, AddTree, SetTree),
+    Single(u32, Boxed<AddTree>),
+    Related(u32, Boxed<AddTree>, Relation, Boxed<AddTree>),
+    Member(u32, Boxed<AddTree>, Boxed<SetTree>),
 }
 
 /// `MUL + MUL - ..`
@@ -185,7 +185,7 @@ pub struct KeyedTree {
 pub struct SetTree {
     pub at: u32,
     pub low: AddTree,
-    pub high: Option<AddTree>,
+    pub high: Option<Boxed<AddTree>>,
 }
 
 /// `GROUP, GROUP & ..`, with or without `: EXPR`

@@ -3,8 +3,10 @@
 
 mod declaration;
 mod expression;
+mod fault;
 mod instruction;
 mod keyword;
+pub mod laws;
 mod model;
 mod search;
 
@@ -19,8 +21,9 @@ pub use expression::{
     OpenTree, OrTree, ParamsTree, PatternTree, PostTree, PrimTree, QuestionOp, Relation, SetTree,
     SignTree, SubscriptsTree, SuffixTree,
 };
+pub use fault::SyntaxFault;
 pub use instruction::{BlockTree, InstrTree, ItemTree, ItemsTree, Optimum, RequiresTree};
-pub use keyword::Keyword;
+pub use keyword::{KEYWORDS, Keyword, keyword_of};
 pub use model::ModelTree;
 pub use opl_list::{Boxed, Seq};
 pub use opl_token::Name;
