@@ -3,6 +3,6 @@ pub mod Takes
 pub mod Phrases
 pub mod Forms
 pub mod Levels
-pub mod Toy
+pub mod Lists
 
 
