@@ -120,7 +120,7 @@ unfolding depth_mul depth_open depth_sign depth_mul_step depth_last_step
 depth_mul-Product at head rest None = ap depth_mul (sym (muls.rolls-Product at head rest None)) ∙ rw fold-roll-MulTree refl
 depth_mul-Product at head rest (Some last) = ap depth_mul (sym (muls.rolls-Product at head rest (Some last))) ∙ rw fold-roll-MulTree refl
 
-pub depth_neg-Not : (at : ℕ) (inner : NegTree) → depth_neg (negs.Not at inner) ≡ 1 + (depth_neg inner)
+pub depth_neg-Not : (at : ℕ) (inner : NegTree) → depth_neg (negs.Not at inner) ≡ 1 + depth_neg inner
 unfolding depth_neg depth_compare
 depth_neg-Not at inner = ap depth_neg (sym (negs.rolls-Not at inner)) ∙ rw fold-roll-NegTree refl
 
@@ -128,11 +128,11 @@ pub depth_neg-Compare : (inner : CompareTree) → depth_neg (negs.Compare inner)
 unfolding depth_neg depth_compare
 depth_neg-Compare inner = ap depth_neg (sym (negs.rolls-Compare inner)) ∙ rw fold-roll-NegTree refl
 
-pub depth_open-NegativeOpen : (at : ℕ) (inner : OpenTree) → depth_open (opens.NegativeOpen at inner) ≡ 1 + (depth_open inner)
+pub depth_open-NegativeOpen : (at : ℕ) (inner : OpenTree) → depth_open (opens.NegativeOpen at inner) ≡ 1 + depth_open inner
 unfolding depth_open depth_params depth_mul
 depth_open-NegativeOpen at inner = ap depth_open (sym (opens.rolls-NegativeOpen at inner)) ∙ rw fold-roll-OpenTree refl
 
-pub depth_open-Aggregate : (at : ℕ) (op : AggregateOp) (params : ParamsTree) (body : MulTree) → depth_open (opens.Aggregate at op params body) ≡ 1 + (max (1 + (depth_params params)) (depth_mul body))
+pub depth_open-Aggregate : (at : ℕ) (op : AggregateOp) (params : ParamsTree) (body : MulTree) → depth_open (opens.Aggregate at op params body) ≡ 1 + max (1 + depth_params params) (depth_mul body)
 unfolding depth_open depth_params depth_mul
 depth_open-Aggregate at op params body = ap depth_open (sym (opens.rolls-Aggregate at op params body)) ∙ rw fold-roll-OpenTree refl
 
@@ -144,43 +144,43 @@ pub depth_prim-Named : (named : NameTree) → depth_prim (prims.Named named) ≡
 unfolding depth_prim depth_expr depth_add depth_params depth_keyed depth_post
 depth_prim-Named named = ap depth_prim (sym (prims.rolls-Named named)) ∙ rw fold-roll-PrimTree refl
 
-pub depth_prim-Bracket : (at : ℕ) (inner : ExprTree) → depth_prim (prims.Bracket at inner) ≡ 1 + (depth_expr inner)
+pub depth_prim-Bracket : (at : ℕ) (inner : ExprTree) → depth_prim (prims.Bracket at inner) ≡ 1 + depth_expr inner
 unfolding depth_prim depth_expr depth_add depth_params depth_keyed depth_post
 depth_prim-Bracket at inner = ap depth_prim (sym (prims.rolls-Bracket at inner)) ∙ rw fold-roll-PrimTree refl
 
-pub depth_prim-Record : (at : ℕ) (head : AddTree) (rest : List AddTree) → depth_prim (prims.Record at head rest) ≡ 1 + (max (depth_add head) (greatest (map depth_add rest)))
+pub depth_prim-Record : (at : ℕ) (head : AddTree) (rest : List AddTree) → depth_prim (prims.Record at head rest) ≡ 1 + max (depth_add head) (greatest (map depth_add rest))
 unfolding depth_prim depth_expr depth_add depth_params depth_keyed depth_post
 depth_prim-Record at head rest = ap depth_prim (sym (prims.rolls-Record at head rest)) ∙ rw fold-roll-PrimTree refl
 
-pub depth_prim-Listed : (at : ℕ) (elements : List AddTree) → depth_prim (prims.Listed at elements) ≡ 1 + (greatest (map depth_add elements))
+pub depth_prim-Listed : (at : ℕ) (elements : List AddTree) → depth_prim (prims.Listed at elements) ≡ 1 + greatest (map depth_add elements)
 unfolding depth_prim depth_expr depth_add depth_params depth_keyed depth_post
 depth_prim-Listed at elements = ap depth_prim (sym (prims.rolls-Listed at elements)) ∙ rw fold-roll-PrimTree refl
 
-pub depth_prim-Described : (at : ℕ) (element : AddTree) (params : ParamsTree) → depth_prim (prims.Described at element params) ≡ 1 + (max (depth_add element) (depth_params params))
+pub depth_prim-Described : (at : ℕ) (element : AddTree) (params : ParamsTree) → depth_prim (prims.Described at element params) ≡ 1 + max (depth_add element) (depth_params params)
 unfolding depth_prim depth_expr depth_add depth_params depth_keyed depth_post
 depth_prim-Described at element params = ap depth_prim (sym (prims.rolls-Described at element params)) ∙ rw fold-roll-PrimTree refl
 
-pub depth_prim-Array : (at : ℕ) (elements : List AddTree) → depth_prim (prims.Array at elements) ≡ 1 + (greatest (map depth_add elements))
+pub depth_prim-Array : (at : ℕ) (elements : List AddTree) → depth_prim (prims.Array at elements) ≡ 1 + greatest (map depth_add elements)
 unfolding depth_prim depth_expr depth_add depth_params depth_keyed depth_post
 depth_prim-Array at elements = ap depth_prim (sym (prims.rolls-Array at elements)) ∙ rw fold-roll-PrimTree refl
 
-pub depth_prim-KeyedArray : (at : ℕ) (elements : List KeyedTree) → depth_prim (prims.KeyedArray at elements) ≡ 1 + (greatest (map depth_keyed elements))
+pub depth_prim-KeyedArray : (at : ℕ) (elements : List KeyedTree) → depth_prim (prims.KeyedArray at elements) ≡ 1 + greatest (map depth_keyed elements)
 unfolding depth_prim depth_expr depth_add depth_params depth_keyed depth_post
 depth_prim-KeyedArray at elements = ap depth_prim (sym (prims.rolls-KeyedArray at elements)) ∙ rw fold-roll-PrimTree refl
 
-pub depth_prim-Call : (at : ℕ) (op : CallOp) (argument : ExprTree) → depth_prim (prims.Call at op argument) ≡ 1 + (depth_expr argument)
+pub depth_prim-Call : (at : ℕ) (op : CallOp) (argument : ExprTree) → depth_prim (prims.Call at op argument) ≡ 1 + depth_expr argument
 unfolding depth_prim depth_expr depth_add depth_params depth_keyed depth_post
 depth_prim-Call at op argument = ap depth_prim (sym (prims.rolls-Call at op argument)) ∙ rw fold-roll-PrimTree refl
 
-pub depth_prim-AllDifferent : (at : ℕ) (argument : AddTree) → depth_prim (prims.AllDifferent at argument) ≡ 1 + (depth_add argument)
+pub depth_prim-AllDifferent : (at : ℕ) (argument : AddTree) → depth_prim (prims.AllDifferent at argument) ≡ 1 + depth_add argument
 unfolding depth_prim depth_expr depth_add depth_params depth_keyed depth_post
 depth_prim-AllDifferent at argument = ap depth_prim (sym (prims.rolls-AllDifferent at argument)) ∙ rw fold-roll-PrimTree refl
 
-pub depth_prim-Question : (at : ℕ) (op : QuestionOp) (argument : PostTree) → depth_prim (prims.Question at op argument) ≡ 1 + (depth_post argument)
+pub depth_prim-Question : (at : ℕ) (op : QuestionOp) (argument : PostTree) → depth_prim (prims.Question at op argument) ≡ 1 + depth_post argument
 unfolding depth_prim depth_expr depth_add depth_params depth_keyed depth_post
 depth_prim-Question at op argument = ap depth_prim (sym (prims.rolls-Question at op argument)) ∙ rw fold-roll-PrimTree refl
 
-pub depth_sign-Negative : (at : ℕ) (inner : SignTree) → depth_sign (operands.Negative at inner) ≡ 1 + (depth_sign inner)
+pub depth_sign-Negative : (at : ℕ) (inner : SignTree) → depth_sign (operands.Negative at inner) ≡ 1 + depth_sign inner
 unfolding depth_sign depth_post
 depth_sign-Negative at inner = ap depth_sign (sym (operands.rolls-Negative at inner)) ∙ rw fold-roll-SignTree refl
 
@@ -297,11 +297,11 @@ depth_set-of at low (Some high) = rw fold-roll-SetTree refl
 pub depth_set-is : (t : SetTree) → depth_set t ≡ max (depth_add (out-SetTree t).low) (if_any (option_map depth_add (out-SetTree t).high))
 depth_set-is t = ap depth_set (sym (roll-out-SetTree t)) ∙ depth_set-of (out-SetTree t).at (out-SetTree t).low (out-SetTree t).high
 
-pub depth_subscripts-of : (at : ℕ) (first : AddTree) (rest : List AddTree) → depth_subscripts (roll-SubscriptsTree (record { at = at; first = first; rest = rest })) ≡ 1 + (max (depth_add first) (greatest (map depth_add rest)))
+pub depth_subscripts-of : (at : ℕ) (first : AddTree) (rest : List AddTree) → depth_subscripts (roll-SubscriptsTree (record { at = at; first = first; rest = rest })) ≡ 1 + max (depth_add first) (greatest (map depth_add rest))
 unfolding depth_subscripts depth_add
 depth_subscripts-of at first rest = rw fold-roll-SubscriptsTree refl
 
-pub depth_subscripts-is : (t : SubscriptsTree) → depth_subscripts t ≡ 1 + (max (depth_add (out-SubscriptsTree t).first) (greatest (map depth_add (out-SubscriptsTree t).rest)))
+pub depth_subscripts-is : (t : SubscriptsTree) → depth_subscripts t ≡ 1 + max (depth_add (out-SubscriptsTree t).first) (greatest (map depth_add (out-SubscriptsTree t).rest))
 depth_subscripts-is t = ap depth_subscripts (sym (roll-out-SubscriptsTree t)) ∙ depth_subscripts-of (out-SubscriptsTree t).at (out-SubscriptsTree t).first (out-SubscriptsTree t).rest
 
 pub depth_type-Int : (at : ℕ) → depth_type (kinds_of_type.Int at) ≡ 0
@@ -312,7 +312,7 @@ pub depth_type-Named : (named : NameTree) → depth_type (kinds_of_type.Named na
 unfolding depth_type
 depth_type-Named named = ap depth_type (sym (kinds_of_type.rolls-Named named)) ∙ rw fold-roll-TypeTree refl
 
-pub depth_type-Set : (at : ℕ) (inner : TypeTree) → depth_type (kinds_of_type.Set at inner) ≡ 1 + (depth_type inner)
+pub depth_type-Set : (at : ℕ) (inner : TypeTree) → depth_type (kinds_of_type.Set at inner) ≡ 1 + depth_type inner
 unfolding depth_type
 depth_type-Set at inner = ap depth_type (sym (kinds_of_type.rolls-Set at inner)) ∙ rw fold-roll-TypeTree refl
 
@@ -320,7 +320,7 @@ pub depth_dim-is : (t : DimTree) → depth_dim t ≡ depth_set t.set
 unfolding depth_dim
 depth_dim-is t = refl
 
-pub depth_dims-is : (t : DimsTree) → depth_dims t ≡ 1 + (max (depth_dim t.first) (greatest (map depth_dim t.rest)))
+pub depth_dims-is : (t : DimsTree) → depth_dims t ≡ 1 + max (depth_dim t.first) (greatest (map depth_dim t.rest))
 unfolding depth_dims
 depth_dims-is t = refl
 
@@ -356,7 +356,7 @@ pub depth_field-is : (t : FieldTree) → depth_field t ≡ depth_type t.kind
 unfolding depth_field
 depth_field-is t = refl
 
-pub depth_struct-is : (t : StructTree) → depth_struct t ≡ 1 + (max (depth_field t.first) (greatest (map depth_field t.rest)))
+pub depth_struct-is : (t : StructTree) → depth_struct t ≡ 1 + max (depth_field t.first) (greatest (map depth_field t.rest))
 unfolding depth_struct
 depth_struct-is t = refl
 
@@ -376,7 +376,7 @@ pub depth_variable-is : (t : VariableTree) → depth_variable t ≡ max (if_any 
 unfolding depth_variable
 depth_variable-is t = refl
 
-pub depth_activity-is : (t : ActivityTree) → depth_activity t ≡ max (if_any (option_map depth_dims t.dims)) (1 + (max (depth_add t.shortest) (if_any (option_map depth_add t.longest))))
+pub depth_activity-is : (t : ActivityTree) → depth_activity t ≡ max (if_any (option_map depth_dims t.dims)) (1 + max (depth_add t.shortest) (if_any (option_map depth_add t.longest)))
 unfolding depth_activity
 depth_activity-is t = refl
 
@@ -384,7 +384,7 @@ pub depth_unary-is : (t : UnaryTree) → depth_unary t ≡ if_any (option_map de
 unfolding depth_unary
 depth_unary-is t = refl
 
-pub depth_discrete-is : (t : DiscreteTree) → depth_discrete t ≡ max (if_any (option_map depth_dims t.dims)) (1 + (depth_add t.capacity))
+pub depth_discrete-is : (t : DiscreteTree) → depth_discrete t ≡ max (if_any (option_map depth_dims t.dims)) (1 + depth_add t.capacity)
 unfolding depth_discrete
 depth_discrete-is t = refl
 
@@ -436,11 +436,11 @@ pub depth_item-Block : (inner : BlockTree) → depth_item (items.Block inner) �
 unfolding depth_item depth_block depth_items
 depth_item-Block inner = ap depth_item (sym (items.rolls-Block inner)) ∙ rw fold-roll-ItemTree refl
 
-pub depth_item-ForAll : (at : ℕ) (params : ParamsTree) (body : ItemTree) → depth_item (items.ForAll at params body) ≡ 1 + (max (1 + (depth_params params)) (depth_item body))
+pub depth_item-ForAll : (at : ℕ) (params : ParamsTree) (body : ItemTree) → depth_item (items.ForAll at params body) ≡ 1 + max (1 + depth_params params) (depth_item body)
 unfolding depth_item depth_block depth_items
 depth_item-ForAll at params body = ap depth_item (sym (items.rolls-ForAll at params body)) ∙ rw fold-roll-ItemTree refl
 
-pub depth_item-If : (at : ℕ) (condition : ExprTree) (holds : ItemsTree) (fails : Option ItemsTree) → depth_item (items.If at condition holds fails) ≡ 1 + (max (depth_expr condition) (max (depth_items holds) (if_any (option_map depth_items fails))))
+pub depth_item-If : (at : ℕ) (condition : ExprTree) (holds : ItemsTree) (fails : Option ItemsTree) → depth_item (items.If at condition holds fails) ≡ 1 + max (depth_expr condition) (max (depth_items holds) (if_any (option_map depth_items fails)))
 unfolding depth_item depth_block depth_items
 depth_item-If at condition holds None = ap depth_item (sym (items.rolls-If at condition holds None)) ∙ rw fold-roll-ItemTree refl
 depth_item-If at condition holds (Some fails) = ap depth_item (sym (items.rolls-If at condition holds (Some fails))) ∙ rw fold-roll-ItemTree refl
@@ -465,11 +465,11 @@ pub depth_items-Several : (at : ℕ) (head : ItemTree) (rest : List ItemTree) (i
 unfolding depth_items depth_item
 depth_items-Several at head rest is_closed = ap depth_items (sym (item_lists.rolls-Several at head rest is_closed)) ∙ rw fold-roll-ItemsTree refl
 
-pub depth_block-of : (at : ℕ) (items : ItemsTree) → depth_block (roll-BlockTree (record { at = at; items = items })) ≡ 1 + (depth_items items)
+pub depth_block-of : (at : ℕ) (items : ItemsTree) → depth_block (roll-BlockTree (record { at = at; items = items })) ≡ 1 + depth_items items
 unfolding depth_block depth_items
 depth_block-of at items = rw fold-roll-BlockTree refl
 
-pub depth_block-is : (t : BlockTree) → depth_block t ≡ 1 + (depth_items (out-BlockTree t).items)
+pub depth_block-is : (t : BlockTree) → depth_block t ≡ 1 + depth_items (out-BlockTree t).items
 depth_block-is t = ap depth_block (sym (roll-out-BlockTree t)) ∙ depth_block-of (out-BlockTree t).at (out-BlockTree t).items
 
 pub depth_instr-Solve : (at : ℕ) (block : BlockTree) → depth_instr (instrs.Solve at block) ≡ depth_block block
@@ -492,28 +492,28 @@ pub depth_statement-Block : (inner : SearchBlockTree) → depth_statement (state
 unfolding depth_statement depth_search_block depth_statements
 depth_statement-Block inner = ap depth_statement (sym (statements.rolls-Block inner)) ∙ rw fold-roll-StatementTree refl
 
-pub depth_statement-Try : (at : ℕ) (head : StatementsTree) (second : StatementsTree) (rest : List StatementsTree) → depth_statement (statements.Try at head second rest) ≡ 1 + (max (depth_statements head) (max (depth_statements second) (greatest (map depth_statements rest))))
+pub depth_statement-Try : (at : ℕ) (head : StatementsTree) (second : StatementsTree) (rest : List StatementsTree) → depth_statement (statements.Try at head second rest) ≡ 1 + max (depth_statements head) (max (depth_statements second) (greatest (map depth_statements rest)))
 unfolding depth_statement depth_search_block depth_statements
 depth_statement-Try at head second rest = ap depth_statement (sym (statements.rolls-Try at head second rest)) ∙ rw fold-roll-StatementTree refl
 
-pub depth_statement-Branch : (at : ℕ) (op : BranchOp) (params : OrderedParamsTree) (body : StatementTree) → depth_statement (statements.Branch at op params body) ≡ 1 + (max (1 + (depth_ordered_params params)) (depth_statement body))
+pub depth_statement-Branch : (at : ℕ) (op : BranchOp) (params : OrderedParamsTree) (body : StatementTree) → depth_statement (statements.Branch at op params body) ≡ 1 + max (1 + depth_ordered_params params) (depth_statement body)
 unfolding depth_statement depth_search_block depth_statements
 depth_statement-Branch at op params body = ap depth_statement (sym (statements.rolls-Branch at op params body)) ∙ rw fold-roll-StatementTree refl
 
-pub depth_statement-Once : (at : ℕ) (body : StatementTree) → depth_statement (statements.Once at body) ≡ 1 + (depth_statement body)
+pub depth_statement-Once : (at : ℕ) (body : StatementTree) → depth_statement (statements.Once at body) ≡ 1 + depth_statement body
 unfolding depth_statement depth_search_block depth_statements
 depth_statement-Once at body = ap depth_statement (sym (statements.rolls-Once at body)) ∙ rw fold-roll-StatementTree refl
 
-pub depth_statement-While : (at : ℕ) (condition : ExprTree) (body : StatementTree) → depth_statement (statements.While at condition body) ≡ 1 + (max (depth_expr condition) (depth_statement body))
+pub depth_statement-While : (at : ℕ) (condition : ExprTree) (body : StatementTree) → depth_statement (statements.While at condition body) ≡ 1 + max (depth_expr condition) (depth_statement body)
 unfolding depth_statement depth_search_block depth_statements
 depth_statement-While at condition body = ap depth_statement (sym (statements.rolls-While at condition body)) ∙ rw fold-roll-StatementTree refl
 
-pub depth_statement-If : (at : ℕ) (condition : ExprTree) (holds : StatementsTree) (fails : Option StatementsTree) → depth_statement (statements.If at condition holds fails) ≡ 1 + (max (depth_expr condition) (max (depth_statements holds) (if_any (option_map depth_statements fails))))
+pub depth_statement-If : (at : ℕ) (condition : ExprTree) (holds : StatementsTree) (fails : Option StatementsTree) → depth_statement (statements.If at condition holds fails) ≡ 1 + max (depth_expr condition) (max (depth_statements holds) (if_any (option_map depth_statements fails)))
 unfolding depth_statement depth_search_block depth_statements
 depth_statement-If at condition holds None = ap depth_statement (sym (statements.rolls-If at condition holds None)) ∙ rw fold-roll-StatementTree refl
 depth_statement-If at condition holds (Some fails) = ap depth_statement (sym (statements.rolls-If at condition holds (Some fails))) ∙ rw fold-roll-StatementTree refl
 
-pub depth_statement-Label : (at : ℕ) (op : LabelOp) (argument : PostTree) → depth_statement (statements.Label at op argument) ≡ 1 + (depth_post argument)
+pub depth_statement-Label : (at : ℕ) (op : LabelOp) (argument : PostTree) → depth_statement (statements.Label at op argument) ≡ 1 + depth_post argument
 unfolding depth_statement depth_search_block depth_statements
 depth_statement-Label at op argument = ap depth_statement (sym (statements.rolls-Label at op argument)) ∙ rw fold-roll-StatementTree refl
 
@@ -533,11 +533,11 @@ pub depth_statements-Several : (at : ℕ) (head : StatementTree) (rest : List St
 unfolding depth_statements depth_statement
 depth_statements-Several at head rest is_closed = ap depth_statements (sym (statement_lists.rolls-Several at head rest is_closed)) ∙ rw fold-roll-StatementsTree refl
 
-pub depth_search_block-of : (at : ℕ) (statements : StatementsTree) → depth_search_block (roll-SearchBlockTree (record { at = at; statements = statements })) ≡ 1 + (depth_statements statements)
+pub depth_search_block-of : (at : ℕ) (statements : StatementsTree) → depth_search_block (roll-SearchBlockTree (record { at = at; statements = statements })) ≡ 1 + depth_statements statements
 unfolding depth_search_block depth_statements
 depth_search_block-of at statements = rw fold-roll-SearchBlockTree refl
 
-pub depth_search_block-is : (t : SearchBlockTree) → depth_search_block t ≡ 1 + (depth_statements (out-SearchBlockTree t).statements)
+pub depth_search_block-is : (t : SearchBlockTree) → depth_search_block t ≡ 1 + depth_statements (out-SearchBlockTree t).statements
 depth_search_block-is t = ap depth_search_block (sym (roll-out-SearchBlockTree t)) ∙ depth_search_block-of (out-SearchBlockTree t).at (out-SearchBlockTree t).statements
 
 pub depth_search-is : (t : SearchTree) → depth_search t ≡ depth_search_block t.block

@@ -145,7 +145,7 @@ last_step_depth t = t.factor
 -- `- OPEN`, or `sum (PARAMS) MUL` and the like
 abbrev pub open_depth : OpenLayer ℕ → ℕ
 open_depth (OpenTree-F.NegativeOpen at inner) = 1 + inner
-open_depth (OpenTree-F.Aggregate at op params body) = 1 + (max (1 + params) body)
+open_depth (OpenTree-F.Aggregate at op params body) = 1 + max (1 + params) body
 
 -- `- SIGN`, or a postfix expression
 abbrev pub sign_depth : SignLayer ℕ → ℕ
@@ -163,18 +163,18 @@ suffix_depth (SuffixTree-F.Field at field) = 0
 
 -- `[ADD, ADD, ..]`
 abbrev pub subscripts_depth : SubscriptsLayer ℕ → ℕ
-subscripts_depth t = 1 + (max t.first (greatest t.rest))
+subscripts_depth t = 1 + max t.first (greatest t.rest)
 
 -- what an expression begins with
 abbrev pub prim_depth : PrimLayer ℕ → ℕ
 prim_depth (PrimTree-F.Number at value) = 0
 prim_depth (PrimTree-F.Named named) = 0
 prim_depth (PrimTree-F.Bracket at inner) = 1 + inner
-prim_depth (PrimTree-F.Record at head rest) = 1 + (max head (greatest rest))
-prim_depth (PrimTree-F.Listed at elements) = 1 + (greatest elements)
-prim_depth (PrimTree-F.Described at element params) = 1 + (max element params)
-prim_depth (PrimTree-F.Array at elements) = 1 + (greatest elements)
-prim_depth (PrimTree-F.KeyedArray at elements) = 1 + (greatest elements)
+prim_depth (PrimTree-F.Record at head rest) = 1 + max head (greatest rest)
+prim_depth (PrimTree-F.Listed at elements) = 1 + greatest elements
+prim_depth (PrimTree-F.Described at element params) = 1 + max element params
+prim_depth (PrimTree-F.Array at elements) = 1 + greatest elements
+prim_depth (PrimTree-F.KeyedArray at elements) = 1 + greatest elements
 prim_depth (PrimTree-F.Call at op argument) = 1 + argument
 prim_depth (PrimTree-F.AllDifferent at argument) = 1 + argument
 prim_depth (PrimTree-F.Question at op argument) = 1 + argument
@@ -286,7 +286,7 @@ depth_dim t = depth_set t.set
 
 -- `[DIM, DIM, ..]`
 unfoldable pub depth_dims : DimsTree → ℕ
-depth_dims t = 1 + (max (depth_dim t.first) (greatest (map depth_dim t.rest)))
+depth_dims t = 1 + max (depth_dim t.first) (greatest (map depth_dim t.rest))
 
 -- `...` or `ADD`
 unfoldable pub depth_initial : InitialTree → ℕ
@@ -316,7 +316,7 @@ depth_field t = depth_type t.kind
 
 -- `struct NAME {FIELD FIELD ..};`
 unfoldable pub depth_struct : StructTree → ℕ
-depth_struct t = 1 + (max (depth_field t.first) (greatest (map depth_field t.rest)))
+depth_struct t = 1 + max (depth_field t.first) (greatest (map depth_field t.rest))
 
 -- `int` or `NAME`
 unfoldable pub depth_variable_type : VariableTypeTree → ℕ
@@ -333,7 +333,7 @@ depth_variable t = max (if_any (option_map depth_dims t.dims)) (if_any (option_m
 
 -- `Activity NAME [DIMS] (ADD);` or `Activity NAME [DIMS] (ADD..ADD);`
 unfoldable pub depth_activity : ActivityTree → ℕ
-depth_activity t = max (if_any (option_map depth_dims t.dims)) (1 + (max (depth_add t.shortest) (if_any (option_map depth_add t.longest))))
+depth_activity t = max (if_any (option_map depth_dims t.dims)) (1 + max (depth_add t.shortest) (if_any (option_map depth_add t.longest)))
 
 -- `UnaryResource NAME [DIMS];`
 unfoldable pub depth_unary : UnaryTree → ℕ
@@ -341,7 +341,7 @@ depth_unary t = if_any (option_map depth_dims t.dims)
 
 -- `DiscreteResource NAME [DIMS] (ADD);`
 unfoldable pub depth_discrete : DiscreteTree → ℕ
-depth_discrete t = max (if_any (option_map depth_dims t.dims)) (1 + (depth_add t.capacity))
+depth_discrete t = max (if_any (option_map depth_dims t.dims)) (1 + depth_add t.capacity)
 
 -- `scheduleOrigin = ADD;` or `scheduleHorizon = ADD;`
 unfoldable pub depth_schedule : ScheduleTree → ℕ
@@ -375,8 +375,8 @@ items_depth (ItemsTree-F.Several at head rest is_closed) = max head (greatest re
 -- an item of a block
 abbrev pub item_depth : ItemTree-F ℕ ℕ ℕ → ℕ
 item_depth (ItemTree-F.Block inner) = inner
-item_depth (ItemTree-F.ForAll at params body) = 1 + (max (1 + (depth_params params)) body)
-item_depth (ItemTree-F.If at condition holds fails) = 1 + (max (depth_expr condition) (max holds (if_any fails)))
+item_depth (ItemTree-F.ForAll at params body) = 1 + max (1 + depth_params params) body
+item_depth (ItemTree-F.If at condition holds fails) = 1 + max (depth_expr condition) (max holds (if_any fails))
 item_depth (ItemTree-F.Precedes at earlier later) = max (depth_post earlier) (depth_post later)
 item_depth (ItemTree-F.Requires inner) = depth_requires inner
 item_depth (ItemTree-F.Constraint inner) = depth_expr inner
@@ -416,12 +416,12 @@ statements_depth (StatementsTree-F.Several at head rest is_closed) = max head (g
 -- a statement of a search section
 abbrev pub statement_depth : StatementTree-F ℕ ℕ ℕ → ℕ
 statement_depth (StatementTree-F.Block inner) = inner
-statement_depth (StatementTree-F.Try at head second rest) = 1 + (max head (max second (greatest rest)))
-statement_depth (StatementTree-F.Branch at op params body) = 1 + (max (1 + (depth_ordered_params params)) body)
+statement_depth (StatementTree-F.Try at head second rest) = 1 + max head (max second (greatest rest))
+statement_depth (StatementTree-F.Branch at op params body) = 1 + max (1 + depth_ordered_params params) body
 statement_depth (StatementTree-F.Once at body) = 1 + body
-statement_depth (StatementTree-F.While at condition body) = 1 + (max (depth_expr condition) body)
-statement_depth (StatementTree-F.If at condition holds fails) = 1 + (max (depth_expr condition) (max holds (if_any fails)))
-statement_depth (StatementTree-F.Label at op argument) = 1 + (depth_post argument)
+statement_depth (StatementTree-F.While at condition body) = 1 + max (depth_expr condition) body
+statement_depth (StatementTree-F.If at condition holds fails) = 1 + max (depth_expr condition) (max holds (if_any fails))
+statement_depth (StatementTree-F.Label at op argument) = 1 + depth_post argument
 statement_depth (StatementTree-F.Precedes at earlier later) = max (depth_post earlier) (depth_post later)
 statement_depth (StatementTree-F.Constraint inner) = depth_expr inner
 
