@@ -2,9 +2,7 @@
 use Rattle.std.proofs.Common.{◌≡◌, ℕ, max, ◌≤◌, Bool, true, false, cond, ◌⊎◌, inl, inr, List, [], ◌∷◌, ◌++◌, Option, Some, None, Ok, Err, refl, sym, ap, ◌∙◌, subst, arith}
 use Rattle.opl_model_tree.specs.Marks.{Mark, place}
 use Rattle.opl_token.specs.declared.token.Kind.{Kind}
-use Rattle.opl_model_tree.specs.declared.fault.SyntaxFault.{SyntaxFault}
-use Rattle.opl_model_tree.specs.declared.fault.SyntaxFault.TheVariants.{Syntax, TooDeep, OutOfMemory}
-use Rattle.opl_model_parse.specs.Input.{Input, Outcome, Parser, kind, place as place_at, and_then, ◌>>=◌, pure, here}
+use Rattle.opl_grammar.specs.Input.{Input, Stop, syntax, too_deep, Outcome, Parser, kind, place as place_at, and_then, ◌>>=◌, pure, here}
 use Rattle.opl_model_parse.proofs.Outcomes.{ok_one, ok_not_err, bind_ok, Broke, bind_err}
 use Rattle.opl_model_parse.proofs.Takes.{Takes, Begins, takes_begins, same_front, stop_front}
 use Rattle.opl_model_parse.proofs.Phrases.{Shape, Accepts, Before, Sound, Sample, Samples, Good, Viable, Faults, Fails, AllFail, nests_too_deep, More, Law, Any, more_bind, more_test}
@@ -48,7 +46,7 @@ module _ {A : Type 0} (n : ℕ) (p : Parser A) (s : Shape A) (P : Good n p s) wh
     sample = λ tail h. let a = P.sample tail h in record { whole = a.whole; value = (place_at a.whole, a.value); takes = (refl, a.takes); starts = a.starts };
   }
 
-  placed_fail : (i : Input) (e : SyntaxFault) → Fails p s i e → Fails (placed p) (placed_shape s) i e
+  placed_fail : (i : Input) (e : Stop) → Fails p s i e → Fails (placed p) (placed_shape s) i e
   placed_fail i e f = record {
     front = f.front;
     stop = f.stop;
@@ -60,7 +58,7 @@ module _ {A : Type 0} (n : ℕ) (p : Parser A) (s : Shape A) (P : Good n p s) wh
         record { whole = a.whole; mid = a.mid; value = (place_at a.whole, a.value); begins = a.begins; takes = (refl, a.takes); starts = a.starts };
   }
 
-  placed_broke : AllFail p s → (i : Input) (e : SyntaxFault) → (p i ≡ Err e) ⊎ Broke {B = ℕ × A} (p i) (λ a. pure (place_at i, a)) e → Fails (placed p) (placed_shape s) i e
+  placed_broke : AllFail p s → (i : Input) (e : Stop) → (p i ≡ Err e) ⊎ Broke {B = ℕ × A} (p i) (λ a. pure (place_at i, a)) e → Fails (placed p) (placed_shape s) i e
   placed_broke f i e (inl h) = placed_fail i e (f i e h)
   placed_broke f i e (inr w) = absurd (ok_not_err w.second)
 
@@ -165,7 +163,7 @@ module _ {A : Type 0} (n : ℕ) (test : Option Kind → Bool) (p : Parser A) (s 
     sample = λ tail h. record { whole = tail; value = None; takes = refl; starts = λ F k. inr k };
   }
 
-  maybe_fail : (i : Input) (e : SyntaxFault) → test (kind i) ≡ true → Fails p s i e → Fails (maybe test p) (maybe_shape test s) i e
+  maybe_fail : (i : Input) (e : Stop) → test (kind i) ≡ true → Fails p s i e → Fails (maybe test p) (maybe_shape test s) i e
   maybe_fail i e t f = record {
     front = f.front;
     stop = f.stop;
@@ -182,14 +180,14 @@ module _ {A : Type 0} (n : ℕ) (test : Option Kind → Bool) (p : Parser A) (s 
         record { whole = a.whole; mid = a.mid; value = Some a.value; begins = a.begins; takes = a.takes; starts = λ F k. inl (passes F (kind a.whole) (a.starts F k)) };
   }
 
-  maybe_broke : (i : Input) (e : SyntaxFault) → (p i ≡ Err e → Fails p s i e) → (b : Bool) → test (kind i) ≡ b → cond {A = Outcome (Option A)} b ((p >>= (λ a. pure (Some a))) i) (Ok (None, i)) ≡ Err e → Fails (maybe test p) (maybe_shape test s) i e
+  maybe_broke : (i : Input) (e : Stop) → (p i ≡ Err e → Fails p s i e) → (b : Bool) → test (kind i) ≡ b → cond {A = Outcome (Option A)} b ((p >>= (λ a. pure (Some a))) i) (Ok (None, i)) ≡ Err e → Fails (maybe test p) (maybe_shape test s) i e
   maybe_broke i e f true t h = maybe_broke_at (bind_err (p i) (λ a. pure (Some a)) e h) where
     maybe_broke_at : (p i ≡ Err e) ⊎ Broke {B = Option A} (p i) (λ a. pure (Some a)) e → Fails (maybe test p) (maybe_shape test s) i e
     maybe_broke_at (inl c) = maybe_fail i e t (f c)
     maybe_broke_at (inr w) = absurd (ok_not_err w.second)
   maybe_broke i e f false t h = absurd (ok_not_err h)
 
-  pub maybe_fails_at : (i : Input) (e : SyntaxFault) → (p i ≡ Err e → Fails p s i e) → maybe test p i ≡ Err e → Fails (maybe test p) (maybe_shape test s) i e
+  pub maybe_fails_at : (i : Input) (e : Stop) → (p i ≡ Err e → Fails p s i e) → maybe test p i ≡ Err e → Fails (maybe test p) (maybe_shape test s) i e
   maybe_fails_at i e f h = maybe_broke i e f (test (kind i)) refl h
 
 pub maybe_more : {A : Type 0} (test : Option Kind → Bool) (p q : Parser A) → More p q → More (maybe test p) (maybe test q)
@@ -291,7 +289,7 @@ module _ {A B : Type 0} (n : ℕ) (test : Option Kind → Bool) (p : Parser A) (
     sample = λ tail h. let a = Q.sample tail h.1 in record { whole = a.whole; value = inr a.value; takes = a.takes; starts = λ F k. inr (a.starts F k) };
   }
 
-  left_fail : (i : Input) (e : SyntaxFault) → test (kind i) ≡ true → Fails p s i e → Fails (either test p q) (either_shape s t) i e
+  left_fail : (i : Input) (e : Stop) → test (kind i) ≡ true → Fails p s i e → Fails (either test p q) (either_shape s t) i e
   left_fail i e b f = record {
     front = f.front;
     stop = f.stop;
@@ -308,7 +306,7 @@ module _ {A B : Type 0} (n : ℕ) (test : Option Kind → Bool) (p : Parser A) (
         record { whole = a.whole; mid = a.mid; value = inl a.value; begins = a.begins; takes = a.takes; starts = λ F k. inl (a.starts F k) };
   }
 
-  right_fail : (i : Input) (e : SyntaxFault) → test (kind i) ≡ false → Fails q t i e → Fails (either test p q) (either_shape s t) i e
+  right_fail : (i : Input) (e : Stop) → test (kind i) ≡ false → Fails q t i e → Fails (either test p q) (either_shape s t) i e
   right_fail i e b f = record {
     front = f.front;
     stop = f.stop;
@@ -325,7 +323,7 @@ module _ {A B : Type 0} (n : ℕ) (test : Option Kind → Bool) (p : Parser A) (
         record { whole = a.whole; mid = a.mid; value = inr a.value; begins = a.begins; takes = a.takes; starts = λ F k. inr (a.starts F k) };
   }
 
-  either_broke : AllFail p s → AllFail q t → (i : Input) (e : SyntaxFault) (b : Bool) → test (kind i) ≡ b → cond {A = Outcome (A ⊎ B)} b ((p >>= (λ a. pure (inl a))) i) ((q >>= (λ x. pure (inr x))) i) ≡ Err e → Fails (either test p q) (either_shape s t) i e
+  either_broke : AllFail p s → AllFail q t → (i : Input) (e : Stop) (b : Bool) → test (kind i) ≡ b → cond {A = Outcome (A ⊎ B)} b ((p >>= (λ a. pure (inl a))) i) ((q >>= (λ x. pure (inr x))) i) ≡ Err e → Fails (either test p q) (either_shape s t) i e
   either_broke f g i e true b h = left_broke (bind_err (p i) (λ a. pure (inl a)) e h) where
     left_broke : (p i ≡ Err e) ⊎ Broke {B = A ⊎ B} (p i) (λ a. pure (inl a)) e → Fails (either test p q) (either_shape s t) i e
     left_broke (inl c) = left_fail i e b (f i e c)
@@ -408,7 +406,7 @@ module _ {A C : Type 0} (n : ℕ) (p : Parser A) (s : Shape A) (P : Good n p s) 
         record { whole = a.whole; value = to a.value; takes = subst (λ ms. Takes ms a.whole tail) (sym (mapped_marks a.value)) a.takes; starts = a.starts };
   }
 
-  mapped_fail : (i : Input) (e : SyntaxFault) → Fails p s i e → Fails read (mapped_shape marks depth from s) i e
+  mapped_fail : (i : Input) (e : Stop) → Fails p s i e → Fails read (mapped_shape marks depth from s) i e
   mapped_fail i e f = record {
     front = f.front;
     stop = f.stop;
@@ -420,11 +418,11 @@ module _ {A C : Type 0} (n : ℕ) (p : Parser A) (s : Shape A) (P : Good n p s) 
         record { whole = a.whole; mid = a.mid; value = to a.value; begins = a.begins; takes = subst (λ ms. Takes ms a.whole tail) (sym (mapped_marks a.value)) a.takes; starts = a.starts };
   }
 
-  mapped_broke : (i : Input) (e : SyntaxFault) → (p i ≡ Err e → Fails p s i e) → (p i ≡ Err e) ⊎ Broke {B = C} (p i) (λ a. pure (to a)) e → Fails read (mapped_shape marks depth from s) i e
+  mapped_broke : (i : Input) (e : Stop) → (p i ≡ Err e → Fails p s i e) → (p i ≡ Err e) ⊎ Broke {B = C} (p i) (λ a. pure (to a)) e → Fails read (mapped_shape marks depth from s) i e
   mapped_broke i e f (inl h) = mapped_fail i e (f h)
   mapped_broke i e f (inr w) = absurd (ok_not_err w.second)
 
-  pub mapped_fails_at : (i : Input) (e : SyntaxFault) → (p i ≡ Err e → Fails p s i e) → read i ≡ Err e → Fails read (mapped_shape marks depth from s) i e
+  pub mapped_fails_at : (i : Input) (e : Stop) → (p i ≡ Err e → Fails p s i e) → read i ≡ Err e → Fails read (mapped_shape marks depth from s) i e
   mapped_fails_at i e f h = mapped_broke i e f (bind_err (p i) (λ a. pure (to a)) e (sym (is i) ∙ h))
 
 pub mapped_more : {A C : Type 0} (to : A → C) (p q : Parser A) → More p q → More (mapped to p) (mapped to q)
@@ -476,7 +474,7 @@ module _ {A : Type 0} (n : ℕ) (p : Parser A) (s u : Shape A) (r : Reshaped s u
         record { whole = a.whole; value = a.value; takes = subst (λ ms. Takes ms a.whole tail) (sym (r.marks a.value)) a.takes; starts = λ F k. r.begins F (kind a.whole) (a.starts F k) };
   }
 
-  pub reshaped_fails_at : (i : Input) (e : SyntaxFault) → Fails p s i e → Fails p u i e
+  pub reshaped_fails_at : (i : Input) (e : Stop) → Fails p s i e → Fails p u i e
   reshaped_fails_at i e x = record {
     front = x.front;
     stop = x.stop;

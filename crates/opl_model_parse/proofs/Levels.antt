@@ -3,9 +3,7 @@ use Rattle.std.proofs.Common.{◌≡◌, ℕ, zero, suc, max, ◌≤◌, Bool, t
 use Rattle.opl_model_tree.specs.Marks.{Part, Mark, place, token}
 use Rattle.opl_model_tree.specs.Spelling.{kind_of, IsProper}
 use Rattle.opl_token.specs.declared.token.Kind.{Kind}
-use Rattle.opl_model_tree.specs.declared.fault.SyntaxFault.{SyntaxFault}
-use Rattle.opl_model_tree.specs.declared.fault.SyntaxFault.TheVariants.{Syntax, TooDeep, OutOfMemory}
-use Rattle.opl_model_parse.specs.Input.{Input, Outcome, Parser, kind, next, place as place_at, and_then, ◌>>=◌, pure, here, one, take_found}
+use Rattle.opl_grammar.specs.Input.{Input, Stop, syntax, too_deep, Outcome, Parser, kind, next, place as place_at, and_then, ◌>>=◌, pure, here, one, take_found}
 use Rattle.opl_model_parse.proofs.Outcomes.{ok_one, err_one, ok_not_err}
 use Rattle.opl_model_parse.proofs.Takes.{Begins, is_deep, Position, before}
 use Rattle.opl_model_parse.proofs.Phrases.{Shape, Accepts, Sound, Sample, Samples, Good, Viable, Faults, Fails, AllFail, nests_too_deep, More, Law, Reads, one_shape, one_law, pair, pair_shape, pair_law}
@@ -74,7 +72,7 @@ pub record Inner {A : Type 0} (n : ℕ) (entry above : ℕ → Parser A) (s : Sh
 
 -- no level is left
 pub record Closed {A : Type 0} (entry : ℕ → Parser A) (s : Shape A) : Type 1 where
-  pub is : (at : ℕ) (i : Input) → entry at i ≡ Err (TooDeep at)
+  pub is : (at : ℕ) (i : Input) → entry at i ≡ Err (too_deep at)
   pub sample : Samples s
 
 abbrev pub Levels : {A : Type 0} → ℕ → (ℕ → Parser A) → (ℕ → Parser A) → Shape A → Type 1
@@ -108,19 +106,19 @@ opened_shape {X} part first s = record {
 
 module _ {X A : Type 0} (table : Option Kind → Option X) (part : X → Part) (first : Option Kind → Type 0) (r : Reads table part first) (entry above : ℕ → Parser A) (s : Shape A) where
   -- with no level left
-  closed_some : (i : Input) (x : X) → Closed entry s → table (kind i) ≡ Some x → opened table entry i ≡ Err (TooDeep (place_at i))
+  closed_some : (i : Input) (x : X) → Closed entry s → table (kind i) ≡ Some x → opened table entry i ≡ Err (too_deep (place_at i))
   closed_some i x e t = let c = e.is (place_at i) (next i) in rw (t, c) refl
 
-  closed_none : (e : ℕ → Parser A) (i : Input) → table (kind i) ≡ None → opened table e i ≡ Err (Syntax (place_at i))
+  closed_none : (e : ℕ → Parser A) (i : Input) → table (kind i) ≡ None → opened table e i ≡ Err (syntax (place_at i))
   closed_none e i t = rw t refl
 
-  closed_err : (i : Input) (o : Option X) → Closed entry s → table (kind i) ≡ o → Faults (Syntax 0) (opened table entry i) ⊎ Faults (TooDeep 0) (opened table entry i)
-  closed_err i None e t = inl (record { fault = Syntax (place_at i); is = closed_none entry i t; like = refl })
-  closed_err i (Some x) e t = inr (record { fault = TooDeep (place_at i); is = closed_some i x e t; like = refl })
+  closed_err : (i : Input) (o : Option X) → Closed entry s → table (kind i) ≡ o → Faults (syntax 0) (opened table entry i) ⊎ Faults (too_deep 0) (opened table entry i)
+  closed_err i None e t = inl (record { fault = syntax (place_at i); is = closed_none entry i t; like = refl })
+  closed_err i (Some x) e t = inr (record { fault = too_deep (place_at i); is = closed_some i x e t; like = refl })
 
   closed_not : (i : Input) (c : ℕ × (X × A)) (j : Input) → Closed entry s → opened table entry i ≡ Ok (c, j) → ⊥
   closed_not i c j e h = by_fault (closed_err i (table (kind i)) e refl) where
-    by_fault : Faults (Syntax 0) (opened table entry i) ⊎ Faults (TooDeep 0) (opened table entry i) → ⊥
+    by_fault : Faults (syntax 0) (opened table entry i) ⊎ Faults (too_deep 0) (opened table entry i) → ⊥
     by_fault (inl f) = ok_not_err (sym h ∙ f.is)
     by_fault (inr f) = ok_not_err (sym h ∙ f.is)
 
@@ -143,7 +141,7 @@ module _ {X A : Type 0} (table : Option Kind → Option X) (part : X → Part) (
   }
 
   -- the token opens a level too many
-  deep_fails : (i : Input) (x : X) → Closed entry s → table (kind i) ≡ Some x → Fails (opened table entry) (opened_shape part first s) i (TooDeep (place_at i))
+  deep_fails : (i : Input) (x : X) → Closed entry s → table (kind i) ≡ Some x → Fails (opened table entry) (opened_shape part first s) i (too_deep (place_at i))
   deep_fails i x e t =
       let f = r.found (kind i) x t in
       record {
@@ -153,26 +151,26 @@ module _ {X A : Type 0} (table : Option Kind → Option X) (part : X → Part) (
         position = record { before = []; part = part x; mid = i; is = refl; begins = refl; place = refl };
         again = λ j m b c.
             let known : table (kind j) ≡ Some x = ap table b.0.0 ∙ r.known x f.1 in
-            record { fault = TooDeep (place_at j); is = closed_some j x e known; like = refl };
+            record { fault = too_deep (place_at j); is = closed_some j x e known; like = refl };
         viable = λ tail h.
             let a = opened_sample x f.1 tail (e.sample tail h) in
             record { whole = a.whole; mid = next a.whole; value = a.value; begins = ((refl, f.1), refl); takes = a.takes; starts = a.starts };
       }
 
   -- there is no such token
-  none_fails : (i : Input) → Closed entry s → table (kind i) ≡ None → Fails (opened table entry) (opened_shape part first s) i (Syntax (place_at i))
+  none_fails : (i : Input) → Closed entry s → table (kind i) ≡ None → Fails (opened table entry) (opened_shape part first s) i (syntax (place_at i))
   none_fails i e t = record {
     front = [];
     stop = i;
     begins = refl;
     position = refl;
-    again = λ j m b c. let same : table (kind j) ≡ None = ap (λ x. table (kind x)) b ∙ (ap table c ∙ t) in record { fault = Syntax (place_at j); is = closed_none entry j same; like = refl };
+    again = λ j m b c. let same : table (kind j) ≡ None = ap (λ x. table (kind x)) b ∙ (ap table c ∙ t) in record { fault = syntax (place_at j); is = closed_none entry j same; like = refl };
     viable = λ tail h.
         let a = opened_sample r.sample r.proper tail (e.sample tail h) in
         record { whole = a.whole; mid = a.whole; value = a.value; begins = refl; takes = a.takes; starts = a.starts };
   }
 
-  closed_fails : (i : Input) (f : SyntaxFault) (o : Option X) → Closed entry s → table (kind i) ≡ o → opened table entry i ≡ Err f → Fails (opened table entry) (opened_shape part first s) i f
+  closed_fails : (i : Input) (f : Stop) (o : Option X) → Closed entry s → table (kind i) ≡ o → opened table entry i ≡ Err f → Fails (opened table entry) (opened_shape part first s) i f
   closed_fails i f None e t h = subst (λ x. Fails (opened table entry) (opened_shape part first s) i x) (err_one (sym (closed_none entry i t) ∙ h)) (none_fails i e t)
   closed_fails i f (Some x) e t h = subst (λ x. Fails (opened table entry) (opened_shape part first s) i x) (err_one (sym (closed_some i x e t) ∙ h)) (deep_fails i x e t)
 

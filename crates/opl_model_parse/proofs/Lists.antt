@@ -1,10 +1,9 @@
 -- Parts one after another, as long as one begins.
 use Rattle.std.proofs.Common.{◌≡◌, ℕ, zero, suc, max, ◌<◌, ◌≤◌, Bool, true, false, cond, ◌⊎◌, inl, inr, List, [], ◌∷◌, ◌++◌, map, Option, Some, None, Ok, Err, refl, sym, ap, ◌∙◌, subst, arith, append_assoc, append-nil}
 use Rattle.opl_token.specs.declared.token.Kind.{Kind}
-use Rattle.opl_model_tree.specs.declared.fault.SyntaxFault.{SyntaxFault}
 use Rattle.opl_model_tree.specs.Marks.{joined}
 use Rattle.opl_model_tree.specs.Depth.{greatest}
-use Rattle.opl_model_parse.specs.Input.{Input, Outcome, Parser, kind, left, and_then, ◌>>=◌, pure, refuse, many, many_from}
+use Rattle.opl_grammar.specs.Input.{Input, Stop, syntax, too_deep, Outcome, Parser, kind, left, and_then, ◌>>=◌, pure, refuse, many, many_from}
 use Rattle.opl_model_parse.proofs.Outcomes.{and_then_pure}
 use Rattle.opl_model_parse.proofs.Takes.{Takes, takes_split, Begins, takes_begins, begins_split, begins_less, Written}
 use Rattle.opl_model_parse.proofs.Phrases.{Shape, Accepts, Sound, Good, Fails, AllFail, More, Law, Any, nests_too_deep, more_bind, more_test, pair, pair_shape, pair_good, pair_fails_at, pair_more, max_le, max_left, max_right}
@@ -287,7 +286,7 @@ module _ {A : Type 0} (n : ℕ) (starts : Option Kind → Bool) (p : Parser A) (
   whole_passes : Passes starts (pair_shape s (many_shape starts s))
   whole_passes F k h = part.passes (λ l. (starts l ≡ true) ⊎ F l) k h
 
-  many_fail : AllFail p s → (m : ℕ) (i : Input) (e : SyntaxFault) → left i < m → many starts p i ≡ Err e → Fails (many starts p) (many_shape starts s) i e
+  many_fail : AllFail p s → (m : ℕ) (i : Input) (e : Stop) → left i < m → many starts p i ≡ Err e → Fails (many starts p) (many_shape starts s) i e
   many_fail f zero i e less h = absurd (omega arith)
   many_fail f (suc m) i e less h =
       let x = mapped_fails_at n (maybe starts (pair p (many starts p))) (step_shape starts s (many_shape starts s))

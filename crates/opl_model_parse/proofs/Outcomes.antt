@@ -1,16 +1,14 @@
 -- What an outcome of two steps says of each.
 use Rattle.std.proofs.Common.{◌≡◌, ◌⊎◌, inl, inr, Bool, true, false, cond, Result, Ok, Err, refl}
-use Rattle.opl_model_tree.specs.declared.fault.SyntaxFault.{SyntaxFault}
-use Rattle.opl_model_tree.specs.declared.fault.SyntaxFault.TheVariants.{Syntax, TooDeep, OutOfMemory}
-use Rattle.opl_model_parse.specs.Input.{Input, Outcome, Parser, and_then}
+use Rattle.opl_grammar.specs.Input.{Input, Stop, syntax, too_deep, Outcome, Parser, and_then}
 
-pub ok_one : {X : Type 0} {x y : X} → ◌≡◌ {A = Result X SyntaxFault} (Ok x) (Ok y) → x ≡ y
+pub ok_one : {X : Type 0} {x y : X} → ◌≡◌ {A = Result X Stop} (Ok x) (Ok y) → x ≡ y
 ok_one h = cc
 
-pub err_one : {X : Type 0} {x y : SyntaxFault} → ◌≡◌ {A = Result X SyntaxFault} (Err x) (Err y) → x ≡ y
+pub err_one : {X : Type 0} {x y : Stop} → ◌≡◌ {A = Result X Stop} (Err x) (Err y) → x ≡ y
 err_one h = cc
 
-pub ok_not_err : {X : Type 0} {x : X} {e : SyntaxFault} → ◌≡◌ {A = Result X SyntaxFault} (Ok x) (Err e) → ⊥
+pub ok_not_err : {X : Type 0} {x : X} {e : Stop} → ◌≡◌ {A = Result X Stop} (Ok x) (Err e) → ⊥
 ok_not_err h = cc
 
 -- both steps went well
@@ -25,13 +23,13 @@ bind_ok (Ok p) f y j h = record { value = p.0; mid = p.1; first = refl; second =
 bind_ok (Err e) f y j h = cc
 
 -- the first step went well and the second did not
-pub record Broke {A B : Type 0} (o : Outcome A) (f : A → Parser B) (e : SyntaxFault) : Type 0 where
+pub record Broke {A B : Type 0} (o : Outcome A) (f : A → Parser B) (e : Stop) : Type 0 where
   pub value : A
   pub mid : Input
   pub first : o ≡ Ok (value, mid)
   pub second : f value mid ≡ Err e
 
-pub bind_err : {A B : Type 0} (o : Outcome A) (f : A → Parser B) (e : SyntaxFault) → and_then o f ≡ Err e → (o ≡ Err e) ⊎ Broke o f e
+pub bind_err : {A B : Type 0} (o : Outcome A) (f : A → Parser B) (e : Stop) → and_then o f ≡ Err e → (o ≡ Err e) ⊎ Broke o f e
 bind_err (Ok p) f e h = inr (record { value = p.0; mid = p.1; first = refl; second = h })
 bind_err (Err x) f e h = inl cc
 

@@ -4,9 +4,7 @@ use Rattle.std.proofs.Common.{◌≡◌, ℕ, zero, suc, max, ◌≤◌, Bool, t
 use Rattle.opl_model_tree.specs.Marks.{Part, Mark, place, token}
 use Rattle.opl_model_tree.specs.Spelling.{kind_of, IsProper}
 use Rattle.opl_token.specs.declared.token.Kind.{Kind}
-use Rattle.opl_model_tree.specs.declared.fault.SyntaxFault.{SyntaxFault}
-use Rattle.opl_model_tree.specs.declared.fault.SyntaxFault.TheVariants.{Syntax, TooDeep, OutOfMemory}
-use Rattle.opl_model_parse.specs.Input.{Input, Outcome, Parser, kind, next, place as place_at, and_then, ◌>>=◌, pure, here, one, take_found}
+use Rattle.opl_grammar.specs.Input.{Input, Stop, syntax, too_deep, Outcome, Parser, kind, next, place as place_at, and_then, ◌>>=◌, pure, here, one, take_found}
 use Rattle.opl_model_parse.proofs.Outcomes.{ok_one, err_one, ok_not_err, bind_ok, Broke, bind_err}
 use Rattle.opl_model_parse.proofs.Takes.{Takes, takes_split, takes_join, Begins, takes_begins, begins_split, begins_join, same_front, is_deep, Last, Position, Next, position_join, stop_front, before}
 
@@ -69,14 +67,14 @@ pub record Viable {A : Type 0} (s : Shape A) (ms : List Mark) (tail : Input) : T
   pub starts : (F : Option Kind → Type 0) → F (kind tail) → s.begins F (kind whole)
 
 -- a stop of the same kind
-pub record Faults {A : Type 0} (e : SyntaxFault) (o : Outcome A) : Type 0 where
-  pub fault : SyntaxFault
+pub record Faults {A : Type 0} (e : Stop) (o : Outcome A) : Type 0 where
+  pub fault : Stop
   pub is : o ≡ Err fault
   pub like : is_deep fault ≡ is_deep e
 
 -- Why a reader stops: behind these marks, with which something begins, stands a token with which it does not go on,
 -- whatever stands behind that; or these marks, with which something begins, open a level too many.
-pub record Fails {A : Type 0} (read : Parser A) (s : Shape A) (i : Input) (e : SyntaxFault) : Type 1 where
+pub record Fails {A : Type 0} (read : Parser A) (s : Shape A) (i : Input) (e : Stop) : Type 1 where
   pub front : List Mark
   pub stop : Input
   pub begins : Begins front i stop
@@ -86,7 +84,7 @@ pub record Fails {A : Type 0} (read : Parser A) (s : Shape A) (i : Input) (e : S
 
 -- a reader whose stops have their cause
 abbrev pub AllFail : {A : Type 0} → Parser A → Shape A → Type 1
-AllFail {A} read s = (i : Input) (e : SyntaxFault) → read i ≡ Err e → Fails read s i e
+AllFail {A} read s = (i : Input) (e : Stop) → read i ≡ Err e → Fails read s i e
 
 -- whether an outcome is that of a level too many
 abbrev pub nests_too_deep : {A : Type 0} → Outcome A → Bool
@@ -159,7 +157,7 @@ take_some : {A : Type 0} (o : Option A) (i : Input) (a : A) (j : Input) → take
 take_some (Some x) i a j h = let e : (x, next i) ≡ (a, j) = ok_one h in (ap (λ q. Some q.0) e, ap (λ q. q.1) e)
 take_some None i a j h = cc
 
-take_none : {A : Type 0} (o : Option A) (i : Input) (e : SyntaxFault) → take_found o i ≡ Err e → (o ≡ None) × (Syntax (place_at i) ≡ e)
+take_none : {A : Type 0} (o : Option A) (i : Input) (e : Stop) → take_found o i ≡ Err e → (o ≡ None) × (syntax (place_at i) ≡ e)
 take_none (Some x) i e h = absurd (ok_not_err h)
 take_none None i e h = (refl, err_one h)
 
@@ -190,13 +188,13 @@ module _ {A : Type 0} (n : ℕ) (table : Option Kind → Option A) (part : A →
     };
   }
 
-  one_fail : (i : Input) → table (kind i) ≡ None → Fails (one table) (one_shape part first) i (Syntax (place_at i))
+  one_fail : (i : Input) → table (kind i) ≡ None → Fails (one table) (one_shape part first) i (syntax (place_at i))
   one_fail i t = record {
     front = [];
     stop = i;
     begins = refl;
     position = refl;
-    again = λ j m b e. let same : kind j ≡ kind i = ap kind b ∙ e in record { fault = Syntax (place_at j); is = rw (same, t) refl; like = refl };
+    again = λ j m b e. let same : kind j ≡ kind i = ap kind b ∙ e in record { fault = syntax (place_at j); is = rw (same, t) refl; like = refl };
     viable = λ tail h. record {
       whole = before (part r.sample) tail;
       mid = before (part r.sample) tail;
@@ -297,7 +295,7 @@ module _ {A B : Type 0} (n : ℕ) (p : Parser A) (s : Shape A) (q : Parser B) (t
   }
 
   -- the first part fails
-  first_fails : (i : Input) (e : SyntaxFault) → Fails p s i e → Fails (pair p q) (pair_shape s t) i e
+  first_fails : (i : Input) (e : Stop) → Fails p s i e → Fails (pair p q) (pair_shape s t) i e
   first_fails i e f = record {
     front = f.front;
     stop = f.stop;
@@ -318,7 +316,7 @@ module _ {A B : Type 0} (n : ℕ) (p : Parser A) (s : Shape A) (q : Parser B) (t
   }
 
   -- the second part fails
-  second_fails : (i : Input) (a : A) (m : Input) (e : SyntaxFault) → p i ≡ Ok (a, m) → Fails q t m e → Fails (pair p q) (pair_shape s t) i e
+  second_fails : (i : Input) (a : A) (m : Input) (e : Stop) → p i ≡ Ok (a, m) → Fails q t m e → Fails (pair p q) (pair_shape s t) i e
   second_fails i a m e h f =
       let read = P.sound i a m h in
       let taken = takes_begins (s.marks a) i m read.takes in
@@ -348,7 +346,7 @@ module _ {A B : Type 0} (n : ℕ) (p : Parser A) (s : Shape A) (q : Parser B) (t
             };
       }
 
-  pair_broke : (i : Input) (e : SyntaxFault) → (p i ≡ Err e → Fails p s i e) → ((a : A) (m : Input) → p i ≡ Ok (a, m) → q m ≡ Err e → Fails q t m e) →
+  pair_broke : (i : Input) (e : Stop) → (p i ≡ Err e → Fails p s i e) → ((a : A) (m : Input) → p i ≡ Ok (a, m) → q m ≡ Err e → Fails q t m e) →
       (p i ≡ Err e) ⊎ Broke {B = A × B} (p i) (λ a. q >>= (λ b. pure (a, b))) e → Fails (pair p q) (pair_shape s t) i e
   pair_broke i e f g (inl h) = first_fails i e (f h)
   pair_broke i e f g (inr w) = second_broke (bind_err (q w.mid) (λ b. pure (w.value, b)) e w.second) where
@@ -357,7 +355,7 @@ module _ {A B : Type 0} (n : ℕ) (p : Parser A) (s : Shape A) (q : Parser B) (t
     second_broke (inr v) = absurd (ok_not_err v.second)
 
   -- where it fails, a part fails
-  pub pair_fails_at : (i : Input) (e : SyntaxFault) → (p i ≡ Err e → Fails p s i e) → ((a : A) (m : Input) → p i ≡ Ok (a, m) → q m ≡ Err e → Fails q t m e) → pair p q i ≡ Err e → Fails (pair p q) (pair_shape s t) i e
+  pub pair_fails_at : (i : Input) (e : Stop) → (p i ≡ Err e → Fails p s i e) → ((a : A) (m : Input) → p i ≡ Ok (a, m) → q m ≡ Err e → Fails q t m e) → pair p q i ≡ Err e → Fails (pair p q) (pair_shape s t) i e
   pair_fails_at i e f g h = pair_broke i e f g (bind_err (p i) (λ a. q >>= (λ b. pure (a, b))) e h)
 
   pub pair_fails : AllFail p s → AllFail q t → AllFail (pair p q) (pair_shape s t)

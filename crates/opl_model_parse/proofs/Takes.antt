@@ -5,9 +5,7 @@ use Rattle.opl_token.specs.declared.token.Kind.{Kind}
 use Rattle.opl_token.specs.declared.token.Token.{Token}
 use Rattle.opl_model_tree.specs.Marks.{Part, Mark, place, token, unbraced}
 use Rattle.opl_model_tree.specs.Spelling.{kind_of, IsProper}
-use Rattle.opl_model_tree.specs.declared.fault.SyntaxFault.{SyntaxFault}
-use Rattle.opl_model_tree.specs.declared.fault.SyntaxFault.TheVariants.{Syntax, TooDeep, OutOfMemory}
-use Rattle.opl_model_parse.specs.Input.{Input, first_kind, kind, next, left, is_sign, place as place_at}
+use Rattle.opl_grammar.specs.Input.{Input, Stop, syntax, too_deep, first_kind, kind, next, left, is_sign, place as place_at}
 
 -- the next token is this part
 abbrev pub IsAt : Part → Input → Type 0
@@ -145,10 +143,9 @@ first_written (unbraced ∷ ms) = first_written ms
 
 -- ---- why a reader stops
 
-abbrev pub is_deep : SyntaxFault → Bool
-is_deep (Syntax at) = false
-is_deep (TooDeep at) = true
-is_deep OutOfMemory = false
+abbrev pub is_deep : Stop → Bool
+is_deep (syntax at) = false
+is_deep (too_deep at) = true
 
 -- the front ends with a token, which stands at `at`
 pub record Last (front : List Mark) (i : Input) (at : ℕ) : Type 0 where
@@ -160,16 +157,14 @@ pub record Last (front : List Mark) (i : Input) (at : ℕ) : Type 0 where
   pub place : at ≡ place_at mid
 
 -- where it stops: at the token behind the front, or at the front's last
-abbrev pub Position : SyntaxFault → List Mark → Input → Input → Type 0
-Position (Syntax at) front i stop = at ≡ place_at stop
-Position (TooDeep at) front i stop = Last front i at
-Position OutOfMemory front i stop = ⊥
+abbrev pub Position : Stop → List Mark → Input → Input → Type 0
+Position (syntax at) front i stop = at ≡ place_at stop
+Position (too_deep at) front i stop = Last front i at
 
 -- another input stops alike: with the same token, or whatever comes
-abbrev pub Next : SyntaxFault → Input → Input → Type 0
-Next (Syntax at) m stop = kind m ≡ kind stop
-Next (TooDeep at) m stop = Unit {0}
-Next OutOfMemory m stop = Unit {0}
+abbrev pub Next : Stop → Input → Input → Type 0
+Next (syntax at) m stop = kind m ≡ kind stop
+Next (too_deep at) m stop = Unit {0}
 
 pub last_join : (ms ns : List Mark) (i m : Input) (at : ℕ) → Begins ms i m → Last ns m at → Last (ms ++ ns) i at
 last_join ms ns i m at b l = record {
@@ -181,19 +176,17 @@ last_join ms ns i m at b l = record {
   place = l.place;
 }
 
-pub position_join : (e : SyntaxFault) (ms ns : List Mark) (i m stop : Input) → Begins ms i m → Position e ns m stop → Position e (ms ++ ns) i stop
-position_join (Syntax at) ms ns i m stop b p = p
-position_join (TooDeep at) ms ns i m stop b p = last_join ms ns i m at b p
-position_join OutOfMemory ms ns i m stop b p = p
+pub position_join : (e : Stop) (ms ns : List Mark) (i m stop : Input) → Begins ms i m → Position e ns m stop → Position e (ms ++ ns) i stop
+position_join (syntax at) ms ns i m stop b p = p
+position_join (too_deep at) ms ns i m stop b p = last_join ms ns i m at b p
 
 -- what begins with the front of a stop begins with the same token
-pub stop_front : (e : SyntaxFault) (front : List Mark) (i stop i' stop' j m : Input) → Position e front j m → Begins front i stop → Begins front i' stop' → Next e stop' stop → kind i' ≡ kind i
-stop_front (Syntax at) front i stop i' stop' j m p b c e = same_front front i stop i' stop' b c e
-stop_front (TooDeep at) front i stop i' stop' j m p b c e =
+pub stop_front : (e : Stop) (front : List Mark) (i stop i' stop' j m : Input) → Position e front j m → Begins front i stop → Begins front i' stop' → Next e stop' stop → kind i' ≡ kind i
+stop_front (syntax at) front i stop i' stop' j m p b c e = same_front front i stop i' stop' b c e
+stop_front (too_deep at) front i stop i' stop' j m p b c e =
     let s = begins_split p.before (token p.part ∷ []) i stop (subst (λ ms. Begins ms i stop) p.is b) in
     let s' = begins_split p.before (token p.part ∷ []) i' stop' (subst (λ ms. Begins ms i' stop') p.is c) in
     same_front p.before i s.mid i' s'.mid s.front s'.front (s'.back.0.0 ∙ sym s.back.0.0)
-stop_front OutOfMemory front i stop i' stop' j m p b c e = absurd p
 
 -- the part, and then the tail
 abbrev pub before : Part → Input → Input
