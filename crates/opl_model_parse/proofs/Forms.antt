@@ -19,6 +19,7 @@ placed_shape s = record {
   tag = λ c. s.tag c.1;
   depth = λ c. s.depth c.1;
   fits = λ c. s.fits c.1;
+  ends = s.ends;
   closes = s.closes;
   begins = s.begins;
 }
@@ -43,6 +44,7 @@ module _ {A : Type 0} (n : ℕ) (p : Parser A) (s : Shape A) (P : Good n p s) wh
     complete = λ i c j fits d h e. let first = P.complete i c.1 j fits d h.1 e in rw (first, h.0) refl;
     accepts = λ i c j fits d h e. placed_accepts i c j (P.accepts i c.1 j fits d h e);
     front = λ i c j F d h e. P.front i c.1 j F d h.1 e;
+    closing = P.closing;
     sample = λ tail h. let a = P.sample tail h in record { whole = a.whole; value = (place_at a.whole, a.value); takes = (refl, a.takes); starts = a.starts };
   }
 
@@ -69,7 +71,7 @@ placed_more : {A : Type 0} (p q : Parser A) → More p q → More (placed p) (pl
 placed_more p q h i = more_bind (p i) (q i) (λ a. pure (place_at i, a)) (λ a. pure (place_at i, a)) (h i) (λ a j d. refl)
 
 pub placed_law : {A : Type 0} {n : ℕ} {p q : Parser A} {s : Shape A} → Law n p q s → Law n (placed p) (placed q) (placed_shape s)
-placed_law {A} {n} {p} {q} {s} P = record { good = placed_good n p s P.good; fails = placed_fails n p s P.good P.fails; more = placed_more p q P.more }
+placed_law {A} {n} {p} {q} {s} P = record { good = placed_good n p s P.good; fails = placed_fails n p s P.good P.fails; more = placed_more p q P.more; fit = λ c. P.fit c.1 }
 
 -- ---- a phrase or nothing, by the next token
 
@@ -92,6 +94,10 @@ abbrev pub maybe_fits : {A : Type 0} → Shape A → Option A → Type 0
 maybe_fits s None = Unit {0}
 maybe_fits s (Some a) = s.fits a
 
+abbrev pub maybe_ends : {A : Type 0} (test : Option Kind → Bool) (s : Shape A) → Option s.Tag → Option Kind → Type 0
+maybe_ends test s None k = test k ≡ false
+maybe_ends test s (Some x) k = s.ends x k
+
 abbrev pub maybe_shape : {A : Type 0} → (Option Kind → Bool) → Shape A → Shape (Option A)
 maybe_shape test s = record {
   marks = maybe_marks s;
@@ -99,6 +105,7 @@ maybe_shape test s = record {
   tag = maybe_tag s;
   depth = maybe_depth s;
   fits = maybe_fits s;
+  ends = maybe_ends test s;
   closes = λ k. s.closes k × (test k ≡ false);
   begins = λ F k. (test k ≡ true) ⊎ F k;
 }
@@ -142,17 +149,21 @@ module _ {A : Type 0} (n : ℕ) (test : Option Kind → Bool) (p : Parser A) (s 
       } in
       subst (λ (x : Option A × Input). Sound (maybe test p) (maybe_shape test s) n i x.0 x.1) (ok_one h) none
 
-  maybe_complete : (i : Input) (o : Option A) (j : Input) → maybe_fits s o → maybe_depth s o ≤ n → Takes (maybe_marks s o) i j → s.closes (kind j) × (test (kind j) ≡ false) → maybe test p i ≡ Ok (o, j)
-  maybe_complete i None j fits d h e = maybe_none i j h e.1
-  maybe_complete i (Some a) j fits d h e = maybe_some i a j (passes Any (kind i) (P.front i a j Any d h tt)) (P.complete i a j fits d h e.0)
+  maybe_complete : (i : Input) (o : Option A) (j : Input) → maybe_fits s o → maybe_depth s o ≤ n → Takes (maybe_marks s o) i j → maybe_ends test s (maybe_tag s o) (kind j) → maybe test p i ≡ Ok (o, j)
+  maybe_complete i None j fits d h e = maybe_none i j h e
+  maybe_complete i (Some a) j fits d h e = maybe_some i a j (passes Any (kind i) (P.front i a j Any d h tt)) (P.complete i a j fits d h e)
 
-  maybe_accepts : (i : Input) (o : Option A) (j : Input) → maybe_fits s o → maybe_depth s o ≤ n → Begins (maybe_marks s o) i j → s.closes (kind j) × (test (kind j) ≡ false) → Accepts (maybe test p) (maybe_shape test s) o i j
-  maybe_accepts i None j fits d h e = record { value = None; is = maybe_none i j h e.1; same = refl }
-  maybe_accepts i (Some a) j fits d h e = maybe_read i a j (P.accepts i a j fits d h e.0)
+  maybe_accepts : (i : Input) (o : Option A) (j : Input) → maybe_fits s o → maybe_depth s o ≤ n → Begins (maybe_marks s o) i j → maybe_ends test s (maybe_tag s o) (kind j) → Accepts (maybe test p) (maybe_shape test s) o i j
+  maybe_accepts i None j fits d h e = record { value = None; is = maybe_none i j h e; same = refl }
+  maybe_accepts i (Some a) j fits d h e = maybe_read i a j (P.accepts i a j fits d h e)
 
   maybe_front : (i : Input) (o : Option A) (j : Input) (F : Option Kind → Type 0) → maybe_depth s o ≤ n → Takes (maybe_marks s o) i j → F (kind j) → (test (kind i) ≡ true) ⊎ F (kind i)
   maybe_front i None j F d h e = inr (subst (λ x. F (kind x)) (sym h) e)
   maybe_front i (Some a) j F d h e = inl (passes Any (kind i) (P.front i a j Any d h tt))
+
+  maybe_closing : (x : Option s.Tag) (k : Option Kind) → s.closes k × (test k ≡ false) → maybe_ends test s x k
+  maybe_closing None k h = h.1
+  maybe_closing (Some x) k h = P.closing x k h.0
 
   pub maybe_good : Good n (maybe test p) (maybe_shape test s)
   maybe_good = record {
@@ -160,6 +171,7 @@ module _ {A : Type 0} (n : ℕ) (test : Option Kind → Bool) (p : Parser A) (s 
     complete = maybe_complete;
     accepts = maybe_accepts;
     front = maybe_front;
+    closing = maybe_closing;
     sample = λ tail h. record { whole = tail; value = None; takes = refl; starts = λ F k. inr k };
   }
 
@@ -199,7 +211,11 @@ maybe_law {A} {n} {p} {q} {s} test P passes = record {
   good = maybe_good n test p s P.good passes;
   fails = λ i e. maybe_fails_at n test p s P.good passes i e (P.fails i e);
   more = maybe_more test p q P.more;
-}
+  fit = maybe_fit;
+} where
+  maybe_fit : (o : Option A) → maybe_fits s o
+  maybe_fit None = tt
+  maybe_fit (Some a) = P.fit a
 
 -- ---- one of two phrases, by the next token
 
@@ -217,6 +233,7 @@ either_shape s t = record {
   tag = by_side (λ a. inl (s.tag a)) (λ b. inr (t.tag b));
   depth = by_side s.depth t.depth;
   fits = by_side s.fits t.fits;
+  ends = by_side s.ends t.ends;
   closes = λ k. s.closes k × t.closes k;
   begins = λ F k. s.begins F k ⊎ t.begins F k;
 }
@@ -268,17 +285,21 @@ module _ {A B : Type 0} (n : ℕ) (test : Option Kind → Bool) (p : Parser A) (
       } in
       subst (λ (x : (A ⊎ B) × Input). Sound (either test p q) (either_shape s t) n i x.0 x.1) (ok_one w.second) right
 
-  either_complete : (i : Input) (c : A ⊎ B) (j : Input) → by_side s.fits t.fits c → by_side s.depth t.depth c ≤ n → Takes (by_side s.marks t.marks c) i j → s.closes (kind j) × t.closes (kind j) → either test p q i ≡ Ok (c, j)
-  either_complete i (inl a) j fits d h e = either_left i a j (passes Any (kind i) (P.front i a j Any d h tt)) (P.complete i a j fits d h e.0)
-  either_complete i (inr a) j fits d h e = either_right i a j (misses Any (kind i) (Q.front i a j Any d h tt)) (Q.complete i a j fits d h e.1)
+  either_complete : (i : Input) (c : A ⊎ B) (j : Input) → by_side s.fits t.fits c → by_side s.depth t.depth c ≤ n → Takes (by_side s.marks t.marks c) i j → (either_shape s t).ends ((either_shape s t).tag c) (kind j) → either test p q i ≡ Ok (c, j)
+  either_complete i (inl a) j fits d h e = either_left i a j (passes Any (kind i) (P.front i a j Any d h tt)) (P.complete i a j fits d h e)
+  either_complete i (inr a) j fits d h e = either_right i a j (misses Any (kind i) (Q.front i a j Any d h tt)) (Q.complete i a j fits d h e)
 
-  either_accepts : (i : Input) (c : A ⊎ B) (j : Input) → by_side s.fits t.fits c → by_side s.depth t.depth c ≤ n → Begins (by_side s.marks t.marks c) i j → s.closes (kind j) × t.closes (kind j) → Accepts (either test p q) (either_shape s t) c i j
-  either_accepts i (inl a) j fits d h e = left_read i a j (P.accepts i a j fits d h e.0)
-  either_accepts i (inr a) j fits d h e = right_read i a j (Q.accepts i a j fits d h e.1)
+  either_accepts : (i : Input) (c : A ⊎ B) (j : Input) → by_side s.fits t.fits c → by_side s.depth t.depth c ≤ n → Begins (by_side s.marks t.marks c) i j → (either_shape s t).ends ((either_shape s t).tag c) (kind j) → Accepts (either test p q) (either_shape s t) c i j
+  either_accepts i (inl a) j fits d h e = left_read i a j (P.accepts i a j fits d h e)
+  either_accepts i (inr a) j fits d h e = right_read i a j (Q.accepts i a j fits d h e)
 
   either_front : (i : Input) (c : A ⊎ B) (j : Input) (F : Option Kind → Type 0) → by_side s.depth t.depth c ≤ n → Takes (by_side s.marks t.marks c) i j → F (kind j) → s.begins F (kind i) ⊎ t.begins F (kind i)
   either_front i (inl a) j F d h e = inl (P.front i a j F d h e)
   either_front i (inr a) j F d h e = inr (Q.front i a j F d h e)
+
+  either_closing : (x : s.Tag ⊎ t.Tag) (k : Option Kind) → s.closes k × t.closes k → (either_shape s t).ends x k
+  either_closing (inl x) k h = P.closing x k h.0
+  either_closing (inr x) k h = Q.closing x k h.1
 
   either_good : Good n (either test p q) (either_shape s t)
   either_good = record {
@@ -286,6 +307,7 @@ module _ {A B : Type 0} (n : ℕ) (test : Option Kind → Bool) (p : Parser A) (
     complete = either_complete;
     accepts = either_accepts;
     front = either_front;
+    closing = either_closing;
     sample = λ tail h. let a = Q.sample tail h.1 in record { whole = a.whole; value = inr a.value; takes = a.takes; starts = λ F k. inr (a.starts F k) };
   }
 
@@ -347,83 +369,93 @@ either_law {A} {B} {n} {p} {p'} {s} {q} {q'} {t} test P Q passes misses = record
   good = either_good n test p s q t P.good Q.good passes misses;
   fails = either_fails n test p s q t P.good Q.good passes misses P.fails Q.fails;
   more = either_more test p p' q q' P.more Q.more;
-}
+  fit = either_fit;
+} where
+  either_fit : (c : A ⊎ B) → by_side s.fits t.fits c
+  either_fit (inl a) = P.fit a
+  either_fit (inr b) = Q.fit b
 
--- ---- a phrase made into another value
+-- ---- a phrase made into another value, as a rule of the grammar makes a tree of its parts
 
 abbrev pub mapped : {A C : Type 0} → (A → C) → Parser A → Parser C
 mapped to p = p >>= (λ a. pure (to a))
 
--- the same phrase, seen as another value
-abbrev pub mapped_shape : {A C : Type 0} → (C → List Mark) → (C → ℕ) → (C → A) → Shape A → Shape C
-mapped_shape marks depth from s = record {
-  marks = marks;
-  Tag = s.Tag;
-  tag = λ c. s.tag (from c);
-  depth = depth;
-  fits = λ c. s.fits (from c);
-  closes = s.closes;
-  begins = s.begins;
-}
+-- what a value is made of
+pub record Made {A C : Type 0} (to : A → C) (c : C) : Type 0 where
+  pub of : A
+  pub is : to of ≡ c
 
--- the two values have the same marks and nest as deep, and each gives the other back
-pub record Same {A C : Type 0} (s : Shape A) (marks : C → List Mark) (depth : C → ℕ) (to : A → C) (from : C → A) : Type 0 where
-  pub there : (c : C) → to (from c) ≡ c
-  pub back : (a : A) → from (to a) ≡ a
-  pub spelt : (c : C) → marks c ≡ s.marks (from c)
-  pub deep : (c : C) → depth c ≡ s.depth (from c)
+-- every value is made of parts, it writes what they write, and it nests as deep
+pub record Rule {A C : Type 0} (s : Shape A) (u : Shape C) (to : A → C) : Type 1 where
+  pub made : (c : C) → Made to c
+  pub marks : (a : A) → u.marks (to a) ≡ s.marks a
+  pub tags : (a b : A) → s.tag a ≡ s.tag b → u.tag (to a) ≡ u.tag (to b)
+  pub depth : (a : A) → u.depth (to a) ≡ s.depth a
+  pub fits_to : (a : A) → s.fits a → u.fits (to a)
+  pub fits_from : (a : A) → u.fits (to a) → s.fits a
+  pub ends : (a : A) (k : Option Kind) → u.ends (u.tag (to a)) k → s.ends (s.tag a) k
+  pub closing : (x : u.Tag) (k : Option Kind) → u.closes k → u.ends x k
+  pub closes : (k : Option Kind) → u.closes k → s.closes k
+  pub begins : (F : Option Kind → Type 0) (k : Option Kind) → s.begins F k → u.begins F k
 
-module _ {A C : Type 0} (n : ℕ) (p : Parser A) (s : Shape A) (P : Good n p s) (marks : C → List Mark) (depth : C → ℕ) (to : A → C) (from : C → A) (same : Same s marks depth to from) (read : Parser C) (is : (i : Input) → read i ≡ mapped to p i) where
-  mapped_there : (i : Input) (a : A) (j : Input) → p i ≡ Ok (a, j) → read i ≡ Ok (to a, j)
-  mapped_there i a j h = is i ∙ rw h refl
+module _ {A C : Type 0} (n : ℕ) (p : Parser A) (s : Shape A) (P : Good n p s) (u : Shape C) (to : A → C) (rule : Rule s u to) (read : Parser C) (is : (i : Input) → read i ≡ mapped to p i) where
+  rule_there : (i : Input) (a : A) (j : Input) → p i ≡ Ok (a, j) → read i ≡ Ok (to a, j)
+  rule_there i a j h = is i ∙ rw h refl
 
-  mapped_marks : (a : A) → marks (to a) ≡ s.marks a
-  mapped_marks a = same.spelt (to a) ∙ ap s.marks (same.back a)
+  rule_read : (i : Input) (a : A) (j : Input) → Accepts p s a i j → Accepts read u (to a) i j
+  rule_read i a j x = record { value = to x.value; is = rule_there i x.value j x.is; same = rule.tags x.value a x.same }
 
-  mapped_read : (i : Input) (a : A) (c : C) (j : Input) → from c ≡ a → Accepts p s a i j → Accepts read (mapped_shape marks depth from s) c i j
-  mapped_read i a c j e x = record { value = to x.value; is = mapped_there i x.value j x.is; same = ap s.tag (same.back x.value) ∙ (x.same ∙ ap s.tag (sym e)) }
-
-  pub mapped_good : Good n read (mapped_shape marks depth from s)
-  mapped_good = record {
-    sound = λ i c j h.
-        let w = bind_ok (p i) (λ a. pure (to a)) c j (sym (is i) ∙ h) in
-        let a = P.sound i w.value w.mid w.first in
-        let made : Sound read (mapped_shape marks depth from s) n i (to w.value) w.mid = record {
-          takes = subst (λ ms. Takes ms i w.mid) (sym (mapped_marks w.value)) a.takes;
-          fits = subst s.fits (sym (same.back w.value)) a.fits;
-          deep = subst (λ d. d ≤ n) (sym (same.deep (to w.value) ∙ ap s.depth (same.back w.value))) a.deep;
-          again = λ i' j' b e. mapped_read i' w.value (to w.value) j' (same.back w.value) (a.again i' j' (subst (λ ms. Begins ms i' j') (mapped_marks w.value) b) e);
-          before = λ tail. let x = a.before tail in record { start = x.start; begins = subst (λ ms. Begins ms x.start tail) (sym (mapped_marks w.value)) x.begins };
-        } in
-        subst (λ (x : C × Input). Sound read (mapped_shape marks depth from s) n i x.0 x.1) (ok_one w.second) made;
-    complete = λ i c j fits d h e.
-        let first = P.complete i (from c) j fits (subst (λ x. x ≤ n) (same.deep c) d) (subst (λ ms. Takes ms i j) (same.spelt c) h) e in
-        mapped_there i (from c) j first ∙ ap (λ x. Ok (x, j)) (same.there c);
-    accepts = λ i c j fits d h e. mapped_read i (from c) c j refl (P.accepts i (from c) j fits (subst (λ x. x ≤ n) (same.deep c) d) (subst (λ ms. Begins ms i j) (same.spelt c) h) e);
-    front = λ i c j F d h e. P.front i (from c) j F (subst (λ x. x ≤ n) (same.deep c) d) (subst (λ ms. Takes ms i j) (same.spelt c) h) e;
-    sample = λ tail h.
-        let a = P.sample tail h in
-        record { whole = a.whole; value = to a.value; takes = subst (λ ms. Takes ms a.whole tail) (sym (mapped_marks a.value)) a.takes; starts = a.starts };
+  rule_sound : (i : Input) (a : A) (j : Input) → Sound p s n i a j → Sound read u n i (to a) j
+  rule_sound i a j x = record {
+    takes = subst (λ ms. Takes ms i j) (sym (rule.marks a)) x.takes;
+    fits = rule.fits_to a x.fits;
+    deep = subst (λ d. d ≤ n) (sym (rule.depth a)) x.deep;
+    again = λ i' j' b e. rule_read i' a j' (x.again i' j' (subst (λ ms. Begins ms i' j') (rule.marks a) b) e);
+    before = λ tail. let y = x.before tail in record { start = y.start; begins = subst (λ ms. Begins ms y.start tail) (sym (rule.marks a)) y.begins };
   }
 
-  mapped_fail : (i : Input) (e : Stop) → Fails p s i e → Fails read (mapped_shape marks depth from s) i e
-  mapped_fail i e f = record {
+  -- at a value that is made of these parts
+  rule_complete : (i : Input) (a : A) (j : Input) → u.fits (to a) → u.depth (to a) ≤ n → Takes (u.marks (to a)) i j → u.ends (u.tag (to a)) (kind j) → read i ≡ Ok (to a, j)
+  rule_complete i a j fits d h e = rule_there i a j (P.complete i a j (rule.fits_from a fits) (subst (λ x. x ≤ n) (rule.depth a) d) (subst (λ ms. Takes ms i j) (rule.marks a) h) (rule.ends a (kind j) e))
+
+  rule_accepts : (i : Input) (a : A) (j : Input) → u.fits (to a) → u.depth (to a) ≤ n → Begins (u.marks (to a)) i j → u.ends (u.tag (to a)) (kind j) → Accepts read u (to a) i j
+  rule_accepts i a j fits d h e = rule_read i a j (P.accepts i a j (rule.fits_from a fits) (subst (λ x. x ≤ n) (rule.depth a) d) (subst (λ ms. Begins ms i j) (rule.marks a) h) (rule.ends a (kind j) e))
+
+  rule_front : (i : Input) (a : A) (j : Input) (F : Option Kind → Type 0) → u.depth (to a) ≤ n → Takes (u.marks (to a)) i j → F (kind j) → u.begins F (kind i)
+  rule_front i a j F d h e = rule.begins F (kind i) (P.front i a j F (subst (λ x. x ≤ n) (rule.depth a) d) (subst (λ ms. Takes ms i j) (rule.marks a) h) e)
+
+  pub rule_good : Good n read u
+  rule_good = record {
+    sound = λ i c j h.
+        let w = bind_ok (p i) (λ a. pure (to a)) c j (sym (is i) ∙ h) in
+        subst (λ (x : C × Input). Sound read u n i x.0 x.1) (ok_one w.second) (rule_sound i w.value w.mid (P.sound i w.value w.mid w.first));
+    complete = λ i c j. let m = rule.made c in subst (λ x. u.fits x → u.depth x ≤ n → Takes (u.marks x) i j → u.ends (u.tag x) (kind j) → read i ≡ Ok (x, j)) m.is (rule_complete i m.of j);
+    accepts = λ i c j. let m = rule.made c in subst (λ x. u.fits x → u.depth x ≤ n → Begins (u.marks x) i j → u.ends (u.tag x) (kind j) → Accepts read u x i j) m.is (rule_accepts i m.of j);
+    front = λ i c j F. let m = rule.made c in subst (λ x. u.depth x ≤ n → Takes (u.marks x) i j → F (kind j) → u.begins F (kind i)) m.is (rule_front i m.of j F);
+    closing = rule.closing;
+    sample = λ tail h.
+        let a = P.sample tail (rule.closes (kind tail) h) in
+        record { whole = a.whole; value = to a.value; takes = subst (λ ms. Takes ms a.whole tail) (sym (rule.marks a.value)) a.takes; starts = λ F k. rule.begins F (kind a.whole) (a.starts F k) };
+  }
+
+  rule_fail : (i : Input) (e : Stop) → Fails p s i e → Fails read u i e
+  rule_fail i e f = record {
     front = f.front;
     stop = f.stop;
     begins = f.begins;
     position = f.position;
     again = λ j m h c. let x = f.again j m h c in record { fault = x.fault; is = is j ∙ rw x.is refl; like = x.like };
     viable = λ tail h.
-        let a = f.viable tail h in
-        record { whole = a.whole; mid = a.mid; value = to a.value; begins = a.begins; takes = subst (λ ms. Takes ms a.whole tail) (sym (mapped_marks a.value)) a.takes; starts = a.starts };
+        let a = f.viable tail (rule.closes (kind tail) h) in
+        record { whole = a.whole; mid = a.mid; value = to a.value; begins = a.begins; takes = subst (λ ms. Takes ms a.whole tail) (sym (rule.marks a.value)) a.takes; starts = λ F k. rule.begins F (kind a.whole) (a.starts F k) };
   }
 
-  mapped_broke : (i : Input) (e : Stop) → (p i ≡ Err e → Fails p s i e) → (p i ≡ Err e) ⊎ Broke {B = C} (p i) (λ a. pure (to a)) e → Fails read (mapped_shape marks depth from s) i e
-  mapped_broke i e f (inl h) = mapped_fail i e (f h)
-  mapped_broke i e f (inr w) = absurd (ok_not_err w.second)
+  rule_broke : (i : Input) (e : Stop) → (p i ≡ Err e → Fails p s i e) → (p i ≡ Err e) ⊎ Broke {B = C} (p i) (λ a. pure (to a)) e → Fails read u i e
+  rule_broke i e f (inl h) = rule_fail i e (f h)
+  rule_broke i e f (inr w) = absurd (ok_not_err w.second)
 
-  pub mapped_fails_at : (i : Input) (e : Stop) → (p i ≡ Err e → Fails p s i e) → read i ≡ Err e → Fails read (mapped_shape marks depth from s) i e
-  mapped_fails_at i e f h = mapped_broke i e f (bind_err (p i) (λ a. pure (to a)) e (sym (is i) ∙ h))
+  pub rule_fails_at : (i : Input) (e : Stop) → (p i ≡ Err e → Fails p s i e) → read i ≡ Err e → Fails read u i e
+  rule_fails_at i e f h = rule_broke i e f (bind_err (p i) (λ a. pure (to a)) e (sym (is i) ∙ h))
 
 pub mapped_more : {A C : Type 0} (to : A → C) (p q : Parser A) → More p q → More (mapped to p) (mapped to q)
 mapped_more to p q h i = more_bind (p i) (q i) (λ a. pure (to a)) (λ a. pure (to a)) (h i) (λ a j d. refl)
@@ -432,63 +464,11 @@ mapped_more to p q h i = more_bind (p i) (q i) (λ a. pure (to a)) (λ a. pure (
 pub more_as : {A : Type 0} (p p' q q' : Parser A) → ((i : Input) → p' i ≡ p i) → ((i : Input) → q' i ≡ q i) → More p q → More p' q'
 more_as p p' q q' e f h i d = e i ∙ (h i (ap (λ o. nests_too_deep o) (sym (e i)) ∙ d) ∙ sym (f i))
 
-pub mapped_law : {A C : Type 0} {n : ℕ} {p q : Parser A} {s : Shape A} → Law n p q s → (marks : C → List Mark) (depth : C → ℕ) (to : A → C) (from : C → A) → Same s marks depth to from →
-    (read above : Parser C) → ((i : Input) → read i ≡ mapped to p i) → ((i : Input) → above i ≡ mapped to q i) → Law n read above (mapped_shape marks depth from s)
-mapped_law {A} {C} {n} {p} {q} {s} P marks depth to from same read above is are = record {
-  good = mapped_good n p s P.good marks depth to from same read is;
-  fails = λ i e. mapped_fails_at n p s P.good marks depth to from same read is i e (P.fails i e);
+-- a rule of the grammar: its parts in order, and the tree that is made of them
+pub rule_law : {A C : Type 0} {n : ℕ} {p q : Parser A} {s : Shape A} → Law n p q s → (u : Shape C) (to : A → C) → Rule s u to → (read above : Parser C) → ((i : Input) → read i ≡ mapped to p i) → ((i : Input) → above i ≡ mapped to q i) → Law n read above u
+rule_law {A} {C} {n} {p} {q} {s} P u to rule read above is are = record {
+  good = rule_good n p s P.good u to rule read is;
+  fails = λ i e. rule_fails_at n p s P.good u to rule read is i e (P.fails i e);
   more = more_as (mapped to p) read (mapped to q) above is are (mapped_more to p q P.more);
-}
-
--- ---- the same phrase with its shape written otherwise
-
-pub record Reshaped {A : Type 0} (s u : Shape A) : Type 1 where
-  pub marks : (a : A) → u.marks a ≡ s.marks a
-  pub tags : (a b : A) → s.tag a ≡ s.tag b → u.tag a ≡ u.tag b
-  pub depth : (a : A) → u.depth a ≡ s.depth a
-  pub fits_to : (a : A) → s.fits a → u.fits a
-  pub fits_from : (a : A) → u.fits a → s.fits a
-  pub closes : (k : Option Kind) → u.closes k → s.closes k
-  pub begins : (F : Option Kind → Type 0) (k : Option Kind) → s.begins F k → u.begins F k
-
-module _ {A : Type 0} (n : ℕ) (p : Parser A) (s u : Shape A) (r : Reshaped s u) where
-  retagged : (a : A) (i j : Input) → Accepts p s a i j → Accepts p u a i j
-  retagged a i j x = record { value = x.value; is = x.is; same = r.tags x.value a x.same }
-
-  pub reshaped_good : Good n p s → Good n p u
-  reshaped_good P = record {
-    sound = λ i a j e.
-        let x = P.sound i a j e in
-        record {
-          takes = subst (λ ms. Takes ms i j) (sym (r.marks a)) x.takes;
-          fits = r.fits_to a x.fits;
-          deep = subst (λ d. d ≤ n) (sym (r.depth a)) x.deep;
-          again = λ i' j' b c. retagged a i' j' (x.again i' j' (subst (λ ms. Begins ms i' j') (r.marks a) b) c);
-          before = λ tail. let y = x.before tail in record { start = y.start; begins = subst (λ ms. Begins ms y.start tail) (sym (r.marks a)) y.begins };
-        };
-    complete = λ i a j fits d t e. P.complete i a j (r.fits_from a fits) (subst (λ x. x ≤ n) (r.depth a) d) (subst (λ ms. Takes ms i j) (r.marks a) t) (r.closes (kind j) e);
-    accepts = λ i a j fits d t e. retagged a i j (P.accepts i a j (r.fits_from a fits) (subst (λ x. x ≤ n) (r.depth a) d) (subst (λ ms. Begins ms i j) (r.marks a) t) (r.closes (kind j) e));
-    front = λ i a j F d t e. r.begins F (kind i) (P.front i a j F (subst (λ x. x ≤ n) (r.depth a) d) (subst (λ ms. Takes ms i j) (r.marks a) t) e);
-    sample = λ tail e.
-        let a = P.sample tail (r.closes (kind tail) e) in
-        record { whole = a.whole; value = a.value; takes = subst (λ ms. Takes ms a.whole tail) (sym (r.marks a.value)) a.takes; starts = λ F k. r.begins F (kind a.whole) (a.starts F k) };
-  }
-
-  pub reshaped_fails_at : (i : Input) (e : Stop) → Fails p s i e → Fails p u i e
-  reshaped_fails_at i e x = record {
-    front = x.front;
-    stop = x.stop;
-    begins = x.begins;
-    position = x.position;
-    again = x.again;
-    viable = λ tail c.
-        let a = x.viable tail (r.closes (kind tail) c) in
-        record { whole = a.whole; mid = a.mid; value = a.value; begins = a.begins; takes = subst (λ ms. Takes ms a.whole tail) (sym (r.marks a.value)) a.takes; starts = λ F k. r.begins F (kind a.whole) (a.starts F k) };
-  }
-
-pub reshaped_law : {A : Type 0} {n : ℕ} {p q : Parser A} {s u : Shape A} → Law n p q s → Reshaped s u → Law n p q u
-reshaped_law {A} {n} {p} {q} {s} {u} P r = record {
-  good = reshaped_good n p s u r P.good;
-  fails = λ i e h. reshaped_fails_at n p s u r i e (P.fails i e h);
-  more = P.more;
+  fit = λ c. let m = rule.made c in subst u.fits m.is (rule.fits_to m.of (P.fit m.of));
 }

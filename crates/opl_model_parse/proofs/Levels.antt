@@ -4,10 +4,10 @@ use Rattle.opl_model_tree.specs.Marks.{Part, Mark, place, token}
 use Rattle.opl_model_tree.specs.Spelling.{kind_of, IsProper}
 use Rattle.opl_token.specs.declared.token.Kind.{Kind}
 use Rattle.opl_grammar.specs.Input.{Input, Stop, syntax, too_deep, Outcome, Parser, kind, next, place as place_at, and_then, ◌>>=◌, pure, here, one, take_found}
-use Rattle.opl_model_parse.proofs.Outcomes.{ok_one, err_one, ok_not_err}
+use Rattle.opl_model_parse.proofs.Outcomes.{err_one, ok_not_err, and_then_pure}
 use Rattle.opl_model_parse.proofs.Takes.{Begins, is_deep, Position, before}
 use Rattle.opl_model_parse.proofs.Phrases.{Shape, Accepts, Sound, Sample, Samples, Good, Viable, Faults, Fails, AllFail, nests_too_deep, More, Law, Reads, one_shape, one_law, pair, pair_shape, pair_law}
-use Rattle.opl_model_parse.proofs.Forms.{placed, placed_shape, placed_law, more_as, Reshaped, reshaped_law}
+use Rattle.opl_model_parse.proofs.Forms.{more_as, Rule, rule_law}
 
 -- ---- the same phrase, one level deeper
 
@@ -18,6 +18,7 @@ deeper s = record {
   tag = s.tag;
   depth = λ a. suc (s.depth a);
   fits = s.fits;
+  ends = s.ends;
   closes = s.closes;
   begins = s.begins;
 }
@@ -45,6 +46,7 @@ module _ {A : Type 0} (n : ℕ) (p q : Parser A) (s : Shape A) (P : Law n p q s)
       complete = λ i a j fits d t e. is i ∙ P.good.complete i a j fits (less_of d) t e;
       accepts = λ i a j fits d t e. deeper_read a i j (P.good.accepts i a j fits (less_of d) t e);
       front = λ i a j F d t e. P.good.front i a j F (less_of d) t e;
+      closing = P.good.closing;
       sample = λ tail h. let a = P.good.sample tail h in record { whole = a.whole; value = a.value; takes = a.takes; starts = a.starts };
     };
     fails = λ i e h.
@@ -58,6 +60,7 @@ module _ {A : Type 0} (n : ℕ) (p q : Parser A) (s : Shape A) (P : Law n p q s)
           viable = λ tail c. let a = f.viable tail c in record { whole = a.whole; mid = a.mid; value = a.value; begins = a.begins; takes = a.takes; starts = a.starts };
         };
     more = more_as p read q above is are P.more;
+    fit = P.fit;
   }
 
 -- ---- what is read behind an opening token
@@ -74,6 +77,8 @@ pub record Inner {A : Type 0} (n : ℕ) (entry above : ℕ → Parser A) (s : Sh
 pub record Closed {A : Type 0} (entry : ℕ → Parser A) (s : Shape A) : Type 1 where
   pub is : (at : ℕ) (i : Input) → entry at i ≡ Err (too_deep at)
   pub sample : Samples s
+  pub closing : (x : s.Tag) (k : Option Kind) → s.closes k → s.ends x k
+  pub fit : (a : A) → s.fits a
 
 abbrev pub Levels : {A : Type 0} → ℕ → (ℕ → Parser A) → (ℕ → Parser A) → Shape A → Type 1
 Levels zero entry above s = Closed entry s
@@ -89,17 +94,18 @@ entry_sample {A} {n} {entry} {above} {s} e = by_levels n e.levels where
   by_levels zero c = c.sample
   by_levels (suc n) c = c.law.good.sample
 
--- the opening token with its place, then what stands behind it
-abbrev pub opened : {X A : Type 0} → (Option Kind → Option X) → (ℕ → Parser A) → Parser (ℕ × (X × A))
-opened table entry = here >>= (λ at. one table >>= (λ x. entry at >>= (λ a. pure (at, (x, a)))))
+-- the opening token, then what stands behind it, which has the token's place
+abbrev pub opened : {X A : Type 0} → (Option Kind → Option X) → (ℕ → Parser A) → Parser (X × A)
+opened table entry = here >>= (λ at. one table >>= (λ x. entry at >>= (λ a. pure (x, a))))
 
-abbrev pub opened_shape : {X A : Type 0} → (X → Part) → (Option Kind → Type 0) → Shape A → Shape (ℕ × (X × A))
+abbrev pub opened_shape : {X A : Type 0} → (X → Part) → (Option Kind → Type 0) → Shape A → Shape (X × A)
 opened_shape {X} part first s = record {
-  marks = λ c. place c.0 ∷ token (part c.1.0) ∷ s.marks c.1.1;
+  marks = λ c. token (part c.0) ∷ s.marks c.1;
   Tag = X × s.Tag;
-  tag = λ c. (c.1.0, s.tag c.1.1);
-  depth = λ c. suc (s.depth c.1.1);
-  fits = λ c. s.fits c.1.1;
+  tag = λ c. (c.0, s.tag c.1);
+  depth = λ c. suc (s.depth c.1);
+  fits = λ c. s.fits c.1;
+  ends = λ x. s.ends x.1;
   closes = s.closes;
   begins = λ F. first;
 }
@@ -116,7 +122,7 @@ module _ {X A : Type 0} (table : Option Kind → Option X) (part : X → Part) (
   closed_err i None e t = inl (record { fault = syntax (place_at i); is = closed_none entry i t; like = refl })
   closed_err i (Some x) e t = inr (record { fault = too_deep (place_at i); is = closed_some i x e t; like = refl })
 
-  closed_not : (i : Input) (c : ℕ × (X × A)) (j : Input) → Closed entry s → opened table entry i ≡ Ok (c, j) → ⊥
+  closed_not : (i : Input) (c : X × A) (j : Input) → Closed entry s → opened table entry i ≡ Ok (c, j) → ⊥
   closed_not i c j e h = by_fault (closed_err i (table (kind i)) e refl) where
     by_fault : Faults (syntax 0) (opened table entry i) ⊎ Faults (too_deep 0) (opened table entry i) → ⊥
     by_fault (inl f) = ok_not_err (sym h ∙ f.is)
@@ -126,8 +132,8 @@ module _ {X A : Type 0} (table : Option Kind → Option X) (part : X → Part) (
   abbrev opened_sample : (x : X) → IsProper (part x) → (tail : Input) → Sample s tail → Sample (opened_shape part first s) tail
   opened_sample x h tail a = record {
     whole = before (part x) a.whole;
-    value = (0, (x, a.value));
-    takes = (refl, ((refl, h), a.takes));
+    value = (x, a.value);
+    takes = ((refl, h), a.takes);
     starts = λ F k. r.starts x h;
   }
 
@@ -137,6 +143,7 @@ module _ {X A : Type 0} (table : Option Kind → Option X) (part : X → Part) (
     complete = λ i c j fits d t k. absurd (omega arith);
     accepts = λ i c j fits d t k. absurd (omega arith);
     front = λ i c j F d t k. absurd (omega arith);
+    closing = λ x k h. e.closing x.1 k h;
     sample = λ tail h. opened_sample r.sample r.proper tail (e.sample tail h);
   }
 
@@ -185,36 +192,36 @@ module _ {X A : Type 0} (table : Option Kind → Option X) (part : X → Part) (
     good = closed_good e;
     fails = λ i f h. closed_fails i f (table (kind i)) e refl h;
     more = λ i d. closed_more i (table (kind i)) e refl d;
+    fit = λ c. e.fit c.1;
   }
 
--- with one more level
-module _ {X A : Type 0} (table : Option Kind → Option X) (entry : ℕ → Parser A) (read : Parser A) (is : (at : ℕ) (i : Input) → entry at i ≡ read i) where
-  opened_is : (i : Input) → opened table entry i ≡ placed (pair (one table) read) i
-  opened_is i = by_found (table (kind i)) where
-    by_inner : (x : X) (o : Outcome A) → and_then o (λ a. pure {A = ℕ × (X × A)} (place_at i, (x, a))) ≡ and_then (and_then o (λ a. pure {A = X × A} (x, a))) (λ c. pure (place_at i, c))
-    by_inner x (Ok c) = refl
-    by_inner x (Err f) = refl
-
-    by_found : (o : Option X) → and_then (take_found o i) (λ x. entry (place_at i) >>= (λ a. pure {A = ℕ × (X × A)} (place_at i, (x, a)))) ≡ and_then (and_then (take_found o i) (λ x. read >>= (λ a. pure {A = X × A} (x, a)))) (λ c. pure (place_at i, c))
+  -- with one more level
+  level_read : (e : ℕ → Parser A) (p : Parser A) → ((at : ℕ) (i : Input) → e at i ≡ p i) → (i : Input) → opened table e i ≡ pair (one table) p i
+  level_read e p is i = by_found (table (kind i)) where
+    by_found : (o : Option X) → and_then (take_found o i) (λ x. e (place_at i) >>= (λ a. pure {A = X × A} (x, a))) ≡ and_then (take_found o i) (λ x. p >>= (λ a. pure {A = X × A} (x, a)))
     by_found None = refl
-    by_found (Some x) = ap (λ o. and_then o (λ a. pure {A = ℕ × (X × A)} (place_at i, (x, a)))) (is (place_at i) (next i)) ∙ by_inner x (read (next i))
+    by_found (Some x) = ap (λ o. and_then o (λ a. pure {A = X × A} (x, a))) (is (place_at i) (next i))
 
-opened_reshaped : {X A : Type 0} (part : X → Part) (first : Option Kind → Type 0) (s : Shape A) → Reshaped (deeper (placed_shape (pair_shape (one_shape part first) s))) (opened_shape part first s)
-opened_reshaped part first s = record {
-  marks = λ c. refl;
-  tags = λ a b h. h;
-  depth = λ c. omega arith;
-  fits_to = λ c h. h.1;
-  fits_from = λ c h. (tt, h);
-  closes = λ k h. h;
-  begins = λ F k h. h;
-}
+  level_rule : ((x : s.Tag) (k : Option Kind) → s.closes k → s.ends x k) → Rule (deeper (pair_shape (one_shape part first) s)) (opened_shape part first s) (λ c. c)
+  level_rule closing = record {
+    made = λ c. record { of = c; is = refl };
+    marks = λ c. refl;
+    tags = λ a b h. h;
+    depth = λ c. omega arith;
+    fits_to = λ c h. h.1;
+    fits_from = λ c h. (tt, h);
+    ends = λ a k h. h;
+    closing = λ x k h. closing x.1 k h;
+    closes = λ k h. h;
+    begins = λ F k h. h;
+  }
+
+  pub opened_law_of : (n : ℕ) → Levels n entry above s → Law n (opened table entry) (opened table above) (opened_shape part first s)
+  opened_law_of zero e = closed_law e
+  opened_law_of (suc n) e = rule_law
+      (deeper_law_of n (pair (one table) e.read) (pair (one table) e.more) (pair_shape (one_shape part first) s) (pair_law (one_law r) e.law (λ x k h. tt))
+      (opened table entry) (opened table above) (level_read entry e.read e.is) (level_read above e.more e.are))
+      (opened_shape part first s) (λ c. c) (level_rule e.law.good.closing) (opened table entry) (opened table above) (λ i. sym (and_then_pure (opened table entry i))) (λ i. sym (and_then_pure (opened table above i)))
 
 pub opened_law : {X A : Type 0} {n : ℕ} {entry above : ℕ → Parser A} {s : Shape A} {table : Option Kind → Option X} {part : X → Part} {first : Option Kind → Type 0} → Reads table part first → Entry n entry above s → Law n (opened table entry) (opened table above) (opened_shape part first s)
-opened_law {X} {A} {n} {entry} {above} {s} {table} {part} {first} r f = by_levels n f.levels where
-  by_levels : (n : ℕ) → Levels n entry above s → Law n (opened table entry) (opened table above) (opened_shape part first s)
-  by_levels zero e = closed_law table part first r entry above s e
-  by_levels (suc n) e = reshaped_law
-      (deeper_law_of n (placed (pair (one table) e.read)) (placed (pair (one table) e.more)) (placed_shape (pair_shape (one_shape part first) s))
-      (placed_law (pair_law (one_law r) e.law (λ k h. tt))) (opened table entry) (opened table above) (opened_is table entry e.read e.is) (opened_is table above e.more e.are))
-      (opened_reshaped part first s)
+opened_law {X} {A} {n} {entry} {above} {s} {table} {part} {first} r f = opened_law_of table part first r entry above s n f.levels

@@ -4,5 +4,3 @@ pub mod Phrases
 pub mod Forms
 pub mod Levels
 pub mod Lists
-
-

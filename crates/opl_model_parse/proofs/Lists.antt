@@ -7,15 +7,17 @@ use Rattle.opl_grammar.specs.Input.{Input, Stop, syntax, too_deep, Outcome, Pars
 use Rattle.opl_model_parse.proofs.Outcomes.{and_then_pure}
 use Rattle.opl_model_parse.proofs.Takes.{Takes, takes_split, Begins, takes_begins, begins_split, begins_less, Written}
 use Rattle.opl_model_parse.proofs.Phrases.{Shape, Accepts, Sound, Good, Fails, AllFail, More, Law, Any, nests_too_deep, more_bind, more_test, pair, pair_shape, pair_good, pair_fails_at, pair_more, max_le, max_left, max_right}
-use Rattle.opl_model_parse.proofs.Forms.{maybe, maybe_shape, maybe_fits, maybe_good, maybe_fails_at, maybe_more, mapped, mapped_shape, mapped_good, mapped_fails_at, mapped_more, Same, Passes, Reshaped, reshaped_good}
+use Rattle.opl_model_parse.proofs.Forms.{maybe, maybe_shape, maybe_fits, maybe_good, maybe_fails_at, maybe_more, mapped, Made, Rule, rule_good, rule_fails_at, Passes}
+
+some_one : {X : Type 0} {x y : X} → ◌≡◌ {A = Option X} (Some x) (Some y) → x ≡ y
+some_one h = cc
+
+cons_eq : {X : Type 0} {x y : X} {xs ys : List X} → x ≡ y → xs ≡ ys → x ∷ xs ≡ y ∷ ys
+cons_eq h k = cc
 
 abbrev pub list_of : {A : Type 0} → Option (A × List A) → List A
 list_of None = []
 list_of (Some c) = c.0 ∷ c.1
-
-abbrev pub head_of : {A : Type 0} → List A → Option (A × List A)
-head_of [] = None
-head_of (x ∷ xs) = Some (x, xs)
 
 -- one step over the list that follows
 abbrev pub many_step : {A : Type 0} → (Option Kind → Bool) → Parser A → Parser (List A) → Parser (List A)
@@ -45,6 +47,7 @@ many_shape_n starts s n = record {
   tag = list_tag s;
   depth = list_depth s;
   fits = list_fits s n;
+  ends = λ x k. s.closes k × (starts k ≡ false);
   closes = λ k. s.closes k × (starts k ≡ false);
   begins = λ F k. (starts k ≡ true) ⊎ F k;
 }
@@ -58,50 +61,48 @@ pub record ListPart {A : Type 0} (starts : Option Kind → Bool) (s : Shape A) :
 abbrev step_shape : {A : Type 0} → (Option Kind → Bool) → Shape A → Shape (List A) → Shape (Option (A × List A))
 step_shape starts s rest = maybe_shape starts (pair_shape s rest)
 
-list_same : {A : Type 0} (starts : Option Kind → Bool) (s : Shape A) (rest : Shape (List A)) → ((xs : List A) → rest.marks xs ≡ joined (map s.marks xs)) → ((xs : List A) → rest.depth xs ≡ list_depth s xs) →
-    Same (step_shape starts s rest) (λ xs. joined (map s.marks xs)) (list_depth s) list_of head_of
-list_same {A} starts s rest same deeps = record { there = there; back = back; spelt = spelt; deep = deep } where
-  there : (xs : List A) → list_of (head_of xs) ≡ xs
-  there [] = refl
-  there (x ∷ xs) = refl
+list_made : {A : Type 0} (xs : List A) → Made list_of xs
+list_made [] = record { of = None; is = refl }
+list_made (x ∷ xs) = record { of = Some (x, xs); is = refl }
 
-  back : (o : Option (A × List A)) → head_of (list_of o) ≡ o
-  back None = refl
-  back (Some c) = refl
+module _ {A : Type 0} (starts : Option Kind → Bool) (s : Shape A) (rest : Shape (List A)) (same : (xs : List A) → rest.marks xs ≡ joined (map s.marks xs)) (deeps : (xs : List A) → rest.depth xs ≡ list_depth s xs) where
+  step_marks : (o : Option (A × List A)) → joined (map s.marks (list_of o)) ≡ (step_shape starts s rest).marks o
+  step_marks None = refl
+  step_marks (Some c) = ap (λ ms. s.marks c.0 ++ ms) (sym (same c.1))
 
-  spelt : (xs : List A) → joined (map s.marks xs) ≡ (step_shape starts s rest).marks (head_of xs)
-  spelt [] = refl
-  spelt (x ∷ xs) = ap (λ ms. s.marks x ++ ms) (sym (same xs))
-
-  deep : (xs : List A) → list_depth s xs ≡ (step_shape starts s rest).depth (head_of xs)
-  deep [] = refl
-  deep (x ∷ xs) = ap (λ d. max (s.depth x) d) (sym (deeps xs))
+  step_depth : (o : Option (A × List A)) → list_depth s (list_of o) ≡ (step_shape starts s rest).depth o
+  step_depth None = refl
+  step_depth (Some c) = ap (λ d. max (s.depth c.0) d) (sym (deeps c.1))
 
 module _ {A : Type 0} (n : ℕ) (starts : Option Kind → Bool) (p : Parser A) (s : Shape A) (P : Good n p s) (part : ListPart starts s) where
-  list_fits_to : (m : ℕ) (xs : List A) → maybe_fits (pair_shape s (many_shape_n starts s m)) (head_of xs) → list_fits s (suc m) xs
-  list_fits_to m [] h = tt
-  list_fits_to m (x ∷ xs) h = h
+  list_fits_to : (m : ℕ) (o : Option (A × List A)) → maybe_fits (pair_shape s (many_shape_n starts s m)) o → list_fits s (suc m) (list_of o)
+  list_fits_to m None h = tt
+  list_fits_to m (Some c) h = h
 
-  list_fits_from : (m : ℕ) (xs : List A) → list_fits s (suc m) xs → maybe_fits (pair_shape s (many_shape_n starts s m)) (head_of xs)
-  list_fits_from m [] h = tt
-  list_fits_from m (x ∷ xs) h = h
+  list_fits_from : (m : ℕ) (o : Option (A × List A)) → list_fits s (suc m) (list_of o) → maybe_fits (pair_shape s (many_shape_n starts s m)) o
+  list_fits_from m None h = tt
+  list_fits_from m (Some c) h = h
 
-  abbrev many_mapped : ℕ → Shape (List A)
-  many_mapped m = mapped_shape (λ xs. joined (map s.marks xs)) (list_depth s) head_of (step_shape starts s (many_shape_n starts s m))
+  list_tags : (rest : Shape (List A)) → ((xs ys : List A) → rest.tag xs ≡ rest.tag ys → list_tag s xs ≡ list_tag s ys) → (o u : Option (A × List A)) → (step_shape starts s rest).tag o ≡ (step_shape starts s rest).tag u → list_tag s (list_of o) ≡ list_tag s (list_of u)
+  list_tags rest same None None h = refl
+  list_tags rest same None (Some d) h = cc
+  list_tags rest same (Some c) None h = cc
+  list_tags rest same (Some c) (Some d) h = let e = some_one h in cons_eq (ap (λ x. x.0) e) (same c.1 d.1 (ap (λ x. x.1) e))
 
-  list_tags : (m : ℕ) (xs ys : List A) → (many_mapped m).tag xs ≡ (many_mapped m).tag ys → list_tag s xs ≡ list_tag s ys
-  list_tags m [] [] h = refl
-  list_tags m [] (y ∷ ys) h = cc
-  list_tags m (x ∷ xs) [] h = cc
-  list_tags m (x ∷ xs) (y ∷ ys) h = ap list_of h
+  list_ends : (rest : Shape (List A)) → ((xs : List A) (k : Option Kind) → s.closes k × (starts k ≡ false) → rest.ends (rest.tag xs) k) → (o : Option (A × List A)) (k : Option Kind) → s.closes k × (starts k ≡ false) → (step_shape starts s rest).ends ((step_shape starts s rest).tag o) k
+  list_ends rest ends None k h = h.1
+  list_ends rest ends (Some c) k h = ends c.1 k h
 
-  list_reshaped : (m : ℕ) → Reshaped (many_mapped m) (many_shape_n starts s (suc m))
-  list_reshaped m = record {
-    marks = λ xs. refl;
-    tags = list_tags m;
-    depth = λ xs. refl;
+  list_rule : (m : ℕ) → Rule (step_shape starts s (many_shape_n starts s m)) (many_shape_n starts s (suc m)) list_of
+  list_rule m = record {
+    made = list_made;
+    marks = step_marks starts s (many_shape_n starts s m) (λ xs. refl) (λ xs. refl);
+    tags = list_tags (many_shape_n starts s m) (λ xs ys h. h);
+    depth = step_depth starts s (many_shape_n starts s m) (λ xs. refl) (λ xs. refl);
     fits_to = list_fits_to m;
     fits_from = list_fits_from m;
+    ends = list_ends (many_shape_n starts s m) (λ xs k h. h);
+    closing = λ x k h. h;
     closes = λ k h. (h, h.1);
     begins = λ F k h. h;
   }
@@ -111,7 +112,7 @@ module _ {A : Type 0} (n : ℕ) (starts : Option Kind → Bool) (p : Parser A) (
   list_meets F k (inr h) = h.0
 
   list_pair : (m : ℕ) → Good n (many_n starts p m) (many_shape_n starts s m) → Good n (pair p (many_n starts p m)) (pair_shape s (many_shape_n starts s m))
-  list_pair m rest = pair_good n p s (many_n starts p m) (many_shape_n starts s m) P rest (λ k h. list_meets (λ l. starts l ≡ false) k h)
+  list_pair m rest = pair_good n p s (many_n starts p m) (many_shape_n starts s m) P rest (λ x k h. list_meets (λ l. starts l ≡ false) k h)
 
   list_maybe : (m : ℕ) → Good n (many_n starts p m) (many_shape_n starts s m) → Good n (maybe starts (pair p (many_n starts p m))) (step_shape starts s (many_shape_n starts s m))
   list_maybe m rest = maybe_good n starts (pair p (many_n starts p m)) (pair_shape s (many_shape_n starts s m)) (list_pair m rest) (λ F k h. part.passes (λ l. (starts l ≡ true) ⊎ F l) k h)
@@ -123,6 +124,7 @@ module _ {A : Type 0} (n : ℕ) (starts : Option Kind → Bool) (p : Parser A) (
     complete = λ i a j fits d t e. absurd fits;
     accepts = λ i a j fits d t e. absurd fits;
     front = λ i a j F d t e. front_of i a j F d t e;
+    closing = λ x k h. h;
     sample = λ tail h. record { whole = tail; value = []; takes = refl; starts = λ F k. inr k };
   } where
     front_of : (i : Input) (xs : List A) (j : Input) (F : Option Kind → Type 0) → list_depth s xs ≤ n → Takes (joined (map s.marks xs)) i j → F (kind j) → (starts (kind i) ≡ true) ⊎ F (kind i)
@@ -131,9 +133,8 @@ module _ {A : Type 0} (n : ℕ) (starts : Option Kind → Bool) (p : Parser A) (
         let w = takes_split (s.marks x) (joined (map s.marks xs)) i j t in
         inl (part.passes Any (kind i) (P.front i x w.mid Any (max_left (s.depth x) (list_depth s xs) d) w.front tt))
   many_n_good (suc m) =
-      reshaped_good n (many_step starts p (many_n starts p m)) (many_mapped m) (many_shape_n starts s (suc m)) (list_reshaped m)
-      (mapped_good n (maybe starts (pair p (many_n starts p m))) (step_shape starts s (many_shape_n starts s m)) (list_maybe m (many_n_good m))
-      (λ xs. joined (map s.marks xs)) (list_depth s) list_of head_of (list_same starts s (many_shape_n starts s m) (λ xs. refl) (λ xs. refl)) (many_step starts p (many_n starts p m)) (λ i. refl))
+      rule_good n (maybe starts (pair p (many_n starts p m))) (step_shape starts s (many_shape_n starts s m)) (list_maybe m (many_n_good m))
+      (many_shape_n starts s (suc m)) list_of (list_rule m) (many_step starts p (many_n starts p m)) (λ i. refl)
 
 -- ---- enough turns are as good as more
 
@@ -222,6 +223,7 @@ many_shape starts s = record {
   tag = list_tag s;
   depth = list_depth s;
   fits = all_fit s;
+  ends = λ x k. s.closes k × (starts k ≡ false);
   closes = λ k. s.closes k × (starts k ≡ false);
   begins = λ F k. (starts k ≡ true) ⊎ F k;
 }
@@ -273,6 +275,7 @@ module _ {A : Type 0} (n : ℕ) (starts : Option Kind → Bool) (p : Parser A) (
     accepts = λ i xs j fits d b e.
         many_accepts i xs j ((many_n_good n starts p s P part (suc (left i))).accepts i xs j (fits_enough xs i j (suc (left i)) fits b (omega arith)) d b e);
     front = (many_n_good n starts p s P part 1).front;
+    closing = λ x k h. h;
     sample = λ tail h. record { whole = tail; value = []; takes = refl; starts = λ F k. inr k };
   }
 
@@ -281,28 +284,41 @@ module _ {A : Type 0} (n : ℕ) (starts : Option Kind → Bool) (p : Parser A) (
   whole_closes k (inr h) = h.0
 
   many_pair : Good n (pair p (many starts p)) (pair_shape s (many_shape starts s))
-  many_pair = pair_good n p s (many starts p) (many_shape starts s) P many_good whole_closes
+  many_pair = pair_good n p s (many starts p) (many_shape starts s) P many_good (λ x k h. whole_closes k h)
 
   whole_passes : Passes starts (pair_shape s (many_shape starts s))
   whole_passes F k h = part.passes (λ l. (starts l ≡ true) ⊎ F l) k h
 
+  whole_rule : Rule (step_shape starts s (many_shape starts s)) (many_shape starts s) list_of
+  whole_rule = record {
+    made = list_made;
+    marks = step_marks starts s (many_shape starts s) (λ xs. refl) (λ xs. refl);
+    tags = list_tags n starts p s P part (many_shape starts s) (λ xs ys h. h);
+    depth = step_depth starts s (many_shape starts s) (λ xs. refl) (λ xs. refl);
+    fits_to = whole_fits_to;
+    fits_from = whole_fits_from;
+    ends = list_ends n starts p s P part (many_shape starts s) (λ xs k h. h);
+    closing = λ x k h. h;
+    closes = λ k h. (h, h.1);
+    begins = λ F k h. h;
+  } where
+    whole_fits_to : (o : Option (A × List A)) → maybe_fits (pair_shape s (many_shape starts s)) o → all_fit s (list_of o)
+    whole_fits_to None h = tt
+    whole_fits_to (Some c) h = h
+
+    whole_fits_from : (o : Option (A × List A)) → all_fit s (list_of o) → maybe_fits (pair_shape s (many_shape starts s)) o
+    whole_fits_from None h = tt
+    whole_fits_from (Some c) h = h
+
   many_fail : AllFail p s → (m : ℕ) (i : Input) (e : Stop) → left i < m → many starts p i ≡ Err e → Fails (many starts p) (many_shape starts s) i e
   many_fail f zero i e less h = absurd (omega arith)
   many_fail f (suc m) i e less h =
-      let x = mapped_fails_at n (maybe starts (pair p (many starts p))) (step_shape starts s (many_shape starts s))
+      rule_fails_at n (maybe starts (pair p (many starts p))) (step_shape starts s (many_shape starts s))
       (maybe_good n starts (pair p (many starts p)) (pair_shape s (many_shape starts s)) many_pair whole_passes)
-      (λ xs. joined (map s.marks xs)) (list_depth s) list_of head_of (list_same starts s (many_shape starts s) (λ xs. refl) (λ xs. refl)) (many starts p) (many_is_step starts p shrinks) i e
+      (many_shape starts s) list_of whole_rule (many starts p) (many_is_step starts p shrinks) i e
       (maybe_fails_at n starts (pair p (many starts p)) (pair_shape s (many_shape starts s)) many_pair whole_passes i e
-      (pair_fails_at n p s (many starts p) (many_shape starts s) P many_good whole_closes i e (f i e)
-      (λ a l c k. let less' = shrinks i a l c in many_fail f m l e (omega arith) k))) h in
-      record {
-        front = x.front;
-        stop = x.stop;
-        begins = x.begins;
-        position = x.position;
-        again = x.again;
-        viable = λ tail c. let a = x.viable tail (c, c.1) in record { whole = a.whole; mid = a.mid; value = a.value; begins = a.begins; takes = a.takes; starts = a.starts };
-      }
+      (pair_fails_at n p s (many starts p) (many_shape starts s) P many_good (λ x k h. whole_closes k h) i e (f i e)
+      (λ a l c k. let less' = shrinks i a l c in many_fail f m l e (omega arith) k))) h
 
   pub many_fails : AllFail p s → AllFail (many starts p) (many_shape starts s)
   many_fails f i e h = many_fail f (suc (left i)) i e (omega arith) h
@@ -312,4 +328,8 @@ many_law {A} {n} {p} {q} {s} starts P part = record {
   good = many_good n starts p s P.good part;
   fails = many_fails n starts p s P.good part P.fails;
   more = many_more starts p q P.more;
-}
+  fit = fit;
+} where
+  fit : (xs : List A) → all_fit s xs
+  fit [] = tt
+  fit (x ∷ xs) = (P.fit x, fit xs)

@@ -9,13 +9,15 @@ use Rattle.opl_model_parse.proofs.Outcomes.{ok_one, err_one, ok_not_err, bind_ok
 use Rattle.opl_model_parse.proofs.Takes.{Takes, takes_split, takes_join, Begins, takes_begins, begins_split, begins_join, same_front, is_deep, Last, Position, Next, position_join, stop_front, before}
 
 -- What a phrase is: what it writes, what is known of a value by its tokens alone, how deep it nests, which of its values
--- the reader is sure to take, before which tokens the reader stops, and with which it begins, by those that may follow.
+-- the reader is sure to take, before which tokens the reader stops behind a value, before which it stops in any case,
+-- and with which it begins, by those that may follow.
 pub record Shape (A : Type 0) : Type 1 where
   pub marks : A → List Mark
   pub Tag : Type 0
   pub tag : A → Tag
   pub depth : A → ℕ
   pub fits : A → Type 0
+  pub ends : Tag → Option Kind → Type 0
   pub closes : Option Kind → Type 0
   pub begins : (Option Kind → Type 0) → Option Kind → Type 0
 
@@ -52,9 +54,10 @@ Samples s = (tail : Input) → s.closes (kind tail) → Sample s tail
 -- at which it stops; and whether it reads has nothing to do with the places of the tokens.
 pub record Good {A : Type 0} (n : ℕ) (read : Parser A) (s : Shape A) : Type 1 where
   pub sound : (i : Input) (a : A) (j : Input) → read i ≡ Ok (a, j) → Sound read s n i a j
-  pub complete : (i : Input) (a : A) (j : Input) → s.fits a → s.depth a ≤ n → Takes (s.marks a) i j → s.closes (kind j) → read i ≡ Ok (a, j)
-  pub accepts : (i : Input) (a : A) (j : Input) → s.fits a → s.depth a ≤ n → Begins (s.marks a) i j → s.closes (kind j) → Accepts read s a i j
+  pub complete : (i : Input) (a : A) (j : Input) → s.fits a → s.depth a ≤ n → Takes (s.marks a) i j → s.ends (s.tag a) (kind j) → read i ≡ Ok (a, j)
+  pub accepts : (i : Input) (a : A) (j : Input) → s.fits a → s.depth a ≤ n → Begins (s.marks a) i j → s.ends (s.tag a) (kind j) → Accepts read s a i j
   pub front : (i : Input) (a : A) (j : Input) (F : Option Kind → Type 0) → s.depth a ≤ n → Takes (s.marks a) i j → F (kind j) → s.begins F (kind i)
+  pub closing : (x : s.Tag) (k : Option Kind) → s.closes k → s.ends x k
   pub sample : Samples s
 
 -- something that begins with these marks is written before the tail
@@ -100,6 +103,7 @@ pub record Law {A : Type 0} (n : ℕ) (read above : Parser A) (s : Shape A) : Ty
   pub good : Good n read s
   pub fails : AllFail read s
   pub more : More read above
+  pub fit : (a : A) → s.fits a
 
 pub max_le : {a b n : ℕ} → a ≤ n → b ≤ n → max a b ≤ n
 max_le h k = omega arith
@@ -141,6 +145,7 @@ one_shape {A} part first = record {
   tag = λ a. a;
   depth = λ a. 0;
   fits = λ a. Unit {0};
+  ends = λ a. Any;
   closes = Any;
   begins = λ F. first;
 }
@@ -180,6 +185,7 @@ module _ {A : Type 0} (n : ℕ) (table : Option Kind → Option A) (part : A →
     complete = λ i a j fits d t c. let e = r.known a t.0.1 in rw (t.0.0, e, t.1) refl;
     accepts = λ i a j fits d b c. one_again a b.0.1 i j b;
     front = λ i a j F d t h. rw t.0.0 (r.starts a t.0.1);
+    closing = λ a k h. tt;
     sample = λ tail h. record {
       whole = before (part r.sample) tail;
       value = r.sample;
@@ -209,7 +215,7 @@ module _ {A : Type 0} (n : ℕ) (table : Option Kind → Option A) (part : A →
   one_fails i e h = let t = take_none (table (kind i)) i e h in subst (λ x. Fails (one table) (one_shape part first) i x) t.1 (one_fail i t.0)
 
   pub one_law_of : Law n (one table) (one table) (one_shape part first)
-  one_law_of = record { good = one_good; fails = one_fails; more = λ i d. refl }
+  one_law_of = record { good = one_good; fails = one_fails; more = λ i d. refl; fit = λ a. tt }
 
 pub one_law : {A : Type 0} {n : ℕ} {table : Option Kind → Option A} {part : A → Part} {first : Option Kind → Type 0} → Reads table part first → Law n (one table) (one table) (one_shape part first)
 one_law {A} {n} {table} {part} {first} r = one_law_of n table part first r
@@ -226,18 +232,23 @@ pair_shape s t = record {
   tag = λ c. (s.tag c.0, t.tag c.1);
   depth = λ c. max (s.depth c.0) (t.depth c.1);
   fits = λ c. s.fits c.0 × t.fits c.1;
+  ends = λ x. t.ends x.1;
   closes = t.closes;
   begins = λ F. s.begins (t.begins F);
 }
 
 -- wherever the second begins, the first stops
 abbrev pub Meets : {A B : Type 0} → Shape A → Shape B → Type 0
-Meets {A} {B} s t = (k : Option Kind) → t.begins t.closes k → s.closes k
+Meets {A} {B} s t = (x : t.Tag) (k : Option Kind) → t.begins (t.ends x) k → s.closes k
 
 module _ {A B : Type 0} (n : ℕ) (p : Parser A) (s : Shape A) (q : Parser B) (t : Shape B) (P : Good n p s) (Q : Good n q t) (meets : Meets s t) where
   -- where the second is read, the first stops
-  stops_there : (i : Input) (b : B) (j : Input) → t.depth b ≤ n → Takes (t.marks b) i j → t.closes (kind j) → s.closes (kind i)
-  stops_there i b j d h e = meets (kind i) (Q.front i b j t.closes d h e)
+  stops_there : (i : Input) (b : B) (j : Input) → t.depth b ≤ n → Takes (t.marks b) i j → t.ends (t.tag b) (kind j) → s.closes (kind i)
+  stops_there i b j d h e = meets (t.tag b) (kind i) (Q.front i b j (t.ends (t.tag b)) d h e)
+
+  -- where the second may stand, the first stops
+  stops_before : (b : B) (i tail : Input) → ((F : Option Kind → Type 0) → F (kind tail) → t.begins F (kind i)) → t.closes (kind tail) → s.closes (kind i)
+  stops_before b i tail starts h = meets (t.tag b) (kind i) (starts (t.ends (t.tag b)) (Q.closing (t.tag b) (kind tail) h))
 
   pair_ok : (i : Input) (a : A) (m : Input) (b : B) (j : Input) → p i ≡ Ok (a, m) → q m ≡ Ok (b, j) → pair p q i ≡ Ok ((a, b), j)
   pair_ok i a m b j h k = rw (h, k) refl
@@ -270,7 +281,7 @@ module _ {A B : Type 0} (n : ℕ) (p : Parser A) (s : Shape A) (q : Parser B) (t
         let w = takes_split (s.marks c.0) (t.marks c.1) i j h in
         let l = max_left (s.depth c.0) (t.depth c.1) d in
         let r = max_right (s.depth c.0) (t.depth c.1) d in
-        let first = P.complete i c.0 w.mid fits.0 l w.front (stops_there w.mid c.1 j r w.back e) in
+        let first = P.complete i c.0 w.mid fits.0 l w.front (P.closing (s.tag c.0) (kind w.mid) (stops_there w.mid c.1 j r w.back e)) in
         pair_ok i c.0 w.mid c.1 j first (Q.complete w.mid c.1 j fits.1 r w.back e);
     accepts = λ i c j fits d h e.
         let w = begins_split (s.marks c.0) (t.marks c.1) i j h in
@@ -278,14 +289,15 @@ module _ {A B : Type 0} (n : ℕ) (p : Parser A) (s : Shape A) (q : Parser B) (t
         let r = max_right (s.depth c.0) (t.depth c.1) d in
         let second = Q.accepts w.mid c.1 j fits.1 r w.back e in
         let b = Q.sound w.mid second.value j second.is in
-        let first = P.accepts i c.0 w.mid fits.0 l w.front (stops_there w.mid second.value j b.deep b.takes e) in
+        let first = P.accepts i c.0 w.mid fits.0 l w.front (P.closing (s.tag c.0) (kind w.mid) (stops_there w.mid second.value j b.deep b.takes (subst (λ x. t.ends x (kind j)) (sym second.same) e))) in
         record { value = (first.value, second.value); is = pair_ok i first.value w.mid second.value j first.is second.is; same = pair_eq first.same second.same };
     front = λ i c j F d h e.
         let w = takes_split (s.marks c.0) (t.marks c.1) i j h in
         P.front i c.0 w.mid (t.begins F) (max_left (s.depth c.0) (t.depth c.1) d) w.front (Q.front w.mid c.1 j F (max_right (s.depth c.0) (t.depth c.1) d) w.back e);
+    closing = λ x k h. Q.closing x.1 k h;
     sample = λ tail h.
         let b = Q.sample tail h in
-        let a = P.sample b.whole (meets (kind b.whole) (b.starts t.closes h)) in
+        let a = P.sample b.whole (stops_before b.value b.whole tail b.starts h) in
         record {
           whole = a.whole;
           value = (a.value, b.value);
@@ -304,7 +316,7 @@ module _ {A B : Type 0} (n : ℕ) (p : Parser A) (s : Shape A) (q : Parser B) (t
     again = λ j m b c. let x = f.again j m b c in record { fault = x.fault; is = rw x.is refl; like = x.like };
     viable = λ tail h.
         let b = Q.sample tail h in
-        let a = f.viable b.whole (meets (kind b.whole) (b.starts t.closes h)) in
+        let a = f.viable b.whole (stops_before b.value b.whole tail b.starts h) in
         record {
           whole = a.whole;
           mid = a.mid;
@@ -334,7 +346,7 @@ module _ {A B : Type 0} (n : ℕ) (p : Parser A) (s : Shape A) (q : Parser B) (t
         viable = λ tail h.
             let b = f.viable tail h in
             let put = read.before b.whole in
-            let x = P.accepts put.start a b.whole read.fits read.deep put.begins (meets (kind b.whole) (b.starts t.closes h)) in
+            let x = P.accepts put.start a b.whole read.fits read.deep put.begins (P.closing (s.tag a) (kind b.whole) (stops_before b.value b.whole tail b.starts h)) in
             let again = P.sound put.start x.value b.whole x.is in
             record {
               whole = put.start;
@@ -370,4 +382,5 @@ pair_law {A} {B} {n} {p} {p'} {s} {q} {q'} {t} P Q meets = record {
   good = pair_good n p s q t P.good Q.good meets;
   fails = pair_fails n p s q t P.good Q.good meets P.fails Q.fails;
   more = pair_more p p' q q' P.more Q.more;
+  fit = λ c. (P.fit c.0, Q.fit c.1);
 }
