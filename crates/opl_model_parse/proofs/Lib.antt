@@ -4,3 +4,4 @@ pub mod Phrases
 pub mod Forms
 pub mod Levels
 pub mod Lists
+pub mod Tokens
