@@ -3,7 +3,7 @@ use Rattle.std.proofs.Common.{◌≡◌, ℕ, max, ◌≤◌, Bool, true, false,
 use Rattle.opl_model_tree.specs.Marks.{Mark, place}
 use Rattle.opl_token.specs.declared.token.Kind.{Kind}
 use Rattle.opl_grammar.specs.Input.{Input, Stop, syntax, too_deep, Outcome, Parser, kind, place as place_at, and_then, ◌>>=◌, pure, here}
-use Rattle.opl_model_parse.proofs.Outcomes.{ok_one, ok_not_err, bind_ok, Broke, bind_err}
+use Rattle.opl_model_parse.proofs.Outcomes.{ok_one, ok_not_err, bind_ok, Broke, bind_err, and_then_pure}
 use Rattle.opl_model_parse.proofs.Takes.{Takes, Begins, takes_begins, same_front, stop_front}
 use Rattle.opl_model_parse.proofs.Phrases.{Shape, Accepts, Before, Sound, Sample, Samples, Good, Viable, Faults, Fails, AllFail, nests_too_deep, More, Law, Any, more_bind, more_test}
 
@@ -464,11 +464,74 @@ mapped_more to p q h i = more_bind (p i) (q i) (λ a. pure (to a)) (λ a. pure (
 pub more_as : {A : Type 0} (p p' q q' : Parser A) → ((i : Input) → p' i ≡ p i) → ((i : Input) → q' i ≡ q i) → More p q → More p' q'
 more_as p p' q q' e f h i d = e i ∙ (h i (ap (λ o. nests_too_deep o) (sym (e i)) ∙ d) ∙ sym (f i))
 
+-- as a rule says it where every value fits
+pub record Tree {A C : Type 0} (s : Shape A) (u : Shape C) (to : A → C) : Type 1 where
+  pub made : (c : C) → Made to c
+  pub marks : (a : A) → u.marks (to a) ≡ s.marks a
+  pub tags : (a b : A) → s.tag a ≡ s.tag b → u.tag (to a) ≡ u.tag (to b)
+  pub depth : (a : A) → u.depth (to a) ≡ s.depth a
+  pub fits : (c : C) → u.fits c
+  pub ends : (a : A) (k : Option Kind) → u.ends (u.tag (to a)) k → s.ends (s.tag a) k
+  pub closing : (x : u.Tag) (k : Option Kind) → u.closes k → u.ends x k
+  pub closes : (k : Option Kind) → u.closes k → s.closes k
+  pub begins : (F : Option Kind → Type 0) (k : Option Kind) → s.begins F k → u.begins F k
+
 -- a rule of the grammar: its parts in order, and the tree that is made of them
-pub rule_law : {A C : Type 0} {n : ℕ} {p q : Parser A} {s : Shape A} → Law n p q s → (u : Shape C) (to : A → C) → Rule s u to → (read above : Parser C) → ((i : Input) → read i ≡ mapped to p i) → ((i : Input) → above i ≡ mapped to q i) → Law n read above u
-rule_law {A} {C} {n} {p} {q} {s} P u to rule read above is are = record {
+pub rule_law : {A C : Type 0} {n : ℕ} {p q : Parser A} {s : Shape A} → Law n p q s → (u : Shape C) (to : A → C) → Tree s u to → (read above : Parser C) → ((i : Input) → read i ≡ mapped to p i) → ((i : Input) → above i ≡ mapped to q i) → Law n read above u
+rule_law {A} {C} {n} {p} {q} {s} P u to tree read above is are = record {
   good = rule_good n p s P.good u to rule read is;
   fails = λ i e. rule_fails_at n p s P.good u to rule read is i e (P.fails i e);
   more = more_as (mapped to p) read (mapped to q) above is are (mapped_more to p q P.more);
-  fit = λ c. let m = rule.made c in subst u.fits m.is (rule.fits_to m.of (P.fit m.of));
+  fit = tree.fits;
+} where
+  rule : Rule s u to
+  rule = record {
+    made = tree.made;
+    marks = tree.marks;
+    tags = tree.tags;
+    depth = tree.depth;
+    fits_to = λ a h. tree.fits (to a);
+    fits_from = λ a h. P.fit a;
+    ends = tree.ends;
+    closing = tree.closing;
+    closes = tree.closes;
+    begins = tree.begins;
+  }
+
+-- the same phrase with its shape written otherwise
+pub law_as : {A : Type 0} {n : ℕ} {p q : Parser A} {s : Shape A} → Law n p q s → (u : Shape A) → Tree s u (λ a. a) → Law n p q u
+law_as {A} {n} {p} {q} {s} P u tree = rule_law P u (λ a. a) tree p q (λ i. sym (and_then_pure (p i))) (λ i. sym (and_then_pure (q i)))
+
+-- a phrase that stops before the same tokens whatever it is, and of which nothing need be known
+abbrev pub plain : {A : Type 0} → (A → List Mark) → (A → ℕ) → (Option Kind → Type 0) → ((Option Kind → Type 0) → Option Kind → Type 0) → Shape A
+plain marks depth closes begins = record {
+  marks = marks;
+  Tag = Unit {0};
+  tag = λ a. tt;
+  depth = depth;
+  fits = λ a. Unit {0};
+  ends = λ x. closes;
+  closes = closes;
+  begins = begins;
 }
+
+pub record Plain {A C : Type 0} (s : Shape A) (u : Shape C) (to : A → C) : Type 1 where
+  pub made : (c : C) → Made to c
+  pub marks : (a : A) → u.marks (to a) ≡ s.marks a
+  pub depth : (a : A) → u.depth (to a) ≡ s.depth a
+  pub closes : (k : Option Kind) → u.closes k → s.closes k
+  pub begins : (F : Option Kind → Type 0) (k : Option Kind) → s.begins F k → u.begins F k
+
+pub plain_law : {A C : Type 0} {n : ℕ} {p q : Parser A} {s : Shape A} → Law n p q s → (marks : C → List Mark) (depth : C → ℕ) (closes : Option Kind → Type 0) (begins : (Option Kind → Type 0) → Option Kind → Type 0) (to : A → C) →
+    Plain s (plain marks depth closes begins) to → (read above : Parser C) → ((i : Input) → read i ≡ mapped to p i) → ((i : Input) → above i ≡ mapped to q i) → Law n read above (plain marks depth closes begins)
+plain_law {A} {C} {n} {p} {q} {s} P marks depth closes begins to x read above is are = rule_law P (plain marks depth closes begins) to (record {
+  made = x.made;
+  marks = x.marks;
+  tags = λ a b h. refl;
+  depth = x.depth;
+  fits = λ c. tt;
+  ends = λ a k h. P.good.closing (s.tag a) k (x.closes k h);
+  closing = λ y k h. h;
+  closes = x.closes;
+  begins = x.begins;
+}) read above is are

@@ -7,7 +7,7 @@ use Rattle.opl_grammar.specs.Input.{Input, Stop, syntax, too_deep, Outcome, Pars
 use Rattle.opl_model_parse.proofs.Outcomes.{err_one, ok_not_err, and_then_pure}
 use Rattle.opl_model_parse.proofs.Takes.{Begins, is_deep, Position, before}
 use Rattle.opl_model_parse.proofs.Phrases.{Shape, Accepts, Sound, Sample, Samples, Good, Viable, Faults, Fails, AllFail, nests_too_deep, More, Law, Reads, one_shape, one_law, pair, pair_shape, pair_law}
-use Rattle.opl_model_parse.proofs.Forms.{more_as, Rule, rule_law}
+use Rattle.opl_model_parse.proofs.Forms.{more_as, Tree, rule_law}
 
 -- ---- the same phrase, one level deeper
 
@@ -202,14 +202,13 @@ module _ {X A : Type 0} (table : Option Kind → Option X) (part : X → Part) (
     by_found None = refl
     by_found (Some x) = ap (λ o. and_then o (λ a. pure {A = X × A} (x, a))) (is (place_at i) (next i))
 
-  level_rule : ((x : s.Tag) (k : Option Kind) → s.closes k → s.ends x k) → Rule (deeper (pair_shape (one_shape part first) s)) (opened_shape part first s) (λ c. c)
-  level_rule closing = record {
+  level_rule : ((a : A) → s.fits a) → ((x : s.Tag) (k : Option Kind) → s.closes k → s.ends x k) → Tree (deeper (pair_shape (one_shape part first) s)) (opened_shape part first s) (λ c. c)
+  level_rule fit closing = record {
     made = λ c. record { of = c; is = refl };
     marks = λ c. refl;
     tags = λ a b h. h;
     depth = λ c. omega arith;
-    fits_to = λ c h. h.1;
-    fits_from = λ c h. (tt, h);
+    fits = λ c. fit c.1;
     ends = λ a k h. h;
     closing = λ x k h. closing x.1 k h;
     closes = λ k h. h;
@@ -221,7 +220,7 @@ module _ {X A : Type 0} (table : Option Kind → Option X) (part : X → Part) (
   opened_law_of (suc n) e = rule_law
       (deeper_law_of n (pair (one table) e.read) (pair (one table) e.more) (pair_shape (one_shape part first) s) (pair_law (one_law r) e.law (λ x k h. tt))
       (opened table entry) (opened table above) (level_read entry e.read e.is) (level_read above e.more e.are))
-      (opened_shape part first s) (λ c. c) (level_rule e.law.good.closing) (opened table entry) (opened table above) (λ i. sym (and_then_pure (opened table entry i))) (λ i. sym (and_then_pure (opened table above i)))
+      (opened_shape part first s) (λ c. c) (level_rule e.law.fit e.law.good.closing) (opened table entry) (opened table above) (λ i. sym (and_then_pure (opened table entry i))) (λ i. sym (and_then_pure (opened table above i)))
 
 pub opened_law : {X A : Type 0} {n : ℕ} {entry above : ℕ → Parser A} {s : Shape A} {table : Option Kind → Option X} {part : X → Part} {first : Option Kind → Type 0} → Reads table part first → Entry n entry above s → Law n (opened table entry) (opened table above) (opened_shape part first s)
 opened_law {X} {A} {n} {entry} {above} {s} {table} {part} {first} r f = opened_law_of table part first r entry above s n f.levels

@@ -5,3 +5,4 @@ pub mod Forms
 pub mod Levels
 pub mod Lists
 pub mod Tokens
+pub mod Led
