@@ -6,3 +6,5 @@ pub mod Levels
 pub mod Lists
 pub mod Tokens
 pub mod Led
+pub mod Ops
+pub mod Follow
