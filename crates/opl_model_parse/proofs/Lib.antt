@@ -8,3 +8,4 @@ pub mod Tokens
 pub mod Led
 pub mod Ops
 pub mod Follow
+pub mod Going
