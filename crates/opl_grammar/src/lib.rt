@@ -2,8 +2,10 @@
 #![tactic(auto)]
 
 mod cursor;
+mod list;
 mod look;
 mod parts;
+mod tables;
 
 pub use cursor::Cursor;
 pub use look::Look;
