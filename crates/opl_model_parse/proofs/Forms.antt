@@ -502,12 +502,12 @@ rule_law {A} {C} {n} {p} {q} {s} P u to tree read above is are = record {
 pub law_as : {A : Type 0} {n : ℕ} {p q : Parser A} {s : Shape A} → Law n p q s → (u : Shape A) → Tree s u (λ a. a) → Law n p q u
 law_as {A} {n} {p} {q} {s} P u tree = rule_law P u (λ a. a) tree p q (λ i. sym (and_then_pure (p i))) (λ i. sym (and_then_pure (q i)))
 
--- a phrase that stops before the same tokens whatever it is, and of which nothing need be known
-abbrev pub plain : {A : Type 0} → (A → List Mark) → (A → ℕ) → (Option Kind → Type 0) → ((Option Kind → Type 0) → Option Kind → Type 0) → Shape A
-plain marks depth closes begins = record {
+-- a phrase that stops before the same tokens whatever it is
+abbrev pub tagged : {A T : Type 0} → (A → List Mark) → (A → ℕ) → (A → T) → (Option Kind → Type 0) → ((Option Kind → Type 0) → Option Kind → Type 0) → Shape A
+tagged {A} {T} marks depth tag closes begins = record {
   marks = marks;
-  Tag = Unit {0};
-  tag = λ a. tt;
+  Tag = T;
+  tag = tag;
   depth = depth;
   fits = λ a. Unit {0};
   ends = λ x. closes;
@@ -515,19 +515,24 @@ plain marks depth closes begins = record {
   begins = begins;
 }
 
+-- and of which nothing need be known
+abbrev pub plain : {A : Type 0} → (A → List Mark) → (A → ℕ) → (Option Kind → Type 0) → ((Option Kind → Type 0) → Option Kind → Type 0) → Shape A
+plain marks depth closes begins = tagged {T = Unit {0}} marks depth (λ a. tt) closes begins
+
 pub record Plain {A C : Type 0} (s : Shape A) (u : Shape C) (to : A → C) : Type 1 where
   pub made : (c : C) → Made to c
   pub marks : (a : A) → u.marks (to a) ≡ s.marks a
+  pub tags : (a b : A) → s.tag a ≡ s.tag b → u.tag (to a) ≡ u.tag (to b)
   pub depth : (a : A) → u.depth (to a) ≡ s.depth a
   pub closes : (k : Option Kind) → u.closes k → s.closes k
   pub begins : (F : Option Kind → Type 0) (k : Option Kind) → s.begins F k → u.begins F k
 
-pub plain_law : {A C : Type 0} {n : ℕ} {p q : Parser A} {s : Shape A} → Law n p q s → (marks : C → List Mark) (depth : C → ℕ) (closes : Option Kind → Type 0) (begins : (Option Kind → Type 0) → Option Kind → Type 0) (to : A → C) →
-    Plain s (plain marks depth closes begins) to → (read above : Parser C) → ((i : Input) → read i ≡ mapped to p i) → ((i : Input) → above i ≡ mapped to q i) → Law n read above (plain marks depth closes begins)
-plain_law {A} {C} {n} {p} {q} {s} P marks depth closes begins to x read above is are = rule_law P (plain marks depth closes begins) to (record {
+pub plain_law : {A C T : Type 0} {n : ℕ} {p q : Parser A} {s : Shape A} → Law n p q s → {marks : C → List Mark} {depth : C → ℕ} {tag : C → T} {closes : Option Kind → Type 0} {begins : (Option Kind → Type 0) → Option Kind → Type 0} (to : A → C) →
+    Plain s (tagged marks depth tag closes begins) to → (read above : Parser C) → ((i : Input) → read i ≡ mapped to p i) → ((i : Input) → above i ≡ mapped to q i) → Law n read above (tagged marks depth tag closes begins)
+plain_law {A} {C} {T} {n} {p} {q} {s} P {marks} {depth} {tag} {closes} {begins} to x read above is are = rule_law P (tagged marks depth tag closes begins) to (record {
   made = x.made;
   marks = x.marks;
-  tags = λ a b h. refl;
+  tags = x.tags;
   depth = x.depth;
   fits = λ c. tt;
   ends = λ a k h. P.good.closing (s.tag a) k (x.closes k h);

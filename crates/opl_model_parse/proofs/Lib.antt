@@ -9,3 +9,4 @@ pub mod Led
 pub mod Ops
 pub mod Follow
 pub mod Going
+pub mod Shapes
