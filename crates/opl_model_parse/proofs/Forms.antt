@@ -522,7 +522,8 @@ plain marks depth closes begins = tagged {T = Unit {0}} marks depth (λ a. tt) c
 pub record Plain {A C : Type 0} (s : Shape A) (u : Shape C) (to : A → C) : Type 1 where
   pub made : (c : C) → Made to c
   pub marks : (a : A) → u.marks (to a) ≡ s.marks a
-  pub tags : (a b : A) → s.tag a ≡ s.tag b → u.tag (to a) ≡ u.tag (to b)
+  pub view : s.Tag → u.Tag
+  pub tag : (a : A) → u.tag (to a) ≡ view (s.tag a)
   pub depth : (a : A) → u.depth (to a) ≡ s.depth a
   pub closes : (k : Option Kind) → u.closes k → s.closes k
   pub begins : (F : Option Kind → Type 0) (k : Option Kind) → s.begins F k → u.begins F k
@@ -532,7 +533,7 @@ pub plain_law : {A C T : Type 0} {n : ℕ} {p q : Parser A} {s : Shape A} → La
 plain_law {A} {C} {T} {n} {p} {q} {s} P {marks} {depth} {tag} {closes} {begins} to x read above is are = rule_law P (tagged marks depth tag closes begins) to (record {
   made = x.made;
   marks = x.marks;
-  tags = x.tags;
+  tags = λ a b h. x.tag a ∙ (ap x.view h ∙ sym (x.tag b));
   depth = x.depth;
   fits = λ c. tt;
   ends = λ a k h. P.good.closing (s.tag a) k (x.closes k h);

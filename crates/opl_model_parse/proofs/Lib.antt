@@ -10,3 +10,4 @@ pub mod Ops
 pub mod Follow
 pub mod Going
 pub mod Shapes
+pub mod Prims

@@ -37,7 +37,7 @@ use Rattle.opl_grammar.specs.declared.look.Look.TheVariants as looks
 use Rattle.opl_grammar.specs.Input.{look}
 use Rattle.opl_grammar.specs.Tables.{mul_sign_of, mul_word_of, mul_op_seen, mul_op_in, direction_of, direction_in, relation_of, relation_in, add_op_of, add_op_in, separator_of, separator_in, aggregate_of, aggregate_in, call_of, call_in, question_of, question_in, schedule_end_of, schedule_end_in, optimum_of, optimum_in, branch_of, branch_in, label_of, label_in}
 use Rattle.opl_model_parse.proofs.Phrases.{Reads}
-use Rattle.opl_model_parse.proofs.Tokens.{some_eq, look_sign, look_word, look_of_text, sign_table_reads, word_table_reads}
+use Rattle.opl_model_parse.proofs.Tokens.{some_eq, look_sign, look_word, look_of_text, sign_table_reads, word_table_reads, from_sign_table, from_word_table}
 
 relation_found : (s : Sign) (a : Relation) → relation_of s ≡ Some a → s ≡ relation_sign a
 relation_found signs.Equal a h = ap relation_sign (some_eq h)
@@ -65,6 +65,9 @@ relation_first k = is_some (relation_in k) ≡ true
 pub relation_reads : Reads relation_in relation_part relation_first
 relation_reads = sign_table_reads relation_of relation_sign relation_found relation_known relations.Equal
 
+pub from_relation : (P : Look → Type 0) (k : Option Kind) → relation_first k → ((a : Relation) → P (looks.Sign (relation_sign a))) → P (look k)
+from_relation = from_sign_table relation_of relation_sign relation_found relation_known relations.Equal
+
 add_op_found : (s : Sign) (a : AddOp) → add_op_of s ≡ Some a → s ≡ add_sign a
 add_op_found signs.Plus a h = ap add_sign (some_eq h)
 add_op_found signs.Minus a h = ap add_sign (some_eq h)
@@ -83,6 +86,9 @@ add_op_first k = is_some (add_op_in k) ≡ true
 pub add_op_reads : Reads add_op_in add_op_part add_op_first
 add_op_reads = sign_table_reads add_op_of add_sign add_op_found add_op_known add_ops.Plus
 
+pub from_add_op : (P : Look → Type 0) (k : Option Kind) → add_op_first k → ((a : AddOp) → P (looks.Sign (add_sign a))) → P (look k)
+from_add_op = from_sign_table add_op_of add_sign add_op_found add_op_known add_ops.Plus
+
 separator_found : (s : Sign) (a : GroupSeparator) → separator_of s ≡ Some a → s ≡ separator_sign a
 separator_found signs.Comma a h = ap separator_sign (some_eq h)
 separator_found signs.And a h = ap separator_sign (some_eq h)
@@ -100,6 +106,9 @@ separator_first k = is_some (separator_in k) ≡ true
 
 pub separator_reads : Reads separator_in separator_part separator_first
 separator_reads = sign_table_reads separator_of separator_sign separator_found separator_known separators.Comma
+
+pub from_separator : (P : Look → Type 0) (k : Option Kind) → separator_first k → ((a : GroupSeparator) → P (looks.Sign (separator_sign a))) → P (look k)
+from_separator = from_sign_table separator_of separator_sign separator_found separator_known separators.Comma
 
 aggregate_found : (s : Keyword) (a : AggregateOp) → aggregate_of s ≡ Some a → s ≡ aggregate_word a
 aggregate_found words.Sum a h = ap aggregate_word (some_eq h)
@@ -123,6 +132,9 @@ aggregate_first k = is_some (aggregate_in k) ≡ true
 pub aggregate_reads : Reads aggregate_in aggregate_part aggregate_first
 aggregate_reads = word_table_reads aggregate_of aggregate_word aggregate_found aggregate_known aggregate_ops.Sum
 
+pub from_aggregate : (P : Look → Type 0) (k : Option Kind) → aggregate_first k → ((a : AggregateOp) → P (looks.Word (aggregate_word a))) → P (look k)
+from_aggregate = from_word_table aggregate_of aggregate_word aggregate_found aggregate_known aggregate_ops.Sum
+
 call_found : (s : Keyword) (a : CallOp) → call_of s ≡ Some a → s ≡ call_word a
 call_found words.Abs a h = ap call_word (some_eq h)
 call_found words.Card a h = ap call_word (some_eq h)
@@ -140,6 +152,9 @@ call_first k = is_some (call_in k) ≡ true
 
 pub call_reads : Reads call_in call_part call_first
 call_reads = word_table_reads call_of call_word call_found call_known call_ops.Absolute
+
+pub from_call : (P : Look → Type 0) (k : Option Kind) → call_first k → ((a : CallOp) → P (looks.Word (call_word a))) → P (look k)
+from_call = from_word_table call_of call_word call_found call_known call_ops.Absolute
 
 question_found : (s : Keyword) (a : QuestionOp) → question_of s ≡ Some a → s ≡ question_word a
 question_found words.DSize a h = ap question_word (some_eq h)
@@ -163,6 +178,9 @@ question_first k = is_some (question_in k) ≡ true
 pub question_reads : Reads question_in question_part question_first
 question_reads = word_table_reads question_of question_word question_found question_known question_ops.Size
 
+pub from_question : (P : Look → Type 0) (k : Option Kind) → question_first k → ((a : QuestionOp) → P (looks.Word (question_word a))) → P (look k)
+from_question = from_word_table question_of question_word question_found question_known question_ops.Size
+
 schedule_end_found : (s : Keyword) (a : ScheduleEnd) → schedule_end_of s ≡ Some a → s ≡ schedule_word a
 schedule_end_found words.ScheduleOrigin a h = ap schedule_word (some_eq h)
 schedule_end_found words.ScheduleHorizon a h = ap schedule_word (some_eq h)
@@ -181,6 +199,9 @@ schedule_end_first k = is_some (schedule_end_in k) ≡ true
 pub schedule_end_reads : Reads schedule_end_in schedule_end_part schedule_end_first
 schedule_end_reads = word_table_reads schedule_end_of schedule_word schedule_end_found schedule_end_known schedule_ends.Origin
 
+pub from_schedule_end : (P : Look → Type 0) (k : Option Kind) → schedule_end_first k → ((a : ScheduleEnd) → P (looks.Word (schedule_word a))) → P (look k)
+from_schedule_end = from_word_table schedule_end_of schedule_word schedule_end_found schedule_end_known schedule_ends.Origin
+
 optimum_found : (s : Keyword) (a : Optimum) → optimum_of s ≡ Some a → s ≡ optimum_word a
 optimum_found words.Minimize a h = ap optimum_word (some_eq h)
 optimum_found words.Maximize a h = ap optimum_word (some_eq h)
@@ -198,6 +219,9 @@ optimum_first k = is_some (optimum_in k) ≡ true
 
 pub optimum_reads : Reads optimum_in optimum_part optimum_first
 optimum_reads = word_table_reads optimum_of optimum_word optimum_found optimum_known optima.Least
+
+pub from_optimum : (P : Look → Type 0) (k : Option Kind) → optimum_first k → ((a : Optimum) → P (looks.Word (optimum_word a))) → P (look k)
+from_optimum = from_word_table optimum_of optimum_word optimum_found optimum_known optima.Least
 
 branch_found : (s : Keyword) (a : BranchOp) → branch_of s ≡ Some a → s ≡ branch_word a
 branch_found words.TryAll a h = ap branch_word (some_eq h)
@@ -219,6 +243,9 @@ branch_first k = is_some (branch_in k) ≡ true
 pub branch_reads : Reads branch_in branch_part branch_first
 branch_reads = word_table_reads branch_of branch_word branch_found branch_known branch_ops.TryAll
 
+pub from_branch : (P : Look → Type 0) (k : Option Kind) → branch_first k → ((a : BranchOp) → P (looks.Word (branch_word a))) → P (look k)
+from_branch = from_word_table branch_of branch_word branch_found branch_known branch_ops.TryAll
+
 label_found : (s : Keyword) (a : LabelOp) → label_of s ≡ Some a → s ≡ label_word a
 label_found words.Generate a h = ap label_word (some_eq h)
 label_found words.Rank a h = ap label_word (some_eq h)
@@ -236,6 +263,9 @@ label_first k = is_some (label_in k) ≡ true
 
 pub label_reads : Reads label_in label_part label_first
 label_reads = word_table_reads label_of label_word label_found label_known label_ops.Generate
+
+pub from_label : (P : Look → Type 0) (k : Option Kind) → label_first k → ((a : LabelOp) → P (looks.Word (label_word a))) → P (look k)
+from_label = from_word_table label_of label_word label_found label_known label_ops.Generate
 
 -- increasing or decreasing
 direction_found : (w : Keyword) (a : Bool) → direction_of w ≡ Some a → w ≡ direction_word a
@@ -255,6 +285,9 @@ direction_first k = is_some (direction_in k) ≡ true
 
 pub direction_reads : Reads direction_in direction_part direction_first
 direction_reads = word_table_reads direction_of direction_word direction_found direction_known true
+
+pub from_direction : (P : Look → Type 0) (k : Option Kind) → direction_first k → ((a : Bool) → P (looks.Word (direction_word a))) → P (look k)
+from_direction = from_word_table direction_of direction_word direction_found direction_known true
 
 -- the operator of a product is a sign or a word
 times_found : (s : Sign) (a : MulOp) (k : Option Kind) → look k ≡ looks.Sign s → mul_sign_of s ≡ Some a → k ≡ Some (kind_of (mul_part a))

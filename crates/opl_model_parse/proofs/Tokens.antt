@@ -231,6 +231,14 @@ number_reads = record {
 
 -- ---- tables of signs and of words
 
+record Found {A : Type 0} (o : Option A) : Type 0 where
+  value : A
+  is : o ≡ Some value
+
+found_in : {A : Type 0} (o : Option A) → is_some o ≡ true → Found o
+found_in (Some a) h = record { value = a; is = refl }
+found_in None h = cc
+
 module _ {A : Type 0} (table : Sign → Option A) (of : A → Sign) (found : (s : Sign) (a : A) → table s ≡ Some a → s ≡ of a) (known : (a : A) → table (of a) ≡ Some a) (sample : A) where
   sign_table_some : (l : Look) (a : A) → through table (sign_seen l) ≡ Some a → l ≡ looks.Sign (of a)
   sign_table_some (looks.Sign s) a h = ap looks.Sign (found s a h)
@@ -248,6 +256,12 @@ module _ {A : Type 0} (table : Sign → Option A) (of : A → Sign) (found : (s 
     sample = sample;
     proper = tt;
   }
+
+  -- what holds of a token that the table has
+  pub from_sign_table : (P : Look → Type 0) (k : Option Kind) → is_some (through table (sign_seen (look k))) ≡ true → ((a : A) → P (looks.Sign (of a))) → P (look k)
+  from_sign_table P k h p =
+      let f = found_in (through table (sign_seen (look k))) h in
+      subst P (sym (sign_table_some (look k) f.value f.is)) (p f.value)
 
 module _ {A : Type 0} (table : Keyword → Option A) (of : A → Keyword) (found : (w : Keyword) (a : A) → table w ≡ Some a → w ≡ of a) (known : (a : A) → table (of a) ≡ Some a) (sample : A) where
   word_table_some : (l : Look) (a : A) → through table (word_seen l) ≡ Some a → l ≡ looks.Word (of a)
@@ -269,3 +283,9 @@ module _ {A : Type 0} (table : Keyword → Option A) (of : A → Keyword) (found
     sample = sample;
     proper = tt;
   }
+
+  -- what holds of a token that the table has
+  pub from_word_table : (P : Look → Type 0) (k : Option Kind) → is_some (through table (word_seen (look k))) ≡ true → ((a : A) → P (looks.Word (of a))) → P (look k)
+  from_word_table P k h p =
+      let f = found_in (through table (word_seen (look k))) h in
+      subst P (sym (word_table_some (look k) f.value f.is)) (p f.value)
