@@ -98,6 +98,16 @@ names = do
   rest ← after_each signs.Comma name
   pure (first, rest)
 
+-- the set with these braces at this place
+abbrev pub set_prim_at : ℕ → Braced → PrimTree
+set_prim_at at (braces.Listed parts) = prims.Listed at parts
+set_prim_at at (braces.Described part params) = prims.Described at part params
+
+-- a sign before an operand, whichever it is
+abbrev pub negative : ℕ → Operand → Operand
+negative at (operands.Open t) = operands.Open (opens.NegativeOpen at t)
+negative at (operands.Sign t) = operands.Sign (factors.Negative at t)
+
 -- Each rule, with those that stand one level deeper.
 module _ (below : Rules) where
   -- ---- what an expression begins with
@@ -127,11 +137,6 @@ module _ (below : Rules) where
     sign signs.Greater
     pure (prims.Record at parts.0 parts.1)
 
-  -- the set with these braces at this place
-  abbrev pub set_prim : ℕ → Braced → PrimTree
-  set_prim at (braces.Listed parts) = prims.Listed at parts
-  set_prim at (braces.Described part params) = prims.Described at part params
-
   -- {ADD, ADD, ..} and {ADD | PARAMS}
   unfoldable pub braces_prim : Parser PrimTree
   braces_prim = do
@@ -139,7 +144,7 @@ module _ (below : Rules) where
     sign signs.OpenBrace
     inside ← below.braced at
     sign signs.CloseBrace
-    pure (set_prim at inside)
+    pure (set_prim_at at inside)
 
   -- [ADD, ADD, ..]
   unfoldable pub array : Parser PrimTree
@@ -248,11 +253,6 @@ module _ (below : Rules) where
     pure (roll-PostTree (record { at = at; prim = t; suffixes = rest }))
 
   -- ---- products and sums
-
-  -- a sign before an operand, whichever it is
-  abbrev pub negative : ℕ → Operand → Operand
-  negative at (operands.Open t) = operands.Open (opens.NegativeOpen at t)
-  negative at (operands.Sign t) = operands.Sign (factors.Negative at t)
 
   -- - OPERAND
   unfoldable pub negated : Parser Operand

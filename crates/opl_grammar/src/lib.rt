@@ -2,10 +2,10 @@
 #![tactic(auto)]
 
 mod cursor;
-mod list;
+pub mod list;
 mod look;
 mod parts;
-mod tables;
+pub mod tables;
 
 pub use cursor::Cursor;
 pub use look::Look;

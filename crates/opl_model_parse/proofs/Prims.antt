@@ -199,17 +199,12 @@ prim_parts_law R = (either_law is_name (named_parts_law R) (either_law is_number
     (λ F k h. h) (λ F k h. (by_side (λ a. from_sign signs.OpenParenthesis (λ l. sees_number l ≡ false) k a refl) (by_side (λ a. from_sign signs.Less (λ l. sees_number l ≡ false) k a refl) (by_side (λ a. from_sign signs.OpenBrace (λ l. sees_number l ≡ false) k a refl) (by_side (λ a. from_sign signs.OpenBracket (λ l. sees_number l ≡ false) k a refl) (by_side (λ a. from_sign signs.OpenAssociation (λ l. sees_number l ≡ false) k a refl) (by_side (λ a. from_word words.AllDifferent (λ l. sees_number l ≡ false) k a refl) (by_side (λ a. from_call (λ l. sees_number l ≡ false) k a (λ a. refl)) (λ a. from_question (λ l. sees_number l ≡ false) k a (λ a. refl))))))))) h))
     (λ F k h. h) (λ F k h. (by_side (λ a. from_number (λ l. sees_name l ≡ false) k a refl) (by_side (λ a. from_sign signs.OpenParenthesis (λ l. sees_name l ≡ false) k a refl) (by_side (λ a. from_sign signs.Less (λ l. sees_name l ≡ false) k a refl) (by_side (λ a. from_sign signs.OpenBrace (λ l. sees_name l ≡ false) k a refl) (by_side (λ a. from_sign signs.OpenBracket (λ l. sees_name l ≡ false) k a refl) (by_side (λ a. from_sign signs.OpenAssociation (λ l. sees_name l ≡ false) k a refl) (by_side (λ a. from_word words.AllDifferent (λ l. sees_name l ≡ false) k a refl) (by_side (λ a. from_call (λ l. sees_name l ≡ false) k a (λ a. refl)) (λ a. from_question (λ l. sees_name l ≡ false) k a (λ a. refl)))))))))) h))
 
--- the set with these braces at this place
-abbrev braces_to : ℕ → Braced → PrimTree
-braces_to at (braces.Listed parts) = prims.Listed at parts
-braces_to at (braces.Described part params) = prims.Described at part params
-
 abbrev prim_to : PrimParts → PrimTree
 prim_to (inl t) = prims.Named t
 prim_to (inr (inl c)) = prims.Number c.0 c.1
 prim_to (inr (inr (inl c))) = prims.Bracket c.0 c.1.0.1
 prim_to (inr (inr (inr (inl c)))) = prims.Record c.0 c.1.0.1.0 c.1.0.1.1
-prim_to (inr (inr (inr (inr (inl c))))) = braces_to c.0 c.1.0.1
+prim_to (inr (inr (inr (inr (inl c))))) = g.set_prim_at c.0 c.1.0.1
 prim_to (inr (inr (inr (inr (inr (inl c)))))) = prims.Array c.0 c.1.0.1
 prim_to (inr (inr (inr (inr (inr (inr (inl c))))))) = prims.KeyedArray c.0 c.1.0.1
 prim_to (inr (inr (inr (inr (inr (inr (inr (inl c)))))))) = prims.AllDifferent c.0 c.1.1.0.1
@@ -236,11 +231,11 @@ prim_layer_made (PrimTree-F.Question at op t) = record { of = inr (inr (inr (inr
 prim_made : (t : PrimTree) → Made prim_to t
 prim_made t = subst (Made prim_to) (roll-out-PrimTree t) (prim_layer_made (out-PrimTree t))
 
-braces_marks : (at : ℕ) (b : Braced) → marks_prim (braces_to at b) ≡ mk.place at ∷ mk.token (mk.sign signs.OpenBrace) ∷ (marks_braced b ++ mk.token (mk.sign signs.CloseBrace) ∷ [])
+braces_marks : (at : ℕ) (b : Braced) → marks_prim (g.set_prim_at at b) ≡ mk.place at ∷ mk.token (mk.sign signs.OpenBrace) ∷ (marks_braced b ++ mk.token (mk.sign signs.CloseBrace) ∷ [])
 braces_marks at (braces.Listed ts) = marks_prim-Listed at ts
 braces_marks at (braces.Described t u) = marks_prim-Described at t u ∙ ap (λ ms. mk.place at ∷ mk.token (mk.sign signs.OpenBrace) ∷ ms) (sym (append_assoc (marks_add t) (mk.token (mk.sign signs.Bar) ∷ marks_params u) (mk.token (mk.sign signs.CloseBrace) ∷ [])))
 
-braces_depth : (at : ℕ) (b : Braced) → depth_prim (braces_to at b) ≡ suc (depth_braced b)
+braces_depth : (at : ℕ) (b : Braced) → depth_prim (g.set_prim_at at b) ≡ suc (depth_braced b)
 braces_depth at (braces.Listed ts) = let e = depth_prim-Listed at ts in omega arith
 braces_depth at (braces.Described t u) = let e = depth_prim-Described at t u in omega arith
 
@@ -273,7 +268,7 @@ name_layer : (x : OnePrim) → name_of_prim (roll-PrimTree x) ≡ name_at_prim x
 unfolding name_of_prim
 name_layer x = rw out-roll-PrimTree refl
 
-braces_name : (at : ℕ) (b : Braced) → is_some (name_of_prim (braces_to at b)) ≡ false
+braces_name : (at : ℕ) (b : Braced) → is_some (name_of_prim (g.set_prim_at at b)) ≡ false
 braces_name at (braces.Listed ts) = ap (λ x. is_some (name_of_prim x)) (sym (prims.rolls-Listed at ts)) ∙ ap is_some (name_layer (PrimTree-F.Listed at ts))
 braces_name at (braces.Described t u) = ap (λ x. is_some (name_of_prim x)) (sym (prims.rolls-Described at t u)) ∙ ap is_some (name_layer (PrimTree-F.Described at t u))
 
