@@ -1,5 +1,5 @@
 -- What an expression begins with.
-use Rattle.std.proofs.Common.{◌≡◌, ℕ, ℤ, suc, Bool, true, false, ◌⊎◌, inl, inr, List, [], ◌∷◌, ◌++◌, map, refl, sym, ap, ◌∙◌, subst, arith, append_assoc}
+use Rattle.std.proofs.Common.{◌≡◌, ℕ, ℤ, suc, Bool, true, false, cond, ◌⊎◌, inl, inr, List, [], ◌∷◌, ◌++◌, map, refl, sym, ap, ◌∙◌, subst, arith, append_assoc}
 use Rattle.std.specs.Prelude.{is_some}
 use Rattle.opl_token.specs.declared.sign.Sign.TheVariants as signs
 use Rattle.opl_model_tree.specs.declared.expression.NameTree.{NameTree}
@@ -22,7 +22,7 @@ use Rattle.opl_model_tree.specs.Depth.{depth_prim}
 use Rattle.opl_model_tree.specs.Marks as mk
 use Rattle.opl_model_tree.proofs.Marks.{marks_name-is, marks_prim-Number, marks_prim-Named, marks_prim-Bracket, marks_prim-Record, marks_prim-Listed, marks_prim-Described, marks_prim-Array, marks_prim-KeyedArray, marks_prim-Call, marks_prim-AllDifferent, marks_prim-Question}
 use Rattle.opl_model_tree.proofs.Depth.{depth_prim-Number, depth_prim-Named, depth_prim-Bracket, depth_prim-Record, depth_prim-Listed, depth_prim-Described, depth_prim-Array, depth_prim-KeyedArray, depth_prim-Call, depth_prim-AllDifferent, depth_prim-Question}
-use Rattle.opl_grammar.specs.Input.{Input, Parser, one, sign, word, sees_sign, sees_word, sees_name, sees_number, is_sign, is_word, is_name, is_number, name_in, number_in, behind, sign_seen, word_seen}
+use Rattle.opl_grammar.specs.Input.{Input, Outcome, Parser, kind, one, sign, word, sees_sign, sees_word, sees_name, sees_number, is_sign, is_word, is_name, is_number, name_in, number_in, behind, sign_seen, word_seen}
 use Rattle.opl_grammar.specs.Tables.{through, call_of, call_in, question_in, separator_of, is_call, sign_starts, word_starts_add}
 use Rattle.opl_grammar.specs.Just.{OnePrim, name_at_prim, name_of_prim}
 use Rattle.opl_grammar.specs.Rules as g
@@ -33,7 +33,7 @@ use Rattle.opl_model_parse.proofs.Levels.{opened, opened_shape, opened_law}
 use Rattle.opl_model_parse.proofs.Ops.{call_part, call_first, call_reads, from_call, question_part, question_first, question_reads, from_question}
 use Rattle.opl_model_parse.proofs.Outcomes.{steps}
 use Rattle.opl_model_parse.proofs.Phrases.{Shape, Law, one_shape, one_law, pair, pair_shape, pair_law}
-use Rattle.opl_model_parse.proofs.Shapes.{prim_sign, prim_word, name_shape, prim_shape, post_shape, add_shape, expr_shape, adds_shape, listed_shape, keyed_shape, marks_braced, depth_braced, braced_shape, RulesLaw}
+use Rattle.opl_model_parse.proofs.Shapes.{prim_sign, prim_word, name_shape, prim_shape, asked_shape, add_shape, expr_shape, adds_shape, listed_shape, keyed_shape, marks_braced, depth_braced, braced_shape, RulesLaw}
 use Rattle.opl_model_parse.proofs.Tokens.{from_sign, from_word, from_name, from_number, sign_table, sign_first, sign_reads, sign_shape, word_shape, sign_law, word_law, name_reads, number_reads}
 use Rattle.opl_grammar.specs.Tables as tables
 use Rattle.opl_grammar.specs.Just.{OnePrim}
@@ -59,6 +59,23 @@ name_law = plain_law (placed_law (one_law name_reads)) name_to (record {
   closes = λ k h. tt;
   begins = λ F k h. h;
 }) g.name g.name name_is name_is
+
+-- ---- (POST)
+
+asked_is : (r : Rules) (i : Input) → g.asked r i ≡ mapped (λ (c : (Unit {0} × PostTree) × Unit {0}). c.0.1) (pair (opened (sign_table signs.OpenParenthesis) r.post) (sign signs.CloseParenthesis)) i
+unfolding g.asked
+asked_is r i = simp steps
+
+pub asked_law : {n : ℕ} {r s : Rules} → RulesLaw n r s → Law n (g.asked r) (g.asked s) asked_shape
+asked_law {n} {r} {s} R = plain_law (pair_law (opened_law (sign_reads signs.OpenParenthesis) R.post) (sign_law signs.CloseParenthesis) (λ x k h. sign_ends signs.CloseParenthesis 1 (omega arith) k h)) (λ c. c.0.1) (record {
+  made = λ t. record { of = ((tt, t), tt); is = refl };
+  marks = λ c. refl;
+  view = λ x. tt;
+  tag = λ c. refl;
+  depth = λ c. omega arith;
+  closes = λ k h. tt;
+  begins = λ F k h. h;
+}) (g.asked r) (g.asked s) (asked_is r) (asked_is s)
 
 -- ---- what an expression begins with
 
@@ -143,14 +160,14 @@ call_parts = placed_shape (pair_shape (one_shape call_part call_first) (pair_sha
 call_parts_law : {n : ℕ} {r s : Rules} → RulesLaw n r s → Law n (call_read r) (call_read s) call_parts
 call_parts_law R = placed_law (pair_law (one_law call_reads) (pair_law (opened_law (sign_reads signs.OpenParenthesis) R.expr) (sign_law signs.CloseParenthesis) (λ x k h. sign_ends signs.CloseParenthesis 9 (omega arith) k h)) (λ x k h. tt))
 
-abbrev question_read : Rules → Parser (ℕ × (QuestionOp × ((Unit {0} × PostTree) × Unit {0})))
-question_read r = placed (pair (one question_in) (pair (opened (sign_table signs.OpenParenthesis) r.post) (sign signs.CloseParenthesis)))
+abbrev question_read : Rules → Parser (ℕ × (QuestionOp × PostTree))
+question_read r = placed (pair (one question_in) (g.asked r))
 
-abbrev question_parts : Shape (ℕ × (QuestionOp × ((Unit {0} × PostTree) × Unit {0})))
-question_parts = placed_shape (pair_shape (one_shape question_part question_first) (pair_shape (opened_shape (λ u. mk.sign signs.OpenParenthesis) (sign_first signs.OpenParenthesis) post_shape) (sign_shape signs.CloseParenthesis)))
+abbrev question_parts : Shape (ℕ × (QuestionOp × PostTree))
+question_parts = placed_shape (pair_shape (one_shape question_part question_first) asked_shape)
 
 question_parts_law : {n : ℕ} {r s : Rules} → RulesLaw n r s → Law n (question_read r) (question_read s) question_parts
-question_parts_law R = placed_law (pair_law (one_law question_reads) (pair_law (opened_law (sign_reads signs.OpenParenthesis) R.post) (sign_law signs.CloseParenthesis) (λ x k h. sign_ends signs.CloseParenthesis 1 (omega arith) k h)) (λ x k h. tt))
+question_parts_law R = placed_law (pair_law (one_law question_reads) (asked_law R) (λ x k h. tt))
 
 call_not_different : (a : CallOp) → sees_word words.AllDifferent (looks.Word (call_word a)) ≡ false
 call_not_different call_ops.Absolute = refl
@@ -179,7 +196,7 @@ question_starts question_ops.Greatest = refl
 question_starts question_ops.Bound = refl
 
 abbrev PrimParts : Type 0
-PrimParts = (NameTree) ⊎ ((ℕ × ℤ) ⊎ ((ℕ × ((Unit {0} × ExprTree) × Unit {0})) ⊎ ((ℕ × ((Unit {0} × (AddTree × List AddTree)) × Unit {0})) ⊎ ((ℕ × ((Unit {0} × Braced) × Unit {0})) ⊎ ((ℕ × ((Unit {0} × List AddTree) × Unit {0})) ⊎ ((ℕ × ((Unit {0} × List KeyedTree) × Unit {0})) ⊎ ((ℕ × (Unit {0} × ((Unit {0} × AddTree) × Unit {0}))) ⊎ ((ℕ × (CallOp × ((Unit {0} × ExprTree) × Unit {0}))) ⊎ (ℕ × (QuestionOp × ((Unit {0} × PostTree) × Unit {0})))))))))))
+PrimParts = (NameTree) ⊎ ((ℕ × ℤ) ⊎ ((ℕ × ((Unit {0} × ExprTree) × Unit {0})) ⊎ ((ℕ × ((Unit {0} × (AddTree × List AddTree)) × Unit {0})) ⊎ ((ℕ × ((Unit {0} × Braced) × Unit {0})) ⊎ ((ℕ × ((Unit {0} × List AddTree) × Unit {0})) ⊎ ((ℕ × ((Unit {0} × List KeyedTree) × Unit {0})) ⊎ ((ℕ × (Unit {0} × ((Unit {0} × AddTree) × Unit {0}))) ⊎ ((ℕ × (CallOp × ((Unit {0} × ExprTree) × Unit {0}))) ⊎ (ℕ × (QuestionOp × PostTree))))))))))
 
 abbrev prim_read : Rules → Parser PrimParts
 prim_read r = (either is_name (named_read r) (either is_number (number_read r) (either (is_sign signs.OpenParenthesis) (bracket_read r) (either (is_sign signs.Less) (record_read r) (either (is_sign signs.OpenBrace) (braces_read r) (either (is_sign signs.OpenBracket) (array_read r) (either (is_sign signs.OpenAssociation) (keyed_read r) (either (is_word words.AllDifferent) (different_read r) (either is_call (call_read r) (question_read r))))))))))
@@ -209,11 +226,56 @@ prim_to (inr (inr (inr (inr (inr (inl c)))))) = prims.Array c.0 c.1.0.1
 prim_to (inr (inr (inr (inr (inr (inr (inl c))))))) = prims.KeyedArray c.0 c.1.0.1
 prim_to (inr (inr (inr (inr (inr (inr (inr (inl c)))))))) = prims.AllDifferent c.0 c.1.1.0.1
 prim_to (inr (inr (inr (inr (inr (inr (inr (inr (inl c))))))))) = prims.Call c.0 c.1.0 c.1.1.0.1
-prim_to (inr (inr (inr (inr (inr (inr (inr (inr (inr c))))))))) = prims.Question c.0 c.1.0 c.1.1.0.1
+prim_to (inr (inr (inr (inr (inr (inr (inr (inr (inr c))))))))) = prims.Question c.0 c.1.0 c.1.1
+
+bracket_is : (r : Rules) (i : Input) → g.bracket r i ≡ mapped (λ c. prims.Bracket c.0 c.1.0.1) (bracket_read r) i
+unfolding g.bracket
+bracket_is r i = simp steps
+
+record_is : (r : Rules) (i : Input) → g.record_prim r i ≡ mapped (λ c. prims.Record c.0 c.1.0.1.0 c.1.0.1.1) (record_read r) i
+unfolding g.record_prim
+record_is r i = simp steps
+
+braces_is : (r : Rules) (i : Input) → g.braces_prim r i ≡ mapped (λ c. g.set_prim_at c.0 c.1.0.1) (braces_read r) i
+unfolding g.braces_prim
+braces_is r i = simp steps
+
+array_is : (r : Rules) (i : Input) → g.array r i ≡ mapped (λ c. prims.Array c.0 c.1.0.1) (array_read r) i
+unfolding g.array
+array_is r i = simp steps
+
+keyed_is : (r : Rules) (i : Input) → g.keyed_array r i ≡ mapped (λ c. prims.KeyedArray c.0 c.1.0.1) (keyed_read r) i
+unfolding g.keyed_array
+keyed_is r i = simp steps
+
+different_is : (r : Rules) (i : Input) → g.all_different r i ≡ mapped (λ c. prims.AllDifferent c.0 c.1.1.0.1) (different_read r) i
+unfolding g.all_different
+different_is r i = simp steps
+
+call_is : (r : Rules) (i : Input) → g.call r i ≡ mapped (λ c. prims.Call c.0 c.1.0 c.1.1.0.1) (call_read r) i
+unfolding g.call
+call_is r i = simp steps
+
+question_is : (r : Rules) (i : Input) → g.question r i ≡ mapped (λ c. prims.Question c.0 c.1.0 c.1.1) (question_read r) i
+unfolding g.question
+question_is r i = simp steps
+
+number_is : (r : Rules) (i : Input) → g.number r i ≡ mapped (λ c. prims.Number c.0 c.1) (number_read r) i
+unfolding g.number
+number_is r i = simp steps
+
+word_prim_is : (r : Rules) (i : Input) → g.word_prim r i ≡ cond {A = Outcome PrimTree} (is_word words.AllDifferent (kind i)) (g.all_different r i) (cond {A = Outcome PrimTree} (is_call (kind i)) (g.call r i) (g.question r i))
+unfolding g.word_prim
+word_prim_is r i = refl
+
+sign_prim_is : (r : Rules) (i : Input) → g.sign_prim r i ≡ cond {A = Outcome PrimTree} (is_sign signs.OpenParenthesis (kind i)) (g.bracket r i) (cond {A = Outcome PrimTree} (is_sign signs.Less (kind i)) (g.record_prim r i)
+    (cond {A = Outcome PrimTree} (is_sign signs.OpenBrace (kind i)) (g.braces_prim r i) (cond {A = Outcome PrimTree} (is_sign signs.OpenBracket (kind i)) (g.array r i) (cond {A = Outcome PrimTree} (is_sign signs.OpenAssociation (kind i)) (g.keyed_array r i) (g.word_prim r i)))))
+unfolding g.sign_prim
+sign_prim_is r i = refl
 
 prim_is : (r : Rules) (i : Input) → g.prim r i ≡ mapped prim_to (prim_read r) i
-unfolding g.prim g.number g.sign_prim g.bracket g.record_prim g.braces_prim g.array g.keyed_array g.word_prim g.all_different g.call g.question g.asked
-prim_is r i = simp steps
+unfolding g.prim
+prim_is r i = rw (sign_prim_is r i, word_prim_is r i, number_is r i, bracket_is r i, record_is r i, braces_is r i, array_is r i, keyed_is r i, different_is r i, call_is r i, question_is r i) (simp steps)
 
 prim_layer_made : (x : OnePrim) → Made prim_to (roll-PrimTree x)
 prim_layer_made (PrimTree-F.Named t) = record { of = inl t; is = sym (prims.rolls-Named t) }
@@ -226,7 +288,7 @@ prim_layer_made (PrimTree-F.Array at ts) = record { of = inr (inr (inr (inr (inr
 prim_layer_made (PrimTree-F.KeyedArray at ts) = record { of = inr (inr (inr (inr (inr (inr (inl (at, ((tt, ts), tt)))))))); is = sym (prims.rolls-KeyedArray at ts) }
 prim_layer_made (PrimTree-F.AllDifferent at t) = record { of = inr (inr (inr (inr (inr (inr (inr (inl (at, (tt, ((tt, t), tt)))))))))); is = sym (prims.rolls-AllDifferent at t) }
 prim_layer_made (PrimTree-F.Call at op t) = record { of = inr (inr (inr (inr (inr (inr (inr (inr (inl (at, (op, ((tt, t), tt))))))))))); is = sym (prims.rolls-Call at op t) }
-prim_layer_made (PrimTree-F.Question at op t) = record { of = inr (inr (inr (inr (inr (inr (inr (inr (inr ((at, (op, ((tt, t), tt)))))))))))); is = sym (prims.rolls-Question at op t) }
+prim_layer_made (PrimTree-F.Question at op t) = record { of = inr (inr (inr (inr (inr (inr (inr (inr (inr ((at, (op, t))))))))))); is = sym (prims.rolls-Question at op t) }
 
 prim_made : (t : PrimTree) → Made prim_to t
 prim_made t = subst (Made prim_to) (roll-out-PrimTree t) (prim_layer_made (out-PrimTree t))
@@ -249,7 +311,7 @@ prim_spelt (inr (inr (inr (inr (inr (inl c)))))) = marks_prim-Array c.0 c.1.0.1
 prim_spelt (inr (inr (inr (inr (inr (inr (inl c))))))) = marks_prim-KeyedArray c.0 c.1.0.1
 prim_spelt (inr (inr (inr (inr (inr (inr (inr (inl c)))))))) = marks_prim-AllDifferent c.0 c.1.1.0.1
 prim_spelt (inr (inr (inr (inr (inr (inr (inr (inr (inl c))))))))) = marks_prim-Call c.0 c.1.0 c.1.1.0.1
-prim_spelt (inr (inr (inr (inr (inr (inr (inr (inr (inr c))))))))) = marks_prim-Question c.0 c.1.0 c.1.1.0.1
+prim_spelt (inr (inr (inr (inr (inr (inr (inr (inr (inr c))))))))) = marks_prim-Question c.0 c.1.0 c.1.1
 
 prim_deep : (c : PrimParts) → depth_prim (prim_to c) ≡ prim_parts.depth c
 prim_deep (inl t) = let e = depth_prim-Named t in omega arith
@@ -261,7 +323,7 @@ prim_deep (inr (inr (inr (inr (inr (inl c)))))) = let e = depth_prim-Array c.0 c
 prim_deep (inr (inr (inr (inr (inr (inr (inl c))))))) = let e = depth_prim-KeyedArray c.0 c.1.0.1 in omega arith
 prim_deep (inr (inr (inr (inr (inr (inr (inr (inl c)))))))) = let e = depth_prim-AllDifferent c.0 c.1.1.0.1 in omega arith
 prim_deep (inr (inr (inr (inr (inr (inr (inr (inr (inl c))))))))) = let e = depth_prim-Call c.0 c.1.0 c.1.1.0.1 in omega arith
-prim_deep (inr (inr (inr (inr (inr (inr (inr (inr (inr c))))))))) = let e = depth_prim-Question c.0 c.1.0 c.1.1.0.1 in omega arith
+prim_deep (inr (inr (inr (inr (inr (inr (inr (inr (inr c))))))))) = let e = depth_prim-Question c.0 c.1.0 c.1.1 in omega arith
 
 -- the name of a prim, by its layer
 name_layer : (x : OnePrim) → name_of_prim (roll-PrimTree x) ≡ name_at_prim x
@@ -286,7 +348,7 @@ prim_tag (inr (inr (inr (inr (inr (inl c)))))) = ap (λ x. is_some (name_of_prim
 prim_tag (inr (inr (inr (inr (inr (inr (inl c))))))) = ap (λ x. is_some (name_of_prim x)) (sym (prims.rolls-KeyedArray c.0 c.1.0.1)) ∙ ap is_some (name_layer (PrimTree-F.KeyedArray c.0 c.1.0.1))
 prim_tag (inr (inr (inr (inr (inr (inr (inr (inl c)))))))) = ap (λ x. is_some (name_of_prim x)) (sym (prims.rolls-AllDifferent c.0 c.1.1.0.1)) ∙ ap is_some (name_layer (PrimTree-F.AllDifferent c.0 c.1.1.0.1))
 prim_tag (inr (inr (inr (inr (inr (inr (inr (inr (inl c))))))))) = ap (λ x. is_some (name_of_prim x)) (sym (prims.rolls-Call c.0 c.1.0 c.1.1.0.1)) ∙ ap is_some (name_layer (PrimTree-F.Call c.0 c.1.0 c.1.1.0.1))
-prim_tag (inr (inr (inr (inr (inr (inr (inr (inr (inr c))))))))) = ap (λ x. is_some (name_of_prim x)) (sym (prims.rolls-Question c.0 c.1.0 c.1.1.0.1)) ∙ ap is_some (name_layer (PrimTree-F.Question c.0 c.1.0 c.1.1.0.1))
+prim_tag (inr (inr (inr (inr (inr (inr (inr (inr (inr c))))))))) = ap (λ x. is_some (name_of_prim x)) (sym (prims.rolls-Question c.0 c.1.0 c.1.1)) ∙ ap is_some (name_layer (PrimTree-F.Question c.0 c.1.0 c.1.1))
 
 pub prim_law : {n : ℕ} {r s : Rules} → RulesLaw n r s → Law n (g.prim r) (g.prim s) prim_shape
 prim_law {n} {r} {s} R = plain_law (prim_parts_law R) prim_to (record {

@@ -101,6 +101,10 @@ prim_shape = tagged marks_prim depth_prim (λ t. is_some (name_of_prim t)) Any (
 abbrev pub post_shape : Shape PostTree
 post_shape = tagged marks_post depth_post (λ t. is_some (name_of_post t)) (Ends 1) (First starts_prim)
 
+-- (POST)
+abbrev pub asked_shape : Shape PostTree
+asked_shape = plain (λ t. mk.token (mk.sign signs.OpenParenthesis) ∷ (marks_post t ++ mk.token (mk.sign signs.CloseParenthesis) ∷ [])) (λ t. suc (depth_post t)) Any (First (is_sign signs.OpenParenthesis))
+
 abbrev pub suffix_shape : Shape SuffixTree
 suffix_shape = plain marks_suffix depth_suffix Any (First starts_suffix)
 
