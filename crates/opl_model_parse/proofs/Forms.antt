@@ -502,6 +502,20 @@ rule_law {A} {C} {n} {p} {q} {s} P u to tree read above is are = record {
 pub law_as : {A : Type 0} {n : ℕ} {p q : Parser A} {s : Shape A} → Law n p q s → (u : Shape A) → Tree s u (λ a. a) → Law n p q u
 law_as {A} {n} {p} {q} {s} P u tree = rule_law P u (λ a. a) tree p q (λ i. sym (and_then_pure (p i))) (λ i. sym (and_then_pure (q i)))
 
+-- the laws of a reader that gives the same
+pub renamed_law : {A : Type 0} {n : ℕ} {p q : Parser A} {s : Shape A} → Law n p q s → (read above : Parser A) → ((i : Input) → read i ≡ p i) → ((i : Input) → above i ≡ q i) → Law n read above s
+renamed_law {A} {n} {p} {q} {s} P read above is are = rule_law P s (λ a. a) (record {
+  made = λ a. record { of = a; is = refl };
+  marks = λ a. refl;
+  tags = λ a b h. h;
+  depth = λ a. refl;
+  fits = P.fit;
+  ends = λ a k h. h;
+  closing = P.good.closing;
+  closes = λ k h. h;
+  begins = λ F k h. h;
+}) read above (λ i. is i ∙ sym (and_then_pure (p i))) (λ i. are i ∙ sym (and_then_pure (q i)))
+
 -- a phrase that stops before the same tokens whatever it is
 abbrev pub tagged : {A T : Type 0} → (A → List Mark) → (A → ℕ) → (A → T) → (Option Kind → Type 0) → ((Option Kind → Type 0) → Option Kind → Type 0) → Shape A
 tagged {A} {T} marks depth tag closes begins = record {

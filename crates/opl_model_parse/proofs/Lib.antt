@@ -11,3 +11,5 @@ pub mod Follow
 pub mod Going
 pub mod Shapes
 pub mod Prims
+pub mod Options
+pub mod Posts
