@@ -13,3 +13,6 @@ pub mod Shapes
 pub mod Prims
 pub mod Options
 pub mod Posts
+pub mod Steps
+pub mod Firsts
+pub mod Sums
