@@ -516,6 +516,32 @@ renamed_law {A} {n} {p} {q} {s} P read above is are = rule_law P s (λ a. a) (re
   begins = λ F k h. h;
 }) read above (λ i. is i ∙ sym (and_then_pure (p i))) (λ i. are i ∙ sym (and_then_pure (q i)))
 
+-- the same phrase, where more is asked of the token behind it
+abbrev pub stricter : {A : Type 0} → (Option Kind → Type 0) → Shape A → Shape A
+stricter more s = record {
+  marks = s.marks;
+  Tag = s.Tag;
+  tag = s.tag;
+  depth = s.depth;
+  fits = s.fits;
+  ends = λ x k. s.ends x k × more k;
+  closes = λ k. s.closes k × more k;
+  begins = s.begins;
+}
+
+pub stricter_law : {A : Type 0} {n : ℕ} {p q : Parser A} {s : Shape A} (more : Option Kind → Type 0) → Law n p q s → Law n p q (stricter more s)
+stricter_law {A} {n} {p} {q} {s} more P = law_as P (stricter more s) (record {
+  made = λ a. record { of = a; is = refl };
+  marks = λ a. refl;
+  tags = λ a b h. h;
+  depth = λ a. refl;
+  fits = P.fit;
+  ends = λ a k h. h.0;
+  closing = λ x k h. (P.good.closing x k h.0, h.1);
+  closes = λ k h. h.0;
+  begins = λ F k h. h;
+})
+
 -- a phrase that stops before the same tokens whatever it is
 abbrev pub tagged : {A T : Type 0} → (A → List Mark) → (A → ℕ) → (A → T) → (Option Kind → Type 0) → ((Option Kind → Type 0) → Option Kind → Type 0) → Shape A
 tagged {A} {T} marks depth tag closes begins = record {

@@ -16,3 +16,5 @@ pub mod Posts
 pub mod Steps
 pub mod Firsts
 pub mod Sums
+pub mod Sided
+pub mod Truths

@@ -40,7 +40,7 @@ use Rattle.opl_grammar.specs.Tables.{is_separator, sign_starts, word_starts_expr
 use Rattle.opl_grammar.specs.Just.{post_of_sign, post_of_mul, post_of_add, post_of_compare, post_of_neg, post_of_and, post_of_or, post_of_imp, post_of, name_of_prim, name_of_post, name_of}
 use Rattle.opl_grammar.specs.Rules.{Rules}
 use Rattle.opl_model_parse.proofs.Follow.{Ends}
-use Rattle.opl_model_parse.proofs.Forms.{maybe_shape, tagged, plain}
+use Rattle.opl_model_parse.proofs.Forms.{maybe_shape, stricter, tagged, plain}
 use Rattle.opl_model_parse.proofs.Led.{led_shape, each_shape}
 use Rattle.opl_model_parse.proofs.Levels.{Entry}
 use Rattle.opl_model_parse.proofs.Lists.{many_shape}
@@ -226,8 +226,11 @@ braced_shape = plain marks_braced depth_braced EndsBraced begins_list
 abbrev pub upper_shape : Shape AddTree
 upper_shape = led_shape (mk.sign signs.Range) (sign_first signs.Range) add_shape
 
+abbrev pub optional_upper : Shape (Option AddTree)
+optional_upper = stricter (Ends 3) (maybe_shape (is_sign signs.Range) upper_shape)
+
 abbrev pub ends_shape : Shape (AddTree × Option AddTree)
-ends_shape = pair_shape add_shape (maybe_shape (is_sign signs.Range) upper_shape)
+ends_shape = pair_shape add_shape optional_upper
 
 abbrev pub names_shape : Shape (NameTree × List NameTree)
 names_shape = pair_shape name_shape (each_shape signs.Comma name_shape)
