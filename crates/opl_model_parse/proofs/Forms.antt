@@ -358,7 +358,7 @@ module _ {A B : Type 0} (n : ℕ) (test : Option Kind → Bool) (p : Parser A) (
   either_fails : AllFail p s → AllFail q t → AllFail (either test p q) (either_shape s t)
   either_fails f g i e h = either_broke f g i e (test (kind i)) refl h
 
-either_more : {A B : Type 0} (test : Option Kind → Bool) (p p' : Parser A) (q q' : Parser B) → More p p' → More q q' → More (either test p q) (either test p' q')
+pub either_more : {A B : Type 0} (test : Option Kind → Bool) (p p' : Parser A) (q q' : Parser B) → More p p' → More q q' → More (either test p q) (either test p' q')
 either_more {A} {B} test p p' q q' h k i = more_test {A = A ⊎ B} (test (kind i)) ((p >>= (λ a. pure (inl a))) i) ((q >>= (λ b. pure (inr b))) i) ((p' >>= (λ a. pure (inl a))) i) ((q' >>= (λ b. pure (inr b))) i)
     (more_bind (p i) (p' i) (λ a. pure (inl a)) (λ a. pure (inl a)) (h i) (λ a j d. refl))
     (more_bind (q i) (q' i) (λ a. pure (inr a)) (λ a. pure (inr a)) (k i) (λ a j d. refl))

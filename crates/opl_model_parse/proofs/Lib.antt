@@ -18,3 +18,6 @@ pub mod Firsts
 pub mod Sums
 pub mod Sided
 pub mod Truths
+pub mod Otherwise
+pub mod Looked
+pub mod Params
