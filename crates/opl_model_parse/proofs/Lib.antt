@@ -21,3 +21,4 @@ pub mod Truths
 pub mod Otherwise
 pub mod Looked
 pub mod Params
+pub mod Narrow
