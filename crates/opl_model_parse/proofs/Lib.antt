@@ -22,3 +22,4 @@ pub mod Otherwise
 pub mod Looked
 pub mod Params
 pub mod Narrow
+pub mod Dims

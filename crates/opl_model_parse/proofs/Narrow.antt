@@ -37,7 +37,7 @@ use Rattle.opl_model_tree.specs.Marks.{Mark}
 use Rattle.opl_grammar.specs.Just.{OneSign, OneMul, OneCompare, OneNeg}
 
 -- some places, and then the rest
-abbrev places : List ℕ → List Mark → List Mark
+abbrev pub places : List ℕ → List Mark → List Mark
 places [] ms = ms
 places (n ∷ ns) ms = mk.place n ∷ places ns ms
 
@@ -46,7 +46,7 @@ pub record Within (ms ns : List Mark) : Type 0 where
   pub at : List ℕ
   pub is : ms ≡ places at ns
 
-within_place : {ms ns : List Mark} (at : ℕ) → Within ms ns → Within (mk.place at ∷ ms) ns
+pub within_place : {ms ns : List Mark} (at : ℕ) → Within ms ns → Within (mk.place at ∷ ms) ns
 within_place at w = record { at = at ∷ w.at; is = ap (λ xs. mk.place at ∷ xs) w.is }
 
 places_takes : (ns : List ℕ) (ms : List Mark) (i j : Input) → Takes (places ns ms) i j → Takes ms i j
@@ -124,7 +124,7 @@ wide_mul_is at p = marks_mul-Product at (factors.Postfix p) [] None ∙ ap (λ m
 
 -- ---- sums, comparisons and what joins them
 
-add_narrow : (t : AddTree) (p : PostTree) → post_of_add t ≡ Some p → Narrow (marks_add t) (depth_add t) p
+pub add_narrow : (t : AddTree) (p : PostTree) → post_of_add t ≡ Some p → Narrow (marks_add t) (depth_add t) p
 unfolding post_of_add
 add_narrow t p h = by_rest (out-AddTree t).rest refl h where
   by_rest : (ts : List AddStep) → (out-AddTree t).rest ≡ ts → alone ts (post_of_mul (out-AddTree t).first) ≡ Some p → Narrow (marks_add t) (depth_add t) p
@@ -139,7 +139,7 @@ add_narrow t p h = by_rest (out-AddTree t).rest refl h where
 abbrev pub wide_add : ℕ → PostTree → AddTree
 wide_add at p = roll-AddTree (record { at = at; first = wide_mul at p; rest = [] })
 
-add_back : (at : ℕ) (p : PostTree) → post_of_add (wide_add at p) ≡ Some p
+pub add_back : (at : ℕ) (p : PostTree) → post_of_add (wide_add at p) ≡ Some p
 unfolding post_of_add
 add_back at p = ap (λ v. alone v.rest (post_of_mul v.first)) (out-roll-AddTree (record { at = at; first = wide_mul at p; rest = [] })) ∙ mul_back at p
 
@@ -188,7 +188,7 @@ neg_back : (at : ℕ) (p : PostTree) → post_of_neg (wide_neg at p) ≡ Some p
 unfolding post_of_neg
 neg_back at p = ap post_of_neg (sym (negs.rolls-Compare (wide_compare at p))) ∙ (ap post_at_neg (out-roll-NegTree (NegTree-F.Compare (wide_compare at p))) ∙ compare_back at p)
 
-and_narrow : (t : AndTree) (p : PostTree) → post_of_and t ≡ Some p → Narrow (marks_and t) (depth_and t) p
+pub and_narrow : (t : AndTree) (p : PostTree) → post_of_and t ≡ Some p → Narrow (marks_and t) (depth_and t) p
 unfolding post_of_and
 and_narrow t p h = by_rest (out-AndTree t).rest refl h where
   by_rest : (ts : List NegTree) → (out-AndTree t).rest ≡ ts → alone ts (post_of_neg (out-AndTree t).first) ≡ Some p → Narrow (marks_and t) (depth_and t) p
@@ -203,14 +203,14 @@ and_narrow t p h = by_rest (out-AndTree t).rest refl h where
 abbrev pub wide_and : ℕ → PostTree → AndTree
 wide_and at p = roll-AndTree (record { at = at; first = wide_neg at p; rest = [] })
 
-and_back : (at : ℕ) (p : PostTree) → post_of_and (wide_and at p) ≡ Some p
+pub and_back : (at : ℕ) (p : PostTree) → post_of_and (wide_and at p) ≡ Some p
 unfolding post_of_and
 and_back at p = ap (λ v. alone v.rest (post_of_neg v.first)) (out-roll-AndTree (record { at = at; first = wide_neg at p; rest = [] })) ∙ neg_back at p
 
 pub wide_and_is : (at : ℕ) (p : PostTree) → marks_and (wide_and at p) ≡ mk.place at ∷ marks_neg (wide_neg at p)
 wide_and_is at p = marks_and-of at (wide_neg at p) [] ∙ ap (λ ms. mk.place at ∷ ms) (append-nil (marks_neg (wide_neg at p)))
 
-or_narrow : (t : OrTree) (p : PostTree) → post_of_or t ≡ Some p → Narrow (marks_or t) (depth_or t) p
+pub or_narrow : (t : OrTree) (p : PostTree) → post_of_or t ≡ Some p → Narrow (marks_or t) (depth_or t) p
 unfolding post_of_or
 or_narrow t p h = by_rest (out-OrTree t).rest refl h where
   by_rest : (ts : List AndTree) → (out-OrTree t).rest ≡ ts → alone ts (post_of_and (out-OrTree t).first) ≡ Some p → Narrow (marks_or t) (depth_or t) p
@@ -225,7 +225,7 @@ or_narrow t p h = by_rest (out-OrTree t).rest refl h where
 abbrev pub wide_or : ℕ → PostTree → OrTree
 wide_or at p = roll-OrTree (record { at = at; first = wide_and at p; rest = [] })
 
-or_back : (at : ℕ) (p : PostTree) → post_of_or (wide_or at p) ≡ Some p
+pub or_back : (at : ℕ) (p : PostTree) → post_of_or (wide_or at p) ≡ Some p
 unfolding post_of_or
 or_back at p = ap (λ v. alone v.rest (post_of_and v.first)) (out-roll-OrTree (record { at = at; first = wide_and at p; rest = [] })) ∙ and_back at p
 
@@ -254,7 +254,7 @@ imp_back at p = ap (λ v. without v.conclusion (post_of_or v.premise)) (out-roll
 pub wide_imp_is : (at : ℕ) (p : PostTree) → marks_imp (wide_imp at p) ≡ mk.place at ∷ marks_or (wide_or at p)
 wide_imp_is at p = marks_imp-of at (wide_or at p) None ∙ ap (λ ms. mk.place at ∷ ms) (append-nil (marks_or (wide_or at p)))
 
-expr_narrow : (t : ExprTree) (p : PostTree) → post_of t ≡ Some p → Narrow (marks_expr t) (depth_expr t) p
+pub expr_narrow : (t : ExprTree) (p : PostTree) → post_of t ≡ Some p → Narrow (marks_expr t) (depth_expr t) p
 unfolding post_of
 expr_narrow t p h = by_rest (out-ExprTree t).rest refl h where
   by_rest : (ts : List ImpTree) → (out-ExprTree t).rest ≡ ts → alone ts (post_of_imp (out-ExprTree t).first) ≡ Some p → Narrow (marks_expr t) (depth_expr t) p
@@ -269,7 +269,7 @@ expr_narrow t p h = by_rest (out-ExprTree t).rest refl h where
 abbrev pub wide_expr : ℕ → PostTree → ExprTree
 wide_expr at p = roll-ExprTree (record { at = at; first = wide_imp at p; rest = [] })
 
-expr_back : (at : ℕ) (p : PostTree) → post_of (wide_expr at p) ≡ Some p
+pub expr_back : (at : ℕ) (p : PostTree) → post_of (wide_expr at p) ≡ Some p
 unfolding post_of
 expr_back at p = ap (λ v. alone v.rest (post_of_imp v.first)) (out-roll-ExprTree (record { at = at; first = wide_imp at p; rest = [] })) ∙ imp_back at p
 
