@@ -139,7 +139,7 @@ named_post_is at n = marks_post-of at (prims.Named n) [] ∙ ap (λ ms. mk.place
 named_set_is : (at : ℕ) (n : NameTree) → marks_set (named_set at n) ≡ mk.place at ∷ mk.place at ∷ mk.place at ∷ mk.place at ∷ marks_name n
 named_set_is at n = marks_set-of at (wide_add at (named_post at n)) None ∙ ap (λ ms. mk.place at ∷ ms) (append-nil (marks_add (wide_add at (named_post at n))) ∙ (wide_add_is at (named_post at n) ∙ ap (λ ms. mk.place at ∷ ms) (wide_mul_is at (named_post at n) ∙ ap (λ ms. mk.place at ∷ ms) (named_post_is at n))))
 
-name_narrows : Narrows set_shape name_of marks_name (λ t. 0)
+pub name_narrows : Narrows set_shape name_of marks_name (λ t. 0)
 name_narrows = record {
   known = λ a b h. h;
   takes = λ a c v i j h. within_takes (set_named a c v).within i j h;
@@ -215,7 +215,7 @@ dim_law {n} {r} {s} R = plain_law
   begins = λ F k h. h;
 }) (g.dim r) (g.dim s) (dim_is r) (dim_is s)
 
-comma_dims : {X : Type 0} (k : Option Kind) → (is_sign signs.Comma k ≡ true) ⊎ (Ends 5 k × X) → Ends 5 k
+pub comma_dims : {X : Type 0} (k : Option Kind) → (is_sign signs.Comma k ≡ true) ⊎ (Ends 5 k × X) → Ends 5 k
 comma_dims k (inl h) = sign_ends signs.Comma 5 (omega arith) k h
 comma_dims k (inr h) = h.0
 

@@ -23,3 +23,6 @@ pub mod Looked
 pub mod Params
 pub mod Narrow
 pub mod Dims
+pub mod Examples
+pub mod Closing
+pub mod Declared

@@ -95,7 +95,7 @@ sign_narrow t p = subst (λ x. post_at_sign (out-SignTree t) ≡ Some p → Narr
       })
   by_layer (SignTree-F.Negative at u) h = absurd (none_some h)
 
-mul_narrow : (t : MulTree) (p : PostTree) → post_of_mul t ≡ Some p → Narrow (marks_mul t) (depth_mul t) p
+pub mul_narrow : (t : MulTree) (p : PostTree) → post_of_mul t ≡ Some p → Narrow (marks_mul t) (depth_mul t) p
 unfolding post_of_mul
 mul_narrow t p = subst (λ x. post_at_mul (out-MulTree t) ≡ Some p → Narrow (marks_mul x) (depth_mul x) p) (roll-out-MulTree t) (by_layer (out-MulTree t)) where
   by_product : (at : ℕ) (u : SignTree) (xs : List MulStep) (l : Option LastStep) → alone xs (without l (post_of_sign u)) ≡ Some p → Narrow (marks_mul (muls.Product at u xs l)) (depth_mul (muls.Product at u xs l)) p
@@ -115,7 +115,7 @@ mul_narrow t p = subst (λ x. post_at_mul (out-MulTree t) ≡ Some p → Narrow 
 abbrev pub wide_mul : ℕ → PostTree → MulTree
 wide_mul at p = muls.Product at (factors.Postfix p) [] None
 
-mul_back : (at : ℕ) (p : PostTree) → post_of_mul (wide_mul at p) ≡ Some p
+pub mul_back : (at : ℕ) (p : PostTree) → post_of_mul (wide_mul at p) ≡ Some p
 unfolding post_of_mul
 mul_back at p = ap post_of_mul (sym (muls.rolls-Product at (factors.Postfix p) [] None)) ∙ (ap post_at_mul (out-roll-MulTree (MulTree-F.Product at (factors.Postfix p) [] None)) ∙ post_of_postfix p)
 
@@ -146,7 +146,7 @@ add_back at p = ap (λ v. alone v.rest (post_of_mul v.first)) (out-roll-AddTree 
 pub wide_add_is : (at : ℕ) (p : PostTree) → marks_add (wide_add at p) ≡ mk.place at ∷ marks_mul (wide_mul at p)
 wide_add_is at p = marks_add-of at (wide_mul at p) [] ∙ ap (λ ms. mk.place at ∷ ms) (append-nil (marks_mul (wide_mul at p)))
 
-compare_narrow : (t : CompareTree) (p : PostTree) → post_of_compare t ≡ Some p → Narrow (marks_compare t) (depth_compare t) p
+pub compare_narrow : (t : CompareTree) (p : PostTree) → post_of_compare t ≡ Some p → Narrow (marks_compare t) (depth_compare t) p
 unfolding post_of_compare
 compare_narrow t p = subst (λ x. post_at_compare (out-CompareTree t) ≡ Some p → Narrow (marks_compare x) (depth_compare x) p) (roll-out-CompareTree t) (by_layer (out-CompareTree t)) where
   by_layer : (x : OneCompare) → post_at_compare x ≡ Some p → Narrow (marks_compare (roll-CompareTree x)) (depth_compare (roll-CompareTree x)) p
@@ -162,14 +162,14 @@ compare_narrow t p = subst (λ x. post_at_compare (out-CompareTree t) ≡ Some p
 abbrev pub wide_compare : ℕ → PostTree → CompareTree
 wide_compare at p = compares.Single at (wide_add at p)
 
-compare_back : (at : ℕ) (p : PostTree) → post_of_compare (wide_compare at p) ≡ Some p
+pub compare_back : (at : ℕ) (p : PostTree) → post_of_compare (wide_compare at p) ≡ Some p
 unfolding post_of_compare
 compare_back at p = ap post_of_compare (sym (compares.rolls-Single at (wide_add at p))) ∙ (ap post_at_compare (out-roll-CompareTree (CompareTree-F.Single at (wide_add at p))) ∙ add_back at p)
 
 pub wide_compare_is : (at : ℕ) (p : PostTree) → marks_compare (wide_compare at p) ≡ mk.place at ∷ marks_add (wide_add at p)
 wide_compare_is at p = marks_compare-Single at (wide_add at p)
 
-neg_narrow : (t : NegTree) (p : PostTree) → post_of_neg t ≡ Some p → Narrow (marks_neg t) (depth_neg t) p
+pub neg_narrow : (t : NegTree) (p : PostTree) → post_of_neg t ≡ Some p → Narrow (marks_neg t) (depth_neg t) p
 unfolding post_of_neg
 neg_narrow t p = subst (λ x. post_at_neg (out-NegTree t) ≡ Some p → Narrow (marks_neg x) (depth_neg x) p) (roll-out-NegTree t) (by_layer (out-NegTree t)) where
   by_layer : (x : OneNeg) → post_at_neg x ≡ Some p → Narrow (marks_neg (roll-NegTree x)) (depth_neg (roll-NegTree x)) p
@@ -184,7 +184,7 @@ neg_narrow t p = subst (λ x. post_at_neg (out-NegTree t) ≡ Some p → Narrow 
 abbrev pub wide_neg : ℕ → PostTree → NegTree
 wide_neg at p = negs.Compare (wide_compare at p)
 
-neg_back : (at : ℕ) (p : PostTree) → post_of_neg (wide_neg at p) ≡ Some p
+pub neg_back : (at : ℕ) (p : PostTree) → post_of_neg (wide_neg at p) ≡ Some p
 unfolding post_of_neg
 neg_back at p = ap post_of_neg (sym (negs.rolls-Compare (wide_compare at p))) ∙ (ap post_at_neg (out-roll-NegTree (NegTree-F.Compare (wide_compare at p))) ∙ compare_back at p)
 
@@ -232,7 +232,7 @@ or_back at p = ap (λ v. alone v.rest (post_of_and v.first)) (out-roll-OrTree (r
 pub wide_or_is : (at : ℕ) (p : PostTree) → marks_or (wide_or at p) ≡ mk.place at ∷ marks_and (wide_and at p)
 wide_or_is at p = marks_or-of at (wide_and at p) [] ∙ ap (λ ms. mk.place at ∷ ms) (append-nil (marks_and (wide_and at p)))
 
-imp_narrow : (t : ImpTree) (p : PostTree) → post_of_imp t ≡ Some p → Narrow (marks_imp t) (depth_imp t) p
+pub imp_narrow : (t : ImpTree) (p : PostTree) → post_of_imp t ≡ Some p → Narrow (marks_imp t) (depth_imp t) p
 unfolding post_of_imp
 imp_narrow t p h = by_conclusion (out-ImpTree t).conclusion refl h where
   by_conclusion : (o : Option ImpTree) → (out-ImpTree t).conclusion ≡ o → without o (post_of_or (out-ImpTree t).premise) ≡ Some p → Narrow (marks_imp t) (depth_imp t) p
@@ -247,7 +247,7 @@ imp_narrow t p h = by_conclusion (out-ImpTree t).conclusion refl h where
 abbrev pub wide_imp : ℕ → PostTree → ImpTree
 wide_imp at p = roll-ImpTree (record { at = at; premise = wide_or at p; conclusion = None })
 
-imp_back : (at : ℕ) (p : PostTree) → post_of_imp (wide_imp at p) ≡ Some p
+pub imp_back : (at : ℕ) (p : PostTree) → post_of_imp (wide_imp at p) ≡ Some p
 unfolding post_of_imp
 imp_back at p = ap (λ v. without v.conclusion (post_of_or v.premise)) (out-roll-ImpTree (record { at = at; premise = wide_or at p; conclusion = None })) ∙ or_back at p
 

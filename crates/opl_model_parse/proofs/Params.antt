@@ -88,7 +88,7 @@ pub names_law : {n : ℕ} → Law n g.names g.names names_shape
 unfolding g.names
 names_law = pair_law name_law (each_law signs.Comma name_law (λ k h. tt)) (λ x k h. tt)
 
-no_depth : {A : Type 0} (xs : List A) → greatest (map (λ (x : A). 0) xs) ≡ 0
+pub no_depth : {A : Type 0} (xs : List A) → greatest (map (λ (x : A). 0) xs) ≡ 0
 no_depth [] = refl
 no_depth (x ∷ xs) = let e = no_depth xs in omega arith
 
@@ -248,7 +248,7 @@ chosen_is : (r : Rules) (i : Input) → g.chosen r i ≡ mapped (λ (c : (Unit {
 unfolding g.chosen
 chosen_is r i = simp steps
 
-params_close : (k : Option Kind) → is_sign signs.CloseParenthesis k ≡ true → EndsParams k
+pub params_close : (k : Option Kind) → is_sign signs.CloseParenthesis k ≡ true → EndsParams k
 params_close k h = (sign_ends signs.CloseParenthesis 9 (omega arith) k h, (from_sign signs.CloseParenthesis (λ l. is_some (through separator_of (sign_seen l)) ≡ false) k h refl, from_sign signs.CloseParenthesis (λ l. sees_sign signs.Colon l ≡ false) k h refl))
 
 pub chosen_law : {n : ℕ} {r s : Rules} → RulesLaw n r s → Law n (g.chosen r) (g.chosen s) chosen_shape
@@ -319,7 +319,7 @@ ordered_law {n} {r} {s} R = plain_law (placed_law (pair_law (params_law R) (stri
 
 -- ---- lists of sums
 
-comma_meets : {X : Type 0} (k : Option Kind) → (is_sign signs.Comma k ≡ true) ⊎ (Ends 3 k × X) → Ends 3 k
+pub comma_meets : {X : Type 0} (k : Option Kind) → (is_sign signs.Comma k ≡ true) ⊎ (Ends 3 k × X) → Ends 3 k
 comma_meets k (inl h) = sign_ends signs.Comma 3 (omega arith) k h
 comma_meets k (inr h) = h.0
 

@@ -148,7 +148,7 @@ operand_tag (inl c) = negative_tag c.0 c.1.1
 operand_tag (inr (inl c)) = refl
 operand_tag (inr (inr t)) = ap (λ o. Some (post_kind o)) (post_of_postfix t)
 
-operand_closing : (x : Option (Option Bool)) (k : Option Kind) → Ends 2 k → operand_ends x k
+pub operand_closing : (x : Option (Option Bool)) (k : Option Kind) → Ends 2 k → operand_ends x k
 operand_closing None k h = h
 operand_closing (Some b) k h = omega arith
 

@@ -172,7 +172,7 @@ name_in_some (Some (kinds.Number n)) v h = cc
 name_in_some (Some (kinds.Text w)) v h = cc
 name_in_some (Some (kinds.Sign t)) v h = cc
 
-empty_name : keyword_of [] ≡ None
+pub empty_name : keyword_of [] ≡ None
 unfolding keyword_of
 empty_name = refl
 
