@@ -36,8 +36,8 @@ use Rattle.opl_grammar.specs.declared.look.Look.TheVariants as looks
 use Rattle.opl_model_tree.specs.Marks.{Mark, joined, schedule_word, marks_name, marks_add, marks_type, marks_dim, marks_dims, marks_initial, marks_data, marks_range, marks_enum_names, marks_enum, marks_field, marks_struct, marks_variable_type, marks_bounds, marks_variable, marks_activity, marks_unary, marks_discrete, marks_schedule, marks_decl}
 use Rattle.opl_model_tree.specs.Depth.{if_any, depth_dims, depth_initial, depth_data, depth_range, depth_enum_names, depth_enum, depth_struct, depth_variable_type, depth_bounds, depth_variable, depth_activity, depth_unary, depth_discrete, depth_schedule, depth_decl}
 use Rattle.opl_model_tree.specs.Marks as mk
-use Rattle.opl_model_tree.proofs.Marks.{marks_dims-is, marks_initial-External, marks_initial-Written, marks_data-is, marks_range-is, marks_enum_names-Listed, marks_enum_names-External, marks_enum-is, marks_struct-is, marks_variable_type-Int, marks_variable_type-Named, marks_bounds-is, marks_variable-is, marks_activity-is, marks_unary-is, marks_discrete-is, marks_schedule-is, marks_decl-Data, marks_decl-Range, marks_decl-Enumeration, marks_decl-Structure, marks_decl-Variable, marks_decl-Activity, marks_decl-Unary, marks_decl-Discrete, marks_decl-Schedule, dims_marks}
-use Rattle.opl_model_tree.proofs.Depth.{depth_dims-is, depth_initial-External, depth_initial-Written, depth_data-is, depth_range-is, depth_enum_names-Listed, depth_enum_names-External, depth_enum-is, depth_struct-is, depth_variable_type-Int, depth_variable_type-Named, depth_bounds-is, depth_variable-is, depth_activity-is, depth_unary-is, depth_discrete-is, depth_schedule-is, depth_decl-Data, depth_decl-Range, depth_decl-Enumeration, depth_decl-Structure, depth_decl-Variable, depth_decl-Activity, depth_decl-Unary, depth_decl-Discrete, depth_decl-Schedule, dims_depth}
+use Rattle.opl_model_tree.proofs.Marks.{marks_dims-is, marks_initial-External, marks_initial-Written, marks_data-is, marks_range-is, marks_enum_names-Listed, marks_enum_names-External, marks_enum-is, marks_struct-is, marks_variable_type-Int, marks_variable_type-Named, marks_bounds-is, marks_variable-is, marks_activity-is, marks_unary-is, marks_discrete-is, marks_schedule-is, marks_decl-Data, marks_decl-Range, marks_decl-Enumeration, marks_decl-Structure, marks_decl-Variable, marks_decl-Activity, marks_decl-Unary, marks_decl-Discrete, marks_decl-Schedule}
+use Rattle.opl_model_tree.proofs.Depth.{depth_dims-is, depth_initial-External, depth_initial-Written, depth_data-is, depth_range-is, depth_enum_names-Listed, depth_enum_names-External, depth_enum-is, depth_struct-is, depth_variable_type-Int, depth_variable_type-Named, depth_bounds-is, depth_variable-is, depth_activity-is, depth_unary-is, depth_discrete-is, depth_schedule-is, depth_decl-Data, depth_decl-Range, depth_decl-Enumeration, depth_decl-Structure, depth_decl-Variable, depth_decl-Activity, depth_decl-Unary, depth_decl-Discrete, depth_decl-Schedule}
 use Rattle.opl_grammar.specs.Input.{Input, Outcome, Parser, kind, one, sign, word, look, sees_sign, sees_word, is_sign, is_word, is_name, behind, flag}
 use Rattle.opl_grammar.specs.Input as input
 use Rattle.opl_grammar.specs.Tables.{schedule_end_in, sign_starts, word_starts_add, starts_add, type_begins, starts_type, word_starts_decl, decl_begins, starts_decl}
@@ -92,11 +92,11 @@ pub optional_dims_law : {n : ℕ} {r s : Rules} → RulesLaw n r s → Law n (gd
 unfolding gd.optional_dims
 optional_dims_law R = maybe_law (is_sign signs.OpenBracket) (dims_tree_law R) (λ F k h. h)
 
-dims_marks : (o : Option DimsTree) → mk.written (option_map marks_dims o) ≡ optional_dims_shape.marks o
-dims_marks o = written_maybe dims_tree_shape o
+dims_written : (o : Option DimsTree) → mk.written (option_map marks_dims o) ≡ optional_dims_shape.marks o
+dims_written o = written_maybe dims_tree_shape o
 
-dims_depth : (o : Option DimsTree) → if_any (option_map depth_dims o) ≡ optional_dims_shape.depth o
-dims_depth o = if_any_maybe dims_tree_shape o
+dims_nested : (o : Option DimsTree) → if_any (option_map depth_dims o) ≡ optional_dims_shape.depth o
+dims_nested o = if_any_maybe dims_tree_shape o
 
 -- ---- data
 
@@ -168,10 +168,10 @@ data_is r i = simp and_then_assoc
 pub data_law : {n : ℕ} {r s : Rules} → RulesLaw n r s → Law n (gd.data_decl r) (gd.data_decl s) data_shape
 data_law {n} {r} {s} R = plain_law (placed_law (pair_law (type_law R) (pair_law name_law (pair_law (optional_dims_law R) (pair_law (sign_law signs.Equal) (pair_law (initial_law R) (sign_law signs.Semicolon) (λ x k h. sign_ends signs.Semicolon 3 (omega arith) k h)) (λ x k h. tt)) (λ x k h. (tt, from_sign signs.Equal (λ l. sees_sign signs.OpenBracket l ≡ false) k h refl))) (λ x k h. tt)) (λ x k h. tt))) data_to (record {
   made = λ t. record { of = (t.at, (t.kind, (t.name, (t.dims, (tt, (t.initial, tt)))))); is = refl };
-  marks = λ c. marks_data-is (data_to c) ∙ ap (λ ms. mk.place c.0 ∷ (marks_type c.1.0 ++ (marks_name c.1.1.0 ++ (ms ++ mk.token (mk.sign signs.Equal) ∷ (marks_initial c.1.1.1.1.1.0 ++ mk.token (mk.sign signs.Semicolon) ∷ []))))) (dims_marks c.1.1.1.0);
+  marks = λ c. marks_data-is (data_to c) ∙ ap (λ ms. mk.place c.0 ∷ (marks_type c.1.0 ++ (marks_name c.1.1.0 ++ (ms ++ mk.token (mk.sign signs.Equal) ∷ (marks_initial c.1.1.1.1.1.0 ++ mk.token (mk.sign signs.Semicolon) ∷ []))))) (dims_written c.1.1.1.0);
   view = λ x. tt;
   tag = λ c. refl;
-  depth = λ c. let e = depth_data-is (data_to c) in let d = dims_depth c.1.1.1.0 in omega arith;
+  depth = λ c. let e = depth_data-is (data_to c) in let d = dims_nested c.1.1.1.0 in omega arith;
   closes = λ k h. tt;
   begins = λ F k h. h;
 }) (gd.data_decl r) (gd.data_decl s) (data_is r) (data_is s)
@@ -381,10 +381,10 @@ variable_is r i = simp and_then_assoc
 pub variable_law : {n : ℕ} {r s : Rules} → RulesLaw n r s → Law n (gd.variable_decl r) (gd.variable_decl s) variable_shape
 variable_law {n} {r} {s} R = plain_law (placed_law (pair_law (word_law words.Var) (pair_law (variable_type_law r s) (pair_law name_law (pair_law (optional_dims_law R) (pair_law (maybe_law (is_word words.In) (bounds_law R) (λ F k h. h)) (sign_law signs.Semicolon) (λ x k h. (sign_ends signs.Semicolon 3 (omega arith) k h, from_sign signs.Semicolon (λ l. sees_word words.In l ≡ false) k h refl))) (λ x k h. bounds_meet k h)) (λ x k h. tt)) (λ x k h. tt)) (λ x k h. tt))) variable_to (record {
   made = λ t. record { of = (t.at, (tt, (t.kind, (t.name, (t.dims, (t.bounds, tt)))))); is = refl };
-  marks = λ c. marks_variable-is (variable_to c) ∙ (ap (λ ms. mk.place c.0 ∷ mk.token (mk.word words.Var) ∷ (marks_variable_type c.1.1.0 ++ (marks_name c.1.1.1.0 ++ (ms ++ (mk.written (option_map marks_bounds c.1.1.1.1.1.0) ++ mk.token (mk.sign signs.Semicolon) ∷ []))))) (dims_marks c.1.1.1.1.0) ∙ ap (λ ms. mk.place c.0 ∷ mk.token (mk.word words.Var) ∷ (marks_variable_type c.1.1.0 ++ (marks_name c.1.1.1.0 ++ (optional_dims_shape.marks c.1.1.1.1.0 ++ (ms ++ mk.token (mk.sign signs.Semicolon) ∷ []))))) (written_maybe bounds_shape c.1.1.1.1.1.0));
+  marks = λ c. marks_variable-is (variable_to c) ∙ (ap (λ ms. mk.place c.0 ∷ mk.token (mk.word words.Var) ∷ (marks_variable_type c.1.1.0 ++ (marks_name c.1.1.1.0 ++ (ms ++ (mk.written (option_map marks_bounds c.1.1.1.1.1.0) ++ mk.token (mk.sign signs.Semicolon) ∷ []))))) (dims_written c.1.1.1.1.0) ∙ ap (λ ms. mk.place c.0 ∷ mk.token (mk.word words.Var) ∷ (marks_variable_type c.1.1.0 ++ (marks_name c.1.1.1.0 ++ (optional_dims_shape.marks c.1.1.1.1.0 ++ (ms ++ mk.token (mk.sign signs.Semicolon) ∷ []))))) (written_maybe bounds_shape c.1.1.1.1.1.0));
   view = λ x. tt;
   tag = λ c. refl;
-  depth = λ c. let e = depth_variable-is (variable_to c) in let d = dims_depth c.1.1.1.1.0 in let b = if_any_maybe bounds_shape c.1.1.1.1.1.0 in let l = variable_type_flat c.1.1.0 in omega arith;
+  depth = λ c. let e = depth_variable-is (variable_to c) in let d = dims_nested c.1.1.1.1.0 in let b = if_any_maybe bounds_shape c.1.1.1.1.1.0 in let l = variable_type_flat c.1.1.0 in omega arith;
   closes = λ k h. tt;
   begins = λ F k h. h;
 }) (gd.variable_decl r) (gd.variable_decl s) (variable_is r) (variable_is s)
@@ -407,10 +407,10 @@ activity_is r i = simp and_then_assoc
 pub activity_law : {n : ℕ} {r s : Rules} → RulesLaw n r s → Law n (gd.activity_decl r) (gd.activity_decl s) activity_shape
 activity_law {n} {r} {s} R = plain_law (placed_law (pair_law (word_law words.Activity) (pair_law name_law (pair_law (optional_dims_law R) (pair_law (opened_law (sign_reads signs.OpenParenthesis) R.ends) (pair_law (sign_law signs.CloseParenthesis) (sign_law signs.Semicolon) (λ x k h. tt)) (λ x k h. ((sign_ends signs.CloseParenthesis 3 (omega arith) k h, from_sign signs.CloseParenthesis (λ l. sees_sign signs.Range l ≡ false) k h refl), sign_ends signs.CloseParenthesis 3 (omega arith) k h))) (λ x k h. (tt, from_sign signs.OpenParenthesis (λ l. sees_sign signs.OpenBracket l ≡ false) k h refl))) (λ x k h. tt)) (λ x k h. tt))) activity_to (record {
   made = λ t. record { of = (t.at, (tt, (t.name, (t.dims, ((tt, (t.shortest, t.longest)), (tt, tt)))))); is = refl };
-  marks = λ c. marks_activity-is (activity_to c) ∙ (ap (λ ms. mk.place c.0 ∷ mk.token (mk.word words.Activity) ∷ (marks_name c.1.1.0 ++ (ms ++ mk.token (mk.sign signs.OpenParenthesis) ∷ (marks_add c.1.1.1.1.0.1.0 ++ (mk.after (mk.sign signs.Range) (option_map marks_add c.1.1.1.1.0.1.1) ++ closed_end))))) (dims_marks c.1.1.1.0) ∙ ap (λ ms. mk.place c.0 ∷ mk.token (mk.word words.Activity) ∷ (marks_name c.1.1.0 ++ (optional_dims_shape.marks c.1.1.1.0 ++ mk.token (mk.sign signs.OpenParenthesis) ∷ ms))) (ap (λ ms. marks_add c.1.1.1.1.0.1.0 ++ (ms ++ closed_end)) (after_maybe (mk.sign signs.Range) (sign_first signs.Range) add_shape c.1.1.1.1.0.1.1) ∙ sym (append_assoc (marks_add c.1.1.1.1.0.1.0) (optional_upper.marks c.1.1.1.1.0.1.1) closed_end)));
+  marks = λ c. marks_activity-is (activity_to c) ∙ (ap (λ ms. mk.place c.0 ∷ mk.token (mk.word words.Activity) ∷ (marks_name c.1.1.0 ++ (ms ++ mk.token (mk.sign signs.OpenParenthesis) ∷ (marks_add c.1.1.1.1.0.1.0 ++ (mk.after (mk.sign signs.Range) (option_map marks_add c.1.1.1.1.0.1.1) ++ closed_end))))) (dims_written c.1.1.1.0) ∙ ap (λ ms. mk.place c.0 ∷ mk.token (mk.word words.Activity) ∷ (marks_name c.1.1.0 ++ (optional_dims_shape.marks c.1.1.1.0 ++ mk.token (mk.sign signs.OpenParenthesis) ∷ ms))) (ap (λ ms. marks_add c.1.1.1.1.0.1.0 ++ (ms ++ closed_end)) (after_maybe (mk.sign signs.Range) (sign_first signs.Range) add_shape c.1.1.1.1.0.1.1) ∙ sym (append_assoc (marks_add c.1.1.1.1.0.1.0) (optional_upper.marks c.1.1.1.1.0.1.1) closed_end)));
   view = λ x. tt;
   tag = λ c. refl;
-  depth = λ c. let e = depth_activity-is (activity_to c) in let d = dims_depth c.1.1.1.0 in let b = if_any_maybe upper_shape c.1.1.1.1.0.1.1 in omega arith;
+  depth = λ c. let e = depth_activity-is (activity_to c) in let d = dims_nested c.1.1.1.0 in let b = if_any_maybe upper_shape c.1.1.1.1.0.1.1 in omega arith;
   closes = λ k h. tt;
   begins = λ F k h. h;
 }) (gd.activity_decl r) (gd.activity_decl s) (activity_is r) (activity_is s)
@@ -428,10 +428,10 @@ unary_is r i = simp and_then_assoc
 pub unary_law : {n : ℕ} {r s : Rules} → RulesLaw n r s → Law n (gd.unary_decl r) (gd.unary_decl s) unary_shape
 unary_law {n} {r} {s} R = plain_law (placed_law (pair_law (word_law words.UnaryResource) (pair_law name_law (pair_law (optional_dims_law R) (sign_law signs.Semicolon) (λ x k h. (tt, from_sign signs.Semicolon (λ l. sees_sign signs.OpenBracket l ≡ false) k h refl))) (λ x k h. tt)) (λ x k h. tt))) unary_to (record {
   made = λ t. record { of = (t.at, (tt, (t.name, (t.dims, tt)))); is = refl };
-  marks = λ c. marks_unary-is (unary_to c) ∙ ap (λ ms. mk.place c.0 ∷ mk.token (mk.word words.UnaryResource) ∷ (marks_name c.1.1.0 ++ (ms ++ mk.token (mk.sign signs.Semicolon) ∷ []))) (dims_marks c.1.1.1.0);
+  marks = λ c. marks_unary-is (unary_to c) ∙ ap (λ ms. mk.place c.0 ∷ mk.token (mk.word words.UnaryResource) ∷ (marks_name c.1.1.0 ++ (ms ++ mk.token (mk.sign signs.Semicolon) ∷ []))) (dims_written c.1.1.1.0);
   view = λ x. tt;
   tag = λ c. refl;
-  depth = λ c. let e = depth_unary-is (unary_to c) in let d = dims_depth c.1.1.1.0 in omega arith;
+  depth = λ c. let e = depth_unary-is (unary_to c) in let d = dims_nested c.1.1.1.0 in omega arith;
   closes = λ k h. tt;
   begins = λ F k h. h;
 }) (gd.unary_decl r) (gd.unary_decl s) (unary_is r) (unary_is s)
@@ -449,10 +449,10 @@ discrete_is r i = simp and_then_assoc
 pub discrete_law : {n : ℕ} {r s : Rules} → RulesLaw n r s → Law n (gd.discrete_decl r) (gd.discrete_decl s) discrete_shape
 discrete_law {n} {r} {s} R = plain_law (placed_law (pair_law (word_law words.DiscreteResource) (pair_law name_law (pair_law (optional_dims_law R) (pair_law (opened_law (sign_reads signs.OpenParenthesis) R.add) (pair_law (sign_law signs.CloseParenthesis) (sign_law signs.Semicolon) (λ x k h. tt)) (λ x k h. sign_ends signs.CloseParenthesis 3 (omega arith) k h)) (λ x k h. (tt, from_sign signs.OpenParenthesis (λ l. sees_sign signs.OpenBracket l ≡ false) k h refl))) (λ x k h. tt)) (λ x k h. tt))) discrete_to (record {
   made = λ t. record { of = (t.at, (tt, (t.name, (t.dims, ((tt, t.capacity), (tt, tt)))))); is = refl };
-  marks = λ c. marks_discrete-is (discrete_to c) ∙ ap (λ ms. mk.place c.0 ∷ mk.token (mk.word words.DiscreteResource) ∷ (marks_name c.1.1.0 ++ (ms ++ mk.token (mk.sign signs.OpenParenthesis) ∷ (marks_add c.1.1.1.1.0.1 ++ closed_end)))) (dims_marks c.1.1.1.0);
+  marks = λ c. marks_discrete-is (discrete_to c) ∙ ap (λ ms. mk.place c.0 ∷ mk.token (mk.word words.DiscreteResource) ∷ (marks_name c.1.1.0 ++ (ms ++ mk.token (mk.sign signs.OpenParenthesis) ∷ (marks_add c.1.1.1.1.0.1 ++ closed_end)))) (dims_written c.1.1.1.0);
   view = λ x. tt;
   tag = λ c. refl;
-  depth = λ c. let e = depth_discrete-is (discrete_to c) in let d = dims_depth c.1.1.1.0 in omega arith;
+  depth = λ c. let e = depth_discrete-is (discrete_to c) in let d = dims_nested c.1.1.1.0 in omega arith;
   closes = λ k h. tt;
   begins = λ F k h. h;
 }) (gd.discrete_decl r) (gd.discrete_decl s) (discrete_is r) (discrete_is s)
