@@ -26,3 +26,5 @@ pub mod Dims
 pub mod Examples
 pub mod Closing
 pub mod Declared
+pub mod Behind
+pub mod Guarded
