@@ -18,7 +18,7 @@ use Rattle.opl_model_tree.specs.declared.keyword.Keyword.TheVariants as words
 use Rattle.opl_model_tree.specs.declared.expression.CompareTree.TheViews.{roll-GroupTree, roll-ParamsTree, roll-PostTree, roll-SetTree}
 use Rattle.opl_grammar.specs.declared.parts.Operand.TheVariants as operands
 use Rattle.opl_grammar.specs.declared.parts.Braced.TheVariants as braces
-use Rattle.opl_model_tree.specs.Marks.{Mark, marks_name, marks_imp, marks_neg, marks_add, marks_mul, marks_post, marks_prim, marks_set, marks_params, marks_group, marks_dim, marks_field, marks_ordered_params}
+use Rattle.opl_model_tree.specs.Marks.{Mark, marks_name, marks_expr, marks_imp, marks_neg, marks_add, marks_mul, marks_post, marks_prim, marks_set, marks_params, marks_group, marks_dim, marks_field, marks_ordered_params}
 use Rattle.opl_model_tree.specs.Keywords.{keyword_text}
 use Rattle.opl_model_tree.specs.Reading.{kinds}
 use Rattle.opl_model_tree.specs.Marks as mk
@@ -56,10 +56,10 @@ no_each s t tail h = record { whole = tail; value = []; takes = refl; starts = �
 
 -- ---- the number 0, as a phrase of each kind
 
-abbrev one_post : PostTree
+abbrev pub one_post : PostTree
 one_post = roll-PostTree (record { at = 0; prim = prims.Number 0 (pos 0); suffixes = [] })
 
-abbrev zero_marks : List Mark
+abbrev pub zero_marks : List Mark
 zero_marks = mk.place 0 ∷ mk.place 0 ∷ mk.token (mk.number (pos 0)) ∷ []
 
 one_post_is : marks_post one_post ≡ zero_marks
@@ -69,7 +69,7 @@ abbrev pub zeros : ℕ → List Mark → List Mark
 zeros zero ms = ms
 zeros (suc n) ms = mk.place 0 ∷ zeros n ms
 
-zeros_take : (n : ℕ) (tail : Input) → Takes (zeros n zero_marks) (before_part (mk.number (pos 0)) tail) tail
+pub zeros_take : (n : ℕ) (tail : Input) → Takes (zeros n zero_marks) (before_part (mk.number (pos 0)) tail) tail
 zeros_take zero tail = (refl, (refl, ((refl, tt), refl)))
 zeros_take (suc n) tail = (refl, zeros_take n tail)
 
@@ -111,8 +111,11 @@ one_imp_is = wide_imp_is 0 one_post ∙ ap (λ ms. mk.place 0 ∷ ms) (wide_or_i
 pub imp_sample : Samples imp_shape
 imp_sample = zero_sample imp_shape (wide_imp 0 one_post) 6 one_imp_is (λ F. refl)
 
+pub one_expr_is : marks_expr (wide_expr 0 one_post) ≡ zeros 7 zero_marks
+one_expr_is = wide_expr_is 0 one_post ∙ ap (λ ms. mk.place 0 ∷ ms) one_imp_is
+
 pub expr_sample : Samples expr_shape
-expr_sample = zero_sample expr_shape (wide_expr 0 one_post) 7 (wide_expr_is 0 one_post ∙ ap (λ ms. mk.place 0 ∷ ms) one_imp_is) (λ F. refl)
+expr_sample = zero_sample expr_shape (wide_expr 0 one_post) 7 one_expr_is (λ F. refl)
 
 abbrev one_set : SetTree
 one_set = roll-SetTree (record { at = 0; low = wide_add 0 one_post; high = None })

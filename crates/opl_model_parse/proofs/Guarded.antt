@@ -1,14 +1,14 @@
 -- A phrase that does not begin with a brace.
-use Rattle.std.proofs.Common.{◌≡◌, ℕ, Bool, true, false, cond, ◌⊎◌, inl, inr, List, [], ◌∷◌, Ok, Err, refl, sym, ap, ◌∙◌, subst}
+use Rattle.std.proofs.Common.{◌≡◌, ℕ, Bool, true, false, cond, ◌⊎◌, inl, inr, List, [], ◌∷◌, None, Ok, Err, refl, sym, ap, ◌∙◌, subst}
 use Rattle.opl_token.specs.declared.sign.Sign.TheVariants as signs
 use Rattle.opl_model_tree.specs.Marks.{Mark}
 use Rattle.opl_model_tree.specs.Marks as mk
-use Rattle.opl_grammar.specs.Input.{Input, Stop, syntax, Outcome, Parser, kind, refuse, is_sign}
+use Rattle.opl_grammar.specs.Input.{Input, Stop, syntax, Outcome, Parser, kind, left, refuse, is_sign}
 use Rattle.opl_grammar.specs.Input.{place as place_at}
 use Rattle.opl_grammar.specs.Just.{without}
 use Rattle.opl_model_parse.proofs.Outcomes.{err_one, ok_not_err}
-use Rattle.opl_model_parse.proofs.Phrases.{Shape, Accepts, Sound, Sample, Good, Viable, Fails, AllFail, Law, more_test}
-use Rattle.opl_model_parse.proofs.Takes.{IsUnbraced, Begins, takes_begins, Written, writes_kind, stop_front}
+use Rattle.opl_model_parse.proofs.Phrases.{Shape, Accepts, Sound, Sample, Good, Viable, Fails, AllFail, Law, more_test, Any}
+use Rattle.opl_model_parse.proofs.Takes.{IsUnbraced, Takes, Begins, takes_begins, Written, writes_kind, stop_front}
 use Rattle.opl_model_tree.specs.Marks.{Mark}
 
 -- the phrase, unless a `{` comes
@@ -57,16 +57,33 @@ none_begins (mk.place at ∷ ms) i h b = none_begins ms i h b
 none_begins (mk.token p ∷ ms) i h b = absurd h
 none_begins (mk.unbraced ∷ ms) i h b = (b, none_begins ms i h b)
 
+-- no token is left, at the same place
+abbrev ended : Input → Input
+ended i = record { tokens = []; end = place_at i }
+
+none_takes : (ms : List Mark) (i j : Input) → NoToken ms → Takes ms i j → Takes ms (ended i) (ended i)
+none_takes [] i j h t = refl
+none_takes (mk.place at ∷ ms) i j h t = (t.0, none_takes ms i j h t.1)
+none_takes (mk.token p ∷ ms) i j h t = absurd h
+none_takes (mk.unbraced ∷ ms) i j h t = (refl, none_takes ms i j h t.1)
+
 -- the first token is the same
 same_first : (ms : List Mark) (i j i' j' : Input) → Written ms → Begins ms i j → Begins ms i' j' → IsUnbraced (kind i) → IsUnbraced (kind i')
 same_first ms i j i' j' w h k b = subst IsUnbraced (writes_kind w.first ms i j w.is h ∙ sym (writes_kind w.first ms i' j' w.is k)) b
 
-module _ {A : Type 0} (n : ℕ) (p : Parser A) (s : Shape A) (P : Good n p s) (written : (a : A) → Written (s.marks a)) (bare : (tail : Input) → s.closes (kind tail) → Bare s tail) where
+module _ {A : Type 0} (n : ℕ) (p : Parser A) (s : Shape A) (P : Good n p s) (nonempty : s.begins Any None → ⊥) (bare : (tail : Input) → s.closes (kind tail) → Bare s tail) where
   guarded_ok : (i : Input) (a : A) (j : Input) → IsUnbraced (kind i) → p i ≡ Ok (a, j) → guarded p i ≡ Ok (a, j)
   guarded_ok i a j b h = rw (b, h) refl
 
   guarded_read : (i : Input) (a : A) (j : Input) → IsUnbraced (kind i) → Accepts p s a i j → Accepts (guarded p) (guarded_shape s) a i j
   guarded_read i a j b x = record { value = x.value; is = guarded_ok i x.value j b x.is; same = x.same }
+
+  -- whatever is read writes a token
+  writes_some : (i : Input) (a : A) (j : Input) → Sound p s n i a j → Written (s.marks a)
+  writes_some i a j x = by_token (token_or_none (s.marks a)) where
+    by_token : Written (s.marks a) ⊎ NoToken (s.marks a) → Written (s.marks a)
+    by_token (inl w) = w
+    by_token (inr none) = absurd (nonempty (P.front (ended i) a (ended i) Any x.deep (none_takes (s.marks a) i j none x.takes) tt))
 
   guarded_sound : (i : Input) (a : A) (j : Input) (b : Bool) → is_sign signs.OpenBrace (kind i) ≡ b → cond {A = Outcome A} b (refuse i) (p i) ≡ Ok (a, j) → Sound (guarded p) (guarded_shape s) n i a j
   guarded_sound i a j true b h = absurd (ok_not_err (sym h))
@@ -79,7 +96,7 @@ module _ {A : Type 0} (n : ℕ) (p : Parser A) (s : Shape A) (P : Good n p s) (w
         again = λ i' j' m e. guarded_read i' a j' m.0 (x.again i' j' m.1 e);
         before = λ tail.
             let y = x.before tail in
-            record { start = y.start; begins = (same_first (s.marks a) i j y.start tail (written a) (takes_begins (s.marks a) i j x.takes) y.begins b, y.begins) };
+            record { start = y.start; begins = (same_first (s.marks a) i j y.start tail (writes_some i a j x) (takes_begins (s.marks a) i j x.takes) y.begins b, y.begins) };
       }
 
   guarded_good : Good n (guarded p) (guarded_shape s)
@@ -131,10 +148,10 @@ module _ {A : Type 0} (n : ℕ) (p : Parser A) (s : Shape A) (P : Good n p s) (w
   guarded_fails f i e true b h = subst (λ x. Fails (guarded p) (guarded_shape s) i x) (err_one h) (brace_fails i b)
   guarded_fails f i e false b h = inner_fails i e b (f i e h)
 
-pub guarded_law : {A : Type 0} {n : ℕ} {p q : Parser A} {s : Shape A} → Law n p q s → ((a : A) → Written (s.marks a)) → ((tail : Input) → s.closes (kind tail) → Bare s tail) → Law n (guarded p) (guarded q) (guarded_shape s)
-guarded_law {A} {n} {p} {q} {s} P written bare = record {
-  good = guarded_good n p s P.good written bare;
-  fails = λ i e h. guarded_fails n p s P.good written bare P.fails i e (is_sign signs.OpenBrace (kind i)) refl h;
+pub guarded_law : {A : Type 0} {n : ℕ} {p q : Parser A} {s : Shape A} → Law n p q s → (s.begins Any None → ⊥) → ((tail : Input) → s.closes (kind tail) → Bare s tail) → Law n (guarded p) (guarded q) (guarded_shape s)
+guarded_law {A} {n} {p} {q} {s} P nonempty bare = record {
+  good = guarded_good n p s P.good nonempty bare;
+  fails = λ i e h. guarded_fails n p s P.good nonempty bare P.fails i e (is_sign signs.OpenBrace (kind i)) refl h;
   more = λ i. more_test {A = A} (is_sign signs.OpenBrace (kind i)) (refuse i) (p i) (refuse i) (q i) (λ d. refl) (P.more i);
   fit = P.fit;
 }

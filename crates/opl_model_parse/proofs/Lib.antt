@@ -28,3 +28,4 @@ pub mod Closing
 pub mod Declared
 pub mod Behind
 pub mod Guarded
+pub mod Stated
