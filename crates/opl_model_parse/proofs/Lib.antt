@@ -29,3 +29,4 @@ pub mod Declared
 pub mod Behind
 pub mod Guarded
 pub mod Stated
+pub mod Searched

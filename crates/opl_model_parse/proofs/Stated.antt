@@ -86,19 +86,19 @@ demand_law {n} {r} {s} u v R = plain_law (pair_law (opened_law (sign_reads signs
   begins = λ F k h. h;
 }) (gi.demand r u) (gi.demand s v) (demand_is r u) (demand_is s v)
 
-abbrev Later : Type 0
+abbrev pub Later : Type 0
 Later = Unit {0} × PostTree
 
 abbrev Demanded : Type 0
 Demanded = Unit {0} × (Option AddTree × (NameTree × Option SubscriptsTree))
 
-abbrev later_read : Rules → Parser Later
+abbrev pub later_read : Rules → Parser Later
 later_read r = pair (word words.Precedes) (g.post r)
 
 abbrev demanded_read : Rules → ItemRules → Parser Demanded
 demanded_read r u = pair (word words.Requires) (pair (maybe (is_sign signs.OpenParenthesis) (gi.demand r u)) (pair g.name (maybe (is_sign signs.OpenBracket) (g.subscripts r))))
 
-abbrev later_shape : Shape Later
+abbrev pub later_shape : Shape Later
 later_shape = pair_shape (word_shape words.Precedes) post_shape
 
 abbrev optional_subscripts : Shape (Option SubscriptsTree)
@@ -185,7 +185,7 @@ bare_stated tail h = record {
   bare = refl;
 }
 
-no_first : starts_expr None ≡ true → ⊥
+pub no_first : starts_expr None ≡ true → ⊥
 no_first h = cc
 
 stated_law : {n : ℕ} {r s : Rules} (u v : ItemRules) → RulesLaw n r s → Law n (guarded (stated_read r u)) (guarded (stated_read s v)) (guarded_shape stated_shape)
