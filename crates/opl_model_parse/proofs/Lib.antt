@@ -30,3 +30,5 @@ pub mod Behind
 pub mod Guarded
 pub mod Stated
 pub mod Searched
+pub mod Modelled
+pub mod Texts
