@@ -32,3 +32,4 @@ pub mod Stated
 pub mod Searched
 pub mod Modelled
 pub mod Texts
+pub mod TreeLaws

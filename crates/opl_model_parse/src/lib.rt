@@ -1,2 +1,4 @@
 //! The parser of whole models: from the tokens of a text to their tree.
 #![tactic(auto)]
+
+pub mod laws;
