@@ -79,15 +79,15 @@ module _ (below : Rules) (inner : ItemRules) where
     pure (record { at = at; activity = activity; demand = amount; resource = t; subscripts = parts })
 
   -- that, where what stands before is just a post
-  abbrev pub requires : ℕ → Option PostTree → Parser ItemTree
-  requires at (Some activity) = items_are.Requires <$> requires_tree at activity
-  requires at None = refuse
+  abbrev pub required : ℕ → Option PostTree → Parser ItemTree
+  required at (Some activity) = items_are.Requires <$> requires_tree at activity
+  required at None = refuse
 
   -- what an item that begins with this expression at this place is
   unfoldable pub stated_of : ℕ → ExprTree → Parser ItemTree
   stated_of at t =
       either (is_word words.Precedes) (precedes at (post_of t))
-      (either (is_word words.Requires) (requires at (post_of t))
+      (either (is_word words.Requires) (required at (post_of t))
       (pure (items_are.Constraint t)))
 
   -- EXPR, POST precedes POST or POST requires ..

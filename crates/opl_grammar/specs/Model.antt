@@ -1,11 +1,12 @@
 -- The rule of models, with 256 levels of nesting.
-use Rattle.std.specs.Prelude.{ℕ, List, Option, Some, None, Ok}
+use Rattle.std.specs.Prelude.{ℕ, List, Option, Some, None, Result, Ok}
 use Rattle.opl_token.specs.declared.token.Kind.{Kind}
 use Rattle.opl_token.specs.declared.token.Token.{Token}
 use Rattle.opl_model_tree.specs.declared.keyword.Keyword.TheVariants as words
+use Rattle.opl_model_tree.specs.declared.fault.SyntaxFault.{SyntaxFault}
 use Rattle.opl_model_tree.specs.declared.model.ModelTree.{ModelTree}
 use Rattle.opl_grammar.specs.Declarations.{decl}
-use Rattle.opl_grammar.specs.Input.{Input, Parser, kind, ◌>>=◌, ◌>>◌, pure, refuse, here, maybe, many, is_word}
+use Rattle.opl_grammar.specs.Input.{Input, Outcome, Parser, Reads, kind, ◌>>=◌, ◌>>◌, pure, refuse, here, maybe, many, is_word}
 use Rattle.opl_grammar.specs.Items.{ItemRules, item_rules, instr}
 use Rattle.opl_grammar.specs.Rules.{Rules, rules}
 use Rattle.opl_grammar.specs.Search.{StatementRules, statement_rules, search_section}
@@ -52,3 +53,8 @@ whole = whole_within max_nesting
 -- the tokens of a text with this length
 abbrev pub start : List Token → ℕ → Input
 start tokens end = record { tokens = tokens; end = end }
+
+-- the parser's outcome, unless memory fails, whatever input is left
+pub record ReadsAll {A : Type 0} (outcome : Outcome A) (result : Result A SyntaxFault) : Type 0 where
+  pub rest : Input
+  pub reads : Reads outcome result rest

@@ -27,7 +27,7 @@ pub record StatementRules : Type 0 where
   -- behind `once`
   pub statement : ℕ → Parser StatementTree
   -- behind `while`
-  pub loop : ℕ → Parser (ExprTree × StatementTree)
+  pub repeated : ℕ → Parser (ExprTree × StatementTree)
   -- behind `if`
   pub choice : ℕ → Parser (ExprTree × StatementsTree × Option StatementsTree)
 
@@ -71,7 +71,7 @@ module _ (below : Rules) (inner : StatementRules) where
   while_statement = do
     at ← here
     word words.While
-    parts ← inner.loop at
+    parts ← inner.repeated at
     pure (statements_are.While at parts.0 parts.1)
 
   -- if EXPR then STATEMENTS endif, or with else STATEMENTS before endif
@@ -167,8 +167,8 @@ module _ (below : Rules) (inner : StatementRules) where
     pure (t, body)
 
   -- EXPR do STATEMENT
-  unfoldable pub loop : Parser (ExprTree × StatementTree)
-  loop = do
+  unfoldable pub repeated : Parser (ExprTree × StatementTree)
+  repeated = do
     t ← expr below
     word words.Do
     body ← statement
@@ -195,7 +195,7 @@ module _ (below : Rules) (inner : StatementRules) where
     alternatives = λ at. alternatives;
     branch = λ at. branch;
     statement = λ at. statement;
-    loop = λ at. loop;
+    repeated = λ at. repeated;
     choice = λ at. choice;
   }
 
@@ -217,7 +217,7 @@ no_statement_level = record {
   alternatives = refuse_level;
   branch = refuse_level;
   statement = refuse_level;
-  loop = refuse_level;
+  repeated = refuse_level;
   choice = refuse_level;
 }
 

@@ -3,6 +3,7 @@ ghost use Rattle.std.specs.Prelude.{◌≡◌, ◌+◌, suc};
 ghost use Rattle.opl_grammar.specs.Input as spec;
 ghost use Rattle.opl_model_tree.specs.Keywords.{keyword_of};
 ghost use Rattle.opl_grammar.specs.Input.{Reads};
+ghost use Rattle.opl_grammar.specs.Model as rules;
 
 use crate::look::Look;
 use opl_list::Seq;
@@ -255,6 +256,16 @@ impl<'a> Cursor<'a> {
                 self.advance();
                 Ok(value)
             }
+            _ => Err(self.refuse()),
+        }
+    }
+
+    /// Finds no token left.
+    pub fn finish(&mut self) -> Result<(), SyntaxFault>
+        ensures { Reads (rules.finish self.old) result self.new }
+    {
+        match self.tokens {
+            [] => Ok(()),
             _ => Err(self.refuse()),
         }
     }

@@ -2,8 +2,18 @@
 #![tactic(auto)]
 
 mod below;
+mod bracket;
+mod just;
+mod next;
+mod params;
 mod prim;
+mod product;
+mod truth;
+mod wanted;
 mod word;
 
 pub use below::{Below, Level};
-pub use word::{field_name, name, names};
+pub use just::{into_name, into_post};
+pub use next::{Next, read};
+pub use wanted::{Found, Wanted};
+pub use word::{field_name, name};
