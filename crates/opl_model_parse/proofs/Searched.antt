@@ -129,8 +129,8 @@ ordered_chosen_shape = plain (λ t. mk.token (mk.sign signs.OpenParenthesis) ∷
 abbrev pub branch_shape : Shape (OrderedParamsTree × StatementTree)
 branch_shape = pair_shape ordered_chosen_shape statement_shape
 
-abbrev pub loop_shape : Shape (ExprTree × StatementTree)
-loop_shape = plain (λ c. marks_expr c.0 ++ mk.token (mk.word words.Do) ∷ marks_statement c.1) (λ c. max (depth_expr c.0) (depth_statement c.1)) (Ends 10) (First starts_expr)
+abbrev pub repeated_shape : Shape (ExprTree × StatementTree)
+repeated_shape = plain (λ c. marks_expr c.0 ++ mk.token (mk.word words.Do) ∷ marks_statement c.1) (λ c. max (depth_expr c.0) (depth_statement c.1)) (Ends 10) (First starts_expr)
 
 abbrev pub Choice : Type 0
 Choice = ExprTree × StatementsTree × Option StatementsTree
@@ -144,7 +144,7 @@ pub record StatementLaws (n : ℕ) (u v : StatementRules) : Type 1 where
   pub alternatives : Entry n u.alternatives v.alternatives alternatives_shape
   pub branch : Entry n u.branch v.branch branch_shape
   pub statement : Entry n u.statement v.statement statement_shape
-  pub loop : Entry n u.loop v.loop loop_shape
+  pub repeated : Entry n u.repeated v.repeated repeated_shape
   pub choice : Entry n u.choice v.choice choice_shape
 
 -- ---- blocks
@@ -320,10 +320,10 @@ statement_to (inr (inr (inr (inr (inr (inr (inl c))))))) = statements_are.Label 
 statement_to (inr (inr (inr (inr (inr (inr (inr c))))))) = posted_to c
 
 abbrev statement_over : Rules → StatementRules → Parser Posted → Parser StatementParts
-statement_over r u p = (either (is_sign signs.OpenBrace) (gs.search_block r u) (either (is_word words.Try) (placed (opened (word_table words.Try) u.alternatives)) (either is_branch (placed (opened branch_in u.branch)) (either (is_word words.Once) (placed (opened (word_table words.Once) u.statement)) (either (is_word words.While) (placed (opened (word_table words.While) u.loop)) (either (is_word words.If) (placed (opened (word_table words.If) u.choice)) (either is_label (placed (pair (one label_in) (g.asked r))) p)))))))
+statement_over r u p = (either (is_sign signs.OpenBrace) (gs.search_block r u) (either (is_word words.Try) (placed (opened (word_table words.Try) u.alternatives)) (either is_branch (placed (opened branch_in u.branch)) (either (is_word words.Once) (placed (opened (word_table words.Once) u.statement)) (either (is_word words.While) (placed (opened (word_table words.While) u.repeated)) (either (is_word words.If) (placed (opened (word_table words.If) u.choice)) (either is_label (placed (pair (one label_in) (g.asked r))) p)))))))
 
 abbrev statement_parts : Shape StatementParts
-statement_parts = (either_shape search_block_shape (either_shape (placed_shape (opened_shape (λ u. mk.word words.Try) (word_first words.Try) alternatives_shape)) (either_shape (placed_shape (opened_shape branch_part branch_first branch_shape)) (either_shape (placed_shape (opened_shape (λ u. mk.word words.Once) (word_first words.Once) statement_shape)) (either_shape (placed_shape (opened_shape (λ u. mk.word words.While) (word_first words.While) loop_shape)) (either_shape (placed_shape (opened_shape (λ u. mk.word words.If) (word_first words.If) choice_shape)) (either_shape (placed_shape (pair_shape (one_shape label_part label_first) asked_shape)) (guarded_shape posted_shape))))))))
+statement_parts = (either_shape search_block_shape (either_shape (placed_shape (opened_shape (λ u. mk.word words.Try) (word_first words.Try) alternatives_shape)) (either_shape (placed_shape (opened_shape branch_part branch_first branch_shape)) (either_shape (placed_shape (opened_shape (λ u. mk.word words.Once) (word_first words.Once) statement_shape)) (either_shape (placed_shape (opened_shape (λ u. mk.word words.While) (word_first words.While) repeated_shape)) (either_shape (placed_shape (opened_shape (λ u. mk.word words.If) (word_first words.If) choice_shape)) (either_shape (placed_shape (pair_shape (one_shape label_part label_first) asked_shape)) (guarded_shape posted_shape))))))))
 
 try_is : (r : Rules) (u : StatementRules) (i : Input) → gs.try_statement r u i ≡ mapped (λ (c : ℕ × (Unit {0} × Alternatives)). statements_are.Try c.0 c.1.1.0 c.1.1.1 c.1.1.2) (placed (opened (word_table words.Try) u.alternatives)) i
 unfolding gs.try_statement
@@ -337,7 +337,7 @@ once_is : (r : Rules) (u : StatementRules) (i : Input) → gs.once_statement r u
 unfolding gs.once_statement
 once_is r u i = simp steps
 
-while_is : (r : Rules) (u : StatementRules) (i : Input) → gs.while_statement r u i ≡ mapped (λ (c : ℕ × (Unit {0} × (ExprTree × StatementTree))). statements_are.While c.0 c.1.1.0 c.1.1.1) (placed (opened (word_table words.While) u.loop)) i
+while_is : (r : Rules) (u : StatementRules) (i : Input) → gs.while_statement r u i ≡ mapped (λ (c : ℕ × (Unit {0} × (ExprTree × StatementTree))). statements_are.While c.0 c.1.1.0 c.1.1.1) (placed (opened (word_table words.While) u.repeated)) i
 unfolding gs.while_statement
 while_is r u i = simp steps
 
@@ -359,10 +359,10 @@ statement_over_is r u i = rw (word_statement_is r u i, try_is r u i, branched_is
 
 statement_is : (r : Rules) (u : StatementRules) (i : Input) → gs.statement r u i ≡ mapped statement_to (statement_over r u (guarded (posted_read r))) i
 statement_is r u i = statement_over_is r u i ∙ ap (λ (o : Outcome StatementParts). and_then o (λ c. pure (statement_to c)))
-    (unguarded (gs.search_block r u) (either (is_word words.Try) (placed (opened (word_table words.Try) u.alternatives)) (either is_branch (placed (opened branch_in u.branch)) (either (is_word words.Once) (placed (opened (word_table words.Once) u.statement)) (either (is_word words.While) (placed (opened (word_table words.While) u.loop)) (either (is_word words.If) (placed (opened (word_table words.If) u.choice)) (either is_label (placed (pair (one label_in) (g.asked r))) (posted_read r))))))) (either (is_word words.Try) (placed (opened (word_table words.Try) u.alternatives)) (either is_branch (placed (opened branch_in u.branch)) (either (is_word words.Once) (placed (opened (word_table words.Once) u.statement)) (either (is_word words.While) (placed (opened (word_table words.While) u.loop)) (either (is_word words.If) (placed (opened (word_table words.If) u.choice)) (either is_label (placed (pair (one label_in) (g.asked r))) (guarded (posted_read r)))))))) i (λ h. (later_same (is_word words.Try) (placed (opened (word_table words.Try) u.alternatives)) (either is_branch (placed (opened branch_in u.branch)) (either (is_word words.Once) (placed (opened (word_table words.Once) u.statement)) (either (is_word words.While) (placed (opened (word_table words.While) u.loop)) (either (is_word words.If) (placed (opened (word_table words.If) u.choice)) (either is_label (placed (pair (one label_in) (g.asked r))) (posted_read r)))))) (either is_branch (placed (opened branch_in u.branch)) (either (is_word words.Once) (placed (opened (word_table words.Once) u.statement)) (either (is_word words.While) (placed (opened (word_table words.While) u.loop)) (either (is_word words.If) (placed (opened (word_table words.If) u.choice)) (either is_label (placed (pair (one label_in) (g.asked r))) (guarded (posted_read r))))))) i
-    (later_same is_branch (placed (opened branch_in u.branch)) (either (is_word words.Once) (placed (opened (word_table words.Once) u.statement)) (either (is_word words.While) (placed (opened (word_table words.While) u.loop)) (either (is_word words.If) (placed (opened (word_table words.If) u.choice)) (either is_label (placed (pair (one label_in) (g.asked r))) (posted_read r))))) (either (is_word words.Once) (placed (opened (word_table words.Once) u.statement)) (either (is_word words.While) (placed (opened (word_table words.While) u.loop)) (either (is_word words.If) (placed (opened (word_table words.If) u.choice)) (either is_label (placed (pair (one label_in) (g.asked r))) (guarded (posted_read r)))))) i
-    (later_same (is_word words.Once) (placed (opened (word_table words.Once) u.statement)) (either (is_word words.While) (placed (opened (word_table words.While) u.loop)) (either (is_word words.If) (placed (opened (word_table words.If) u.choice)) (either is_label (placed (pair (one label_in) (g.asked r))) (posted_read r)))) (either (is_word words.While) (placed (opened (word_table words.While) u.loop)) (either (is_word words.If) (placed (opened (word_table words.If) u.choice)) (either is_label (placed (pair (one label_in) (g.asked r))) (guarded (posted_read r))))) i
-    (later_same (is_word words.While) (placed (opened (word_table words.While) u.loop)) (either (is_word words.If) (placed (opened (word_table words.If) u.choice)) (either is_label (placed (pair (one label_in) (g.asked r))) (posted_read r))) (either (is_word words.If) (placed (opened (word_table words.If) u.choice)) (either is_label (placed (pair (one label_in) (g.asked r))) (guarded (posted_read r)))) i
+    (unguarded (gs.search_block r u) (either (is_word words.Try) (placed (opened (word_table words.Try) u.alternatives)) (either is_branch (placed (opened branch_in u.branch)) (either (is_word words.Once) (placed (opened (word_table words.Once) u.statement)) (either (is_word words.While) (placed (opened (word_table words.While) u.repeated)) (either (is_word words.If) (placed (opened (word_table words.If) u.choice)) (either is_label (placed (pair (one label_in) (g.asked r))) (posted_read r))))))) (either (is_word words.Try) (placed (opened (word_table words.Try) u.alternatives)) (either is_branch (placed (opened branch_in u.branch)) (either (is_word words.Once) (placed (opened (word_table words.Once) u.statement)) (either (is_word words.While) (placed (opened (word_table words.While) u.repeated)) (either (is_word words.If) (placed (opened (word_table words.If) u.choice)) (either is_label (placed (pair (one label_in) (g.asked r))) (guarded (posted_read r)))))))) i (λ h. (later_same (is_word words.Try) (placed (opened (word_table words.Try) u.alternatives)) (either is_branch (placed (opened branch_in u.branch)) (either (is_word words.Once) (placed (opened (word_table words.Once) u.statement)) (either (is_word words.While) (placed (opened (word_table words.While) u.repeated)) (either (is_word words.If) (placed (opened (word_table words.If) u.choice)) (either is_label (placed (pair (one label_in) (g.asked r))) (posted_read r)))))) (either is_branch (placed (opened branch_in u.branch)) (either (is_word words.Once) (placed (opened (word_table words.Once) u.statement)) (either (is_word words.While) (placed (opened (word_table words.While) u.repeated)) (either (is_word words.If) (placed (opened (word_table words.If) u.choice)) (either is_label (placed (pair (one label_in) (g.asked r))) (guarded (posted_read r))))))) i
+    (later_same is_branch (placed (opened branch_in u.branch)) (either (is_word words.Once) (placed (opened (word_table words.Once) u.statement)) (either (is_word words.While) (placed (opened (word_table words.While) u.repeated)) (either (is_word words.If) (placed (opened (word_table words.If) u.choice)) (either is_label (placed (pair (one label_in) (g.asked r))) (posted_read r))))) (either (is_word words.Once) (placed (opened (word_table words.Once) u.statement)) (either (is_word words.While) (placed (opened (word_table words.While) u.repeated)) (either (is_word words.If) (placed (opened (word_table words.If) u.choice)) (either is_label (placed (pair (one label_in) (g.asked r))) (guarded (posted_read r)))))) i
+    (later_same (is_word words.Once) (placed (opened (word_table words.Once) u.statement)) (either (is_word words.While) (placed (opened (word_table words.While) u.repeated)) (either (is_word words.If) (placed (opened (word_table words.If) u.choice)) (either is_label (placed (pair (one label_in) (g.asked r))) (posted_read r)))) (either (is_word words.While) (placed (opened (word_table words.While) u.repeated)) (either (is_word words.If) (placed (opened (word_table words.If) u.choice)) (either is_label (placed (pair (one label_in) (g.asked r))) (guarded (posted_read r))))) i
+    (later_same (is_word words.While) (placed (opened (word_table words.While) u.repeated)) (either (is_word words.If) (placed (opened (word_table words.If) u.choice)) (either is_label (placed (pair (one label_in) (g.asked r))) (posted_read r))) (either (is_word words.If) (placed (opened (word_table words.If) u.choice)) (either is_label (placed (pair (one label_in) (g.asked r))) (guarded (posted_read r)))) i
     (later_same (is_word words.If) (placed (opened (word_table words.If) u.choice)) (either is_label (placed (pair (one label_in) (g.asked r))) (posted_read r)) (either is_label (placed (pair (one label_in) (g.asked r))) (guarded (posted_read r))) i
     (later_same is_label (placed (pair (one label_in) (g.asked r))) (posted_read r) (guarded (posted_read r)) i
     (guard_passes (posted_read r) i h)))))))))
@@ -416,7 +416,7 @@ statement_deep (inr (inr (inr (inr (inr (inr (inl c))))))) = let e = depth_state
 statement_deep (inr (inr (inr (inr (inr (inr (inr c))))))) = posted_deep c
 
 pub statement_law : {n : ℕ} {r s : Rules} {u v : StatementRules} → RulesLaw n r s → StatementLaws n u v → Law n (gs.statement r u) (gs.statement s v) statement_shape
-statement_law {n} {r} {s} {u} {v} R L = plain_law (either_law (is_sign signs.OpenBrace) (search_block_law r s L) (either_law (is_word words.Try) (placed_law (opened_law (word_reads words.Try) L.alternatives)) (either_law is_branch (placed_law (opened_law branch_reads L.branch)) (either_law (is_word words.Once) (placed_law (opened_law (word_reads words.Once) L.statement)) (either_law (is_word words.While) (placed_law (opened_law (word_reads words.While) L.loop)) (either_law (is_word words.If) (placed_law (opened_law (word_reads words.If) L.choice)) (either_law is_label (placed_law (pair_law (one_law label_reads) (asked_law R) (λ x k h. tt))) (posted_law R)
+statement_law {n} {r} {s} {u} {v} R L = plain_law (either_law (is_sign signs.OpenBrace) (search_block_law r s L) (either_law (is_word words.Try) (placed_law (opened_law (word_reads words.Try) L.alternatives)) (either_law is_branch (placed_law (opened_law branch_reads L.branch)) (either_law (is_word words.Once) (placed_law (opened_law (word_reads words.Once) L.statement)) (either_law (is_word words.While) (placed_law (opened_law (word_reads words.While) L.repeated)) (either_law (is_word words.If) (placed_law (opened_law (word_reads words.If) L.choice)) (either_law is_label (placed_law (pair_law (one_law label_reads) (asked_law R) (λ x k h. tt))) (posted_law R)
     (λ F k h. h) (λ F k h. expr_without_label (look k) h.0))
     (λ F k h. h) (λ F k h. (by_side (λ a. from_label (λ l. sees_word words.If l ≡ false) k a label_no_If) (λ a. expr_without_If (look k) a.0)) h))
     (λ F k h. h) (λ F k h. (by_side (λ a. from_word words.If (λ l. sees_word words.While l ≡ false) k a refl) (by_side (λ a. from_label (λ l. sees_word words.While l ≡ false) k a label_no_While) (λ a. expr_without_While (look k) a.0))) h))
@@ -555,12 +555,12 @@ pub branch_law : {n : ℕ} {r s : Rules} {u v : StatementRules} → RulesLaw n r
 unfolding gs.branch
 branch_law {n} {r} {s} {u} {v} R L = pair_law (ordered_chosen_law u v R) (statement_law R L) (λ x k h. tt)
 
-loop_is : (r : Rules) (u : StatementRules) (i : Input) → gs.loop r u i ≡ mapped (λ (c : ExprTree × (Unit {0} × StatementTree)). (c.0, c.1.1)) (pair (g.expr r) (pair (word words.Do) (gs.statement r u))) i
-unfolding gs.loop
-loop_is r u i = simp steps
+repeated_is : (r : Rules) (u : StatementRules) (i : Input) → gs.repeated r u i ≡ mapped (λ (c : ExprTree × (Unit {0} × StatementTree)). (c.0, c.1.1)) (pair (g.expr r) (pair (word words.Do) (gs.statement r u))) i
+unfolding gs.repeated
+repeated_is r u i = simp steps
 
-pub loop_law : {n : ℕ} {r s : Rules} {u v : StatementRules} → RulesLaw n r s → StatementLaws n u v → Law n (gs.loop r u) (gs.loop s v) loop_shape
-loop_law {n} {r} {s} {u} {v} R L = plain_law (pair_law (expr_law R) (pair_law (word_law words.Do) (statement_law R L) (λ x k h. tt)) (λ x k h. word_ends words.Do 9 (omega arith) k h)) (λ c. (c.0, c.1.1)) (record {
+pub repeated_law : {n : ℕ} {r s : Rules} {u v : StatementRules} → RulesLaw n r s → StatementLaws n u v → Law n (gs.repeated r u) (gs.repeated s v) repeated_shape
+repeated_law {n} {r} {s} {u} {v} R L = plain_law (pair_law (expr_law R) (pair_law (word_law words.Do) (statement_law R L) (λ x k h. tt)) (λ x k h. word_ends words.Do 9 (omega arith) k h)) (λ c. (c.0, c.1.1)) (record {
   made = λ t. record { of = (t.0, (tt, t.1)); is = refl };
   marks = λ c. refl;
   view = λ x. tt;
@@ -568,7 +568,7 @@ loop_law {n} {r} {s} {u} {v} R L = plain_law (pair_law (expr_law R) (pair_law (w
   depth = λ c. omega arith;
   closes = λ k h. h;
   begins = λ F k h. h;
-}) (gs.loop r u) (gs.loop s v) (loop_is r u) (loop_is s v)
+}) (gs.repeated r u) (gs.repeated s v) (repeated_is r u) (repeated_is s v)
 
 -- ---- behind `if`
 
@@ -636,8 +636,8 @@ ordered_chosen_sample tail h =
 branch_sample : Samples branch_shape
 branch_sample = pair_samples (λ x k h. tt) (λ x k h. h) ordered_chosen_sample statement_sample
 
-loop_sample : Samples loop_shape
-loop_sample tail h =
+repeated_sample : Samples repeated_shape
+repeated_sample tail h =
     let s = statement_sample tail h in
     let mid = before_part (mk.word words.Do) s.whole in
     let e = expr_sample mid (word_ends words.Do 9 (omega arith) (kind mid) (is_word_same words.Do)) in
@@ -682,7 +682,7 @@ statements_zero k = record {
   alternatives = record { levels = record { is = λ at i. refl; sample = alternatives_sample; closing = λ x k h. h; fit = λ c. tt } };
   branch = record { levels = record { is = λ at i. refl; sample = branch_sample; closing = λ x k h. h; fit = λ c. (tt, tt) } };
   statement = record { levels = record { is = λ at i. refl; sample = statement_sample; closing = λ x k h. h; fit = λ c. tt } };
-  loop = record { levels = record { is = λ at i. refl; sample = loop_sample; closing = λ x k h. h; fit = λ c. tt } };
+  repeated = record { levels = record { is = λ at i. refl; sample = repeated_sample; closing = λ x k h. h; fit = λ c. tt } };
   choice = record { levels = record { is = λ at i. refl; sample = choice_sample; closing = λ x k h. h; fit = λ c. tt } };
 }
 
@@ -693,7 +693,7 @@ statements_next n k R L = record {
   alternatives = record { levels = record { read = gs.alternatives (g.rules n) (gs.statement_rules n); more = gs.alternatives (g.rules k) (gs.statement_rules k); is = λ at i. refl; are = λ at i. refl; law = alternatives_law R L } };
   branch = record { levels = record { read = gs.branch (g.rules n) (gs.statement_rules n); more = gs.branch (g.rules k) (gs.statement_rules k); is = λ at i. refl; are = λ at i. refl; law = branch_law R L } };
   statement = record { levels = record { read = gs.statement (g.rules n) (gs.statement_rules n); more = gs.statement (g.rules k) (gs.statement_rules k); is = λ at i. refl; are = λ at i. refl; law = statement_law R L } };
-  loop = record { levels = record { read = gs.loop (g.rules n) (gs.statement_rules n); more = gs.loop (g.rules k) (gs.statement_rules k); is = λ at i. refl; are = λ at i. refl; law = loop_law R L } };
+  repeated = record { levels = record { read = gs.repeated (g.rules n) (gs.statement_rules n); more = gs.repeated (g.rules k) (gs.statement_rules k); is = λ at i. refl; are = λ at i. refl; law = repeated_law R L } };
   choice = record { levels = record { read = gs.choice (g.rules n) (gs.statement_rules n); more = gs.choice (g.rules k) (gs.statement_rules k); is = λ at i. refl; are = λ at i. refl; law = choice_law R L } };
 }
 

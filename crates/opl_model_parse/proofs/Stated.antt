@@ -154,7 +154,7 @@ unfolding gi.requires_tree
 requires_is r u at p j = simp and_then_assoc
 
 stated_by : (r : Rules) (u : ItemRules) (at : ℕ) (t : ExprTree) (o : Option PostTree) (j : Input) (a b : Bool) → is_word words.Precedes (kind j) ≡ a → is_word words.Requires (kind j) ≡ b →
-    cond {A = Outcome ItemTree} a (gi.precedes r u at o j) (cond {A = Outcome ItemTree} b (gi.requires r u at o j) (Ok (items_are.Constraint t, j)))
+    cond {A = Outcome ItemTree} a (gi.precedes r u at o j) (cond {A = Outcome ItemTree} b (gi.required r u at o j) (Ok (items_are.Constraint t, j)))
     ≡ and_then (cond {A = Outcome (ExprTree ⊎ (PostTree × (Later ⊎ Demanded)))} (a || b) (by_view (rest_read r u) o j) (Ok (inl t, j))) (λ c. pure (stated_to (with_place at c)))
 stated_by r u at t None j true b e f = refl
 stated_by r u at t None j false true e f = refl
