@@ -5,10 +5,8 @@ use Rattle.opl_token.specs.declared.token.Kind.{Kind}
 use Rattle.opl_token.specs.declared.token.Kind.TheVariants as kinds
 use Rattle.opl_model_tree.specs.Marks.{Mark}
 use Rattle.opl_model_tree.specs.Depth.{greatest}
-use Rattle.opl_model_tree.specs.Reading.{kinds}
 use Rattle.opl_model_tree.specs.Marks as mk
-use Rattle.opl_grammar.specs.Input.{Input, Stop, Outcome, Parser, kind, next, left, and_then, ◌>>=◌, pure, refuse, take_found, sign, is_sign, many, behind, behind_from, seen}
-use Rattle.opl_grammar.specs.Just.{without}
+use Rattle.opl_grammar.specs.Input.{Input, Stop, Outcome, Parser, kind, next, left, and_then, ◌>>=◌, pure, refuse, take_found, sign, is_sign, behind, behind_from, seen}
 use Rattle.opl_model_parse.proofs.Forms.{maybe, maybe_shape, Passes, maybe_good, maybe_fails_at, mapped, Made, Rule, rule_good, rule_fails_at, plain}
 use Rattle.opl_model_parse.proofs.Lists.{pair_same, maybe_same}
 use Rattle.opl_model_parse.proofs.Outcomes.{and_then_pure}

@@ -3,7 +3,6 @@ use Rattle.std.proofs.Common.{ℕ, zero, suc, ◌≤◌, List, [], ◌∷◌, Op
 use Rattle.opl_token.specs.declared.token.Kind.{Kind}
 use Rattle.opl_model_tree.specs.declared.declaration.FieldTree.{FieldTree}
 use Rattle.opl_model_tree.specs.declared.expression.AddTree.{AddTree}
-use Rattle.opl_grammar.specs.Input.{left, one, many, behind}
 use Rattle.opl_grammar.specs.Tables.{starts_type}
 use Rattle.opl_grammar.specs.Rules as g
 use Rattle.opl_model_parse.proofs.Dims.{dims_law, type_law, fields_law}

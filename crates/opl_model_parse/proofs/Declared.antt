@@ -162,7 +162,7 @@ abbrev data_to : ℕ × ((TypeTree) × ((NameTree) × ((Option DimsTree) × ((Un
 data_to c = record { at = c.0; kind = c.1.0; name = c.1.1.0; dims = c.1.1.1.0; initial = c.1.1.1.1.1.0 }
 
 data_is : (r : Rules) (i : Input) → gd.data_decl r i ≡ mapped data_to (placed (pair (g.type_tree r) (pair g.name (pair (gd.optional_dims r) (pair (sign signs.Equal) (pair (gd.initial r) (sign signs.Semicolon))))))) i
-unfolding gd.data_decl 
+unfolding gd.data_decl
 data_is r i = simp and_then_assoc
 
 pub data_law : {n : ℕ} {r s : Rules} → RulesLaw n r s → Law n (gd.data_decl r) (gd.data_decl s) data_shape
@@ -183,7 +183,7 @@ abbrev range_to : ℕ × ((Unit {0}) × ((NameTree) × ((AddTree) × ((AddTree) 
 range_to c = record { at = c.0; name = c.1.1.0; low = c.1.1.1.0; high = c.1.1.1.1.0 }
 
 range_is : (r : Rules) (i : Input) → gd.range_decl r i ≡ mapped range_to (placed (pair (word words.Range) (pair g.name (pair (g.add r) (pair (g.upper r) (sign signs.Semicolon)))))) i
-unfolding gd.range_decl 
+unfolding gd.range_decl
 range_is r i = simp and_then_assoc
 
 pub range_law : {n : ℕ} {r s : Rules} → RulesLaw n r s → Law n (gd.range_decl r) (gd.range_decl s) range_shape
@@ -246,14 +246,14 @@ enum_names_law {n} {r} {s} R = plain_law
     (either_law (is_sign signs.OpenBrace) (placed_law (pair_law (opened_law (sign_reads signs.OpenBrace) R.names) (sign_law signs.CloseBrace) (λ x k h. (tt, from_sign signs.CloseBrace (λ l. sees_sign signs.Comma l ≡ false) k h refl))))
     (placed_law (pair_law (flag_law (is_sign signs.Equal) (sign_reads signs.Equal) (λ k h. h)) (sign_law signs.Ellipsis) (λ x k h. from_sign signs.Ellipsis (λ l. sees_sign signs.Equal l ≡ false) k h refl)))
     (λ F k h. h) (λ F k h. by_side (λ a. from_sign signs.Equal (λ l. sees_sign signs.OpenBrace l ≡ false) k a refl) (λ a. from_sign signs.Ellipsis (λ l. sees_sign signs.OpenBrace l ≡ false) k a refl) h)) enum_names_to (record {
-  made = enum_names_made;
-  marks = enum_names_spelt;
-  view = λ x. tt;
-  tag = λ c. refl;
-  depth = enum_names_deep;
-  closes = λ k h. (tt, tt);
-  begins = λ F k h. h;
-}) (enum_names_reader r) (enum_names_reader s) (enum_names_is r) (enum_names_is s)
+      made = enum_names_made;
+      marks = enum_names_spelt;
+      view = λ x. tt;
+      tag = λ c. refl;
+      depth = enum_names_deep;
+      closes = λ k h. (tt, tt);
+      begins = λ F k h. h;
+    }) (enum_names_reader r) (enum_names_reader s) (enum_names_is r) (enum_names_is s)
 
 abbrev pub enum_shape : Shape EnumTree
 enum_shape = plain marks_enum depth_enum (Any) (First (is_word words.Enum))
@@ -262,7 +262,7 @@ abbrev enum_to : ℕ × ((Unit {0}) × ((NameTree) × ((EnumNamesTree) × (Unit 
 enum_to c = record { at = c.0; name = c.1.1.0; names = c.1.1.1.0 }
 
 enum_is : (r : Rules) (i : Input) → gd.enum_decl r i ≡ mapped enum_to (placed (pair (word words.Enum) (pair g.name (pair (enum_names_reader r) (sign signs.Semicolon))))) i
-unfolding gd.enum_decl 
+unfolding gd.enum_decl
 enum_is r i = simp and_then_assoc
 
 pub enum_law : {n : ℕ} {r s : Rules} → RulesLaw n r s → Law n (gd.enum_decl r) (gd.enum_decl s) enum_shape
@@ -283,7 +283,7 @@ abbrev struct_to : ℕ × ((Unit {0}) × ((NameTree) × (((Unit {0} × (FieldTre
 struct_to c = record { at = c.0; name = c.1.1.0; first = c.1.1.1.0.1.0; rest = c.1.1.1.0.1.1 }
 
 struct_is : (r : Rules) (i : Input) → gd.struct_decl r i ≡ mapped struct_to (placed (pair (word words.Struct) (pair g.name (pair (opened (sign_table signs.OpenBrace) r.fields) (pair (sign signs.CloseBrace) (sign signs.Semicolon)))))) i
-unfolding gd.struct_decl 
+unfolding gd.struct_decl
 struct_is r i = simp and_then_assoc
 
 pub struct_law : {n : ℕ} {r s : Rules} → RulesLaw n r s → Law n (gd.struct_decl r) (gd.struct_decl s) struct_shape
@@ -347,7 +347,7 @@ abbrev bounds_to : ℕ × ((Unit {0}) × ((AddTree) × (AddTree))) → BoundsTre
 bounds_to c = record { at = c.0; low = c.1.1.0; high = c.1.1.1 }
 
 bounds_is : (r : Rules) (i : Input) → gd.bounds r i ≡ mapped bounds_to (placed (pair (word words.In) (pair (g.add r) (g.upper r)))) i
-unfolding gd.bounds 
+unfolding gd.bounds
 bounds_is r i = simp and_then_assoc
 
 pub bounds_law : {n : ℕ} {r s : Rules} → RulesLaw n r s → Law n (gd.bounds r) (gd.bounds s) bounds_shape
@@ -375,7 +375,7 @@ abbrev variable_to : ℕ × ((Unit {0}) × ((VariableTypeTree) × ((NameTree) ×
 variable_to c = record { at = c.0; kind = c.1.1.0; name = c.1.1.1.0; dims = c.1.1.1.1.0; bounds = c.1.1.1.1.1.0 }
 
 variable_is : (r : Rules) (i : Input) → gd.variable_decl r i ≡ mapped variable_to (placed (pair (word words.Var) (pair (gd.variable_type r) (pair g.name (pair (gd.optional_dims r) (pair (maybe (is_word words.In) (gd.bounds r)) (sign signs.Semicolon))))))) i
-unfolding gd.variable_decl 
+unfolding gd.variable_decl
 variable_is r i = simp and_then_assoc
 
 pub variable_law : {n : ℕ} {r s : Rules} → RulesLaw n r s → Law n (gd.variable_decl r) (gd.variable_decl s) variable_shape
@@ -401,7 +401,7 @@ abbrev activity_to : ℕ × ((Unit {0}) × ((NameTree) × ((Option DimsTree) × 
 activity_to c = record { at = c.0; name = c.1.1.0; dims = c.1.1.1.0; shortest = c.1.1.1.1.0.1.0; longest = c.1.1.1.1.0.1.1 }
 
 activity_is : (r : Rules) (i : Input) → gd.activity_decl r i ≡ mapped activity_to (placed (pair (word words.Activity) (pair g.name (pair (gd.optional_dims r) (pair (opened (sign_table signs.OpenParenthesis) r.ends) (pair (sign signs.CloseParenthesis) (sign signs.Semicolon))))))) i
-unfolding gd.activity_decl 
+unfolding gd.activity_decl
 activity_is r i = simp and_then_assoc
 
 pub activity_law : {n : ℕ} {r s : Rules} → RulesLaw n r s → Law n (gd.activity_decl r) (gd.activity_decl s) activity_shape
@@ -422,7 +422,7 @@ abbrev unary_to : ℕ × ((Unit {0}) × ((NameTree) × ((Option DimsTree) × (Un
 unary_to c = record { at = c.0; name = c.1.1.0; dims = c.1.1.1.0 }
 
 unary_is : (r : Rules) (i : Input) → gd.unary_decl r i ≡ mapped unary_to (placed (pair (word words.UnaryResource) (pair g.name (pair (gd.optional_dims r) (sign signs.Semicolon))))) i
-unfolding gd.unary_decl 
+unfolding gd.unary_decl
 unary_is r i = simp and_then_assoc
 
 pub unary_law : {n : ℕ} {r s : Rules} → RulesLaw n r s → Law n (gd.unary_decl r) (gd.unary_decl s) unary_shape
@@ -443,7 +443,7 @@ abbrev discrete_to : ℕ × ((Unit {0}) × ((NameTree) × ((Option DimsTree) × 
 discrete_to c = record { at = c.0; name = c.1.1.0; dims = c.1.1.1.0; capacity = c.1.1.1.1.0.1 }
 
 discrete_is : (r : Rules) (i : Input) → gd.discrete_decl r i ≡ mapped discrete_to (placed (pair (word words.DiscreteResource) (pair g.name (pair (gd.optional_dims r) (pair (opened (sign_table signs.OpenParenthesis) r.add) (pair (sign signs.CloseParenthesis) (sign signs.Semicolon))))))) i
-unfolding gd.discrete_decl 
+unfolding gd.discrete_decl
 discrete_is r i = simp and_then_assoc
 
 pub discrete_law : {n : ℕ} {r s : Rules} → RulesLaw n r s → Law n (gd.discrete_decl r) (gd.discrete_decl s) discrete_shape
@@ -464,7 +464,7 @@ abbrev schedule_to : ℕ × ((ScheduleEnd) × ((Unit {0}) × ((AddTree) × (Unit
 schedule_to c = record { at = c.0; end = c.1.0; value = c.1.1.1.0 }
 
 schedule_is : (r : Rules) (i : Input) → gd.schedule_decl r i ≡ mapped schedule_to (placed (pair (one schedule_end_in) (pair (sign signs.Equal) (pair (g.add r) (sign signs.Semicolon))))) i
-unfolding gd.schedule_decl 
+unfolding gd.schedule_decl
 schedule_is r i = simp and_then_assoc
 
 pub schedule_law : {n : ℕ} {r s : Rules} → RulesLaw n r s → Law n (gd.schedule_decl r) (gd.schedule_decl s) schedule_shape
@@ -612,14 +612,14 @@ decl_law {n} {r} {s} R = plain_law (either_law starts_type (data_law R) (either_
     (λ F k h. h) (λ F k h. (by_side (λ a. from_word words.Struct (λ l. sees_word words.Enum l ≡ false) k a refl) (by_side (λ a. from_word words.Var (λ l. sees_word words.Enum l ≡ false) k a refl) (by_side (λ a. from_word words.Activity (λ l. sees_word words.Enum l ≡ false) k a refl) (by_side (λ a. from_word words.UnaryResource (λ l. sees_word words.Enum l ≡ false) k a refl) (by_side (λ a. from_word words.DiscreteResource (λ l. sees_word words.Enum l ≡ false) k a refl) (λ a. from_schedule_end (λ l. sees_word words.Enum l ≡ false) k a (λ a. schedule_not_Enum a))))))) h))
     (λ F k h. h) (λ F k h. (by_side (λ a. from_word words.Enum (λ l. sees_word words.Range l ≡ false) k a refl) (by_side (λ a. from_word words.Struct (λ l. sees_word words.Range l ≡ false) k a refl) (by_side (λ a. from_word words.Var (λ l. sees_word words.Range l ≡ false) k a refl) (by_side (λ a. from_word words.Activity (λ l. sees_word words.Range l ≡ false) k a refl) (by_side (λ a. from_word words.UnaryResource (λ l. sees_word words.Range l ≡ false) k a refl) (by_side (λ a. from_word words.DiscreteResource (λ l. sees_word words.Range l ≡ false) k a refl) (λ a. from_schedule_end (λ l. sees_word words.Range l ≡ false) k a (λ a. schedule_not_Range a)))))))) h))
     (λ F k h. h) (λ F k h. (by_side (λ a. from_word words.Range (λ l. type_begins l ≡ false) k a refl) (by_side (λ a. from_word words.Enum (λ l. type_begins l ≡ false) k a refl) (by_side (λ a. from_word words.Struct (λ l. type_begins l ≡ false) k a refl) (by_side (λ a. from_word words.Var (λ l. type_begins l ≡ false) k a refl) (by_side (λ a. from_word words.Activity (λ l. type_begins l ≡ false) k a refl) (by_side (λ a. from_word words.UnaryResource (λ l. type_begins l ≡ false) k a refl) (by_side (λ a. from_word words.DiscreteResource (λ l. type_begins l ≡ false) k a refl) (λ a. from_schedule_end (λ l. type_begins l ≡ false) k a (λ a. schedule_no_type a))))))))) h)) decl_to (record {
-  made = decl_made;
-  marks = decl_spelt;
-  view = λ x. tt;
-  tag = λ c. refl;
-  depth = decl_deep;
-  closes = λ k h. (tt, (tt, (tt, (tt, (tt, (tt, (tt, (tt, tt))))))));
-  begins = λ F k h. (by_side (λ a. type_starts_decl (look k) a) (by_side (λ a. from_word words.Range (λ l. decl_begins l ≡ true) k a refl) (by_side (λ a. from_word words.Enum (λ l. decl_begins l ≡ true) k a refl) (by_side (λ a. from_word words.Struct (λ l. decl_begins l ≡ true) k a refl) (by_side (λ a. from_word words.Var (λ l. decl_begins l ≡ true) k a refl) (by_side (λ a. from_word words.Activity (λ l. decl_begins l ≡ true) k a refl) (by_side (λ a. from_word words.UnaryResource (λ l. decl_begins l ≡ true) k a refl) (by_side (λ a. from_word words.DiscreteResource (λ l. decl_begins l ≡ true) k a refl) (λ a. from_schedule_end (λ l. decl_begins l ≡ true) k a (λ a. schedule_starts a)))))))))) h;
-}) (gd.decl r) (gd.decl s) (decl_is r) (decl_is s)
+      made = decl_made;
+      marks = decl_spelt;
+      view = λ x. tt;
+      tag = λ c. refl;
+      depth = decl_deep;
+      closes = λ k h. (tt, (tt, (tt, (tt, (tt, (tt, (tt, (tt, tt))))))));
+      begins = λ F k h. (by_side (λ a. type_starts_decl (look k) a) (by_side (λ a. from_word words.Range (λ l. decl_begins l ≡ true) k a refl) (by_side (λ a. from_word words.Enum (λ l. decl_begins l ≡ true) k a refl) (by_side (λ a. from_word words.Struct (λ l. decl_begins l ≡ true) k a refl) (by_side (λ a. from_word words.Var (λ l. decl_begins l ≡ true) k a refl) (by_side (λ a. from_word words.Activity (λ l. decl_begins l ≡ true) k a refl) (by_side (λ a. from_word words.UnaryResource (λ l. decl_begins l ≡ true) k a refl) (by_side (λ a. from_word words.DiscreteResource (λ l. decl_begins l ≡ true) k a refl) (λ a. from_schedule_end (λ l. decl_begins l ≡ true) k a (λ a. schedule_starts a)))))))))) h;
+    }) (gd.decl r) (gd.decl s) (decl_is r) (decl_is s)
 
 pub decl_written : (t : DeclTree) → Written (marks_decl t)
 decl_written t = subst (λ x. Written (marks_decl x)) (decl_made t).is (subst Written (sym (decl_spelt (decl_made t).of)) (at_parts (decl_made t).of)) where

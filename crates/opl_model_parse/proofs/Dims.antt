@@ -206,14 +206,14 @@ dim_deep at (inr c) = let e = depth_dim-is (dim_at at (inr c)) in omega arith
 pub dim_law : {n : ℕ} {r s : Rules} → RulesLaw n r s → Law n (g.dim r) (g.dim s) dim_shape
 dim_law {n} {r} {s} R = plain_law
     (placed_law (looked_law (is_word words.In) (set_law R) (pair_law (word_law words.In) (set_law R) (λ x k h. tt)) name_narrows (λ F k h. h) (λ y k h. word_ends words.In 4 (omega arith) k h) (λ F k h. h))) dim_to (record {
-  made = dim_made;
-  marks = λ c. dim_spelt c.0 c.1;
-  view = λ x. tt;
-  tag = λ c. refl;
-  depth = λ c. dim_deep c.0 c.1;
-  closes = λ k h. (omega arith, (omega arith, no_word words.In 5 (λ e. omega (arith, e)) k h));
-  begins = λ F k h. h;
-}) (g.dim r) (g.dim s) (dim_is r) (dim_is s)
+      made = dim_made;
+      marks = λ c. dim_spelt c.0 c.1;
+      view = λ x. tt;
+      tag = λ c. refl;
+      depth = λ c. dim_deep c.0 c.1;
+      closes = λ k h. (omega arith, (omega arith, no_word words.In 5 (λ e. omega (arith, e)) k h));
+      begins = λ F k h. h;
+    }) (g.dim r) (g.dim s) (dim_is r) (dim_is s)
 
 pub comma_dims : {X : Type 0} (k : Option Kind) → (is_sign signs.Comma k ≡ true) ⊎ (Ends 5 k × X) → Ends 5 k
 comma_dims k (inl h) = sign_ends signs.Comma 5 (omega arith) k h
@@ -266,14 +266,14 @@ type_law {n} {r} {s} R = plain_law
     (either_law (is_word words.Int) (placed_law (word_law words.Int)) (either_law (is_sign signs.OpenBrace) (placed_law (pair_law (opened_law (sign_reads signs.OpenBrace) R.type_tree) (sign_law signs.CloseBrace) (λ x k h. tt))) name_law
     (λ F k h. h) (λ F k h. from_name (λ l. sees_sign signs.OpenBrace l ≡ false) k h refl)) (λ F k h. h)
     (λ F k h. by_side (λ a. from_sign signs.OpenBrace (λ l. sees_word words.Int l ≡ false) k a refl) (λ a. from_name (λ l. sees_word words.Int l ≡ false) k a refl) h)) type_to (record {
-  made = type_made;
-  marks = type_spelt;
-  view = λ x. tt;
-  tag = λ c. refl;
-  depth = type_deep;
-  closes = λ k h. (tt, (tt, tt));
-  begins = λ F k h. by_side (λ a. from_word words.Int (λ l. type_begins l ≡ true) k a refl) (λ a. by_side (λ b. from_sign signs.OpenBrace (λ l. type_begins l ≡ true) k b refl) (λ b. from_name (λ l. type_begins l ≡ true) k b refl) a) h;
-}) (g.type_tree r) (g.type_tree s) (type_is r) (type_is s)
+      made = type_made;
+      marks = type_spelt;
+      view = λ x. tt;
+      tag = λ c. refl;
+      depth = type_deep;
+      closes = λ k h. (tt, (tt, tt));
+      begins = λ F k h. by_side (λ a. from_word words.Int (λ l. type_begins l ≡ true) k a refl) (λ a. by_side (λ b. from_sign signs.OpenBrace (λ l. type_begins l ≡ true) k b refl) (λ b. from_name (λ l. type_begins l ≡ true) k b refl) a) h;
+    }) (g.type_tree r) (g.type_tree s) (type_is r) (type_is s)
 
 pub type_written : (t : TypeTree) → Written (marks_type t)
 type_written t = subst (λ x. Written (marks_type x)) (type_made t).is (subst Written (sym (type_spelt (type_made t).of)) (at_parts (type_made t).of)) where

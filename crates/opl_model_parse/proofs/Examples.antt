@@ -20,10 +20,9 @@ use Rattle.opl_grammar.specs.declared.parts.Operand.TheVariants as operands
 use Rattle.opl_grammar.specs.declared.parts.Braced.TheVariants as braces
 use Rattle.opl_model_tree.specs.Marks.{Mark, marks_name, marks_expr, marks_imp, marks_neg, marks_add, marks_mul, marks_post, marks_prim, marks_set, marks_params, marks_group, marks_dim, marks_field, marks_ordered_params}
 use Rattle.opl_model_tree.specs.Keywords.{keyword_text}
-use Rattle.opl_model_tree.specs.Reading.{kinds}
 use Rattle.opl_model_tree.specs.Marks as mk
 use Rattle.opl_model_tree.proofs.Marks.{marks_name-is, marks_pattern-Single, marks_neg-Compare, marks_prim-Number, marks_sign-Postfix, marks_group-of, marks_params-of, marks_post-of, marks_set-of, marks_type-Int, marks_dim-is, marks_field-is, marks_ordered_params-is}
-use Rattle.opl_grammar.specs.Input.{Input, kind, one, sign, word, is_sign, is_word, is_name, behind}
+use Rattle.opl_grammar.specs.Input.{Input, kind, is_sign, is_word, is_name}
 use Rattle.opl_grammar.specs.Tables.{type_begins, starts_type}
 use Rattle.opl_model_parse.proofs.Dims.{comma_dims}
 use Rattle.opl_model_parse.proofs.Led.{each_shape}

@@ -1,5 +1,5 @@
 -- How loosely the phrases are bound that a token goes on with. A phrase stops before what binds more loosely.
-use Rattle.std.proofs.Common.{◌≡◌, ℕ, ◌<◌, Bool, true, false, Option, Some, None, refl, sym, ap, subst, arith}
+use Rattle.std.proofs.Common.{◌≡◌, ℕ, ◌<◌, Bool, true, false, Option, refl, subst, arith}
 use Rattle.std.specs.Prelude.{is_some, ◌||◌}
 use Rattle.opl_token.specs.declared.sign.Sign.{Sign}
 use Rattle.opl_token.specs.declared.sign.Sign.TheVariants as signs
@@ -8,7 +8,7 @@ use Rattle.opl_model_tree.specs.declared.keyword.Keyword.{Keyword}
 use Rattle.opl_model_tree.specs.declared.keyword.Keyword.TheVariants as words
 use Rattle.opl_grammar.specs.declared.look.Look.{Look}
 use Rattle.opl_grammar.specs.declared.look.Look.TheVariants as looks
-use Rattle.opl_grammar.specs.Input.{look, sees_sign, sees_word, is_sign, is_word, sign_seen, word_seen}
+use Rattle.opl_grammar.specs.Input.{look, sees_sign, is_sign, is_word, sign_seen}
 use Rattle.opl_model_parse.proofs.Tokens.{sees_sign_true, sees_word_true, from_sign, from_word}
 use Rattle.opl_grammar.specs.Tables.{through, relation_of, add_op_of, mul_op_seen, mul_sign_of, mul_word_of, is_relation, is_add_op, is_mul_op, starts_suffix}
 

@@ -1,11 +1,11 @@
 -- Phrases with their place, phrases by the next token, and phrases made into another value.
-use Rattle.std.proofs.Common.{◌≡◌, ℕ, max, ◌≤◌, Bool, true, false, cond, ◌⊎◌, inl, inr, List, [], ◌∷◌, ◌++◌, Option, Some, None, Ok, Err, refl, sym, ap, ◌∙◌, subst, arith}
+use Rattle.std.proofs.Common.{◌≡◌, ℕ, ◌≤◌, Bool, true, false, cond, ◌⊎◌, inl, inr, List, [], ◌∷◌, Option, Some, None, Ok, Err, refl, sym, ap, ◌∙◌, subst, arith}
 use Rattle.opl_model_tree.specs.Marks.{Mark, place}
 use Rattle.opl_token.specs.declared.token.Kind.{Kind}
-use Rattle.opl_grammar.specs.Input.{Input, Stop, syntax, too_deep, Outcome, Parser, kind, place as place_at, and_then, ◌>>=◌, pure, here}
+use Rattle.opl_grammar.specs.Input.{Input, Stop, Outcome, Parser, kind, place as place_at, ◌>>=◌, pure, here}
 use Rattle.opl_model_parse.proofs.Outcomes.{ok_one, ok_not_err, bind_ok, Broke, bind_err, and_then_pure}
-use Rattle.opl_model_parse.proofs.Takes.{Takes, Begins, takes_begins, same_front, stop_front}
-use Rattle.opl_model_parse.proofs.Phrases.{Shape, Accepts, Before, Sound, Sample, Samples, Good, Viable, Faults, Fails, AllFail, nests_too_deep, More, Law, Any, more_bind, more_test}
+use Rattle.opl_model_parse.proofs.Takes.{Takes, Begins, stop_front}
+use Rattle.opl_model_parse.proofs.Phrases.{Shape, Accepts, Sound, Good, Fails, AllFail, nests_too_deep, More, Law, Any, more_bind, more_test}
 
 -- ---- a phrase with its place
 

@@ -1,12 +1,11 @@
 -- A phrase of one of two kinds: the one is all, behind the other more may stand.
-use Rattle.std.proofs.Common.{◌≡◌, ℕ, max, ◌≤◌, Bool, true, false, ◌⊎◌, inl, inr, List, [], ◌∷◌, ◌++◌, Option, Some, None, Ok, Err, refl, sym, ap, ◌∙◌, subst, arith, append-nil}
+use Rattle.std.proofs.Common.{◌≡◌, ℕ, max, ◌≤◌, Bool, true, false, ◌⊎◌, inl, inr, List, [], ◌++◌, Option, Some, None, Ok, Err, refl, sym, ap, ◌∙◌, subst, append-nil}
 use Rattle.opl_token.specs.declared.token.Kind.{Kind}
 use Rattle.opl_model_tree.specs.Marks.{Mark}
-use Rattle.opl_grammar.specs.Input.{Input, Stop, Outcome, Parser, kind, and_then, ◌>>=◌, pure}
+use Rattle.opl_grammar.specs.Input.{Input, Stop, Parser, kind, ◌>>=◌, pure}
 use Rattle.opl_model_parse.proofs.Outcomes.{ok_one, ok_not_err, bind_ok, Broke, bind_err}
 use Rattle.opl_model_parse.proofs.Takes.{Takes, takes_split, takes_join, Begins, takes_begins, begins_split, begins_join, same_front, position_join, stop_front}
-use Rattle.opl_model_parse.proofs.Phrases.{Shape, Accepts, Sound, Sample, Good, Viable, Fails, AllFail, More, Law, more_bind, nests_too_deep, max_le, max_left, max_right, pair_eq}
-use Rattle.opl_model_parse.proofs.Forms.{by_side}
+use Rattle.opl_model_parse.proofs.Phrases.{Shape, Accepts, Sound, Good, Viable, Fails, AllFail, More, Law, more_bind, max_le, max_left, max_right, pair_eq}
 
 abbrev pub after_side : {A B D : Type 0} → Parser D → A ⊎ B → Parser (A ⊎ (B × D))
 after_side q (inl a) = pure (inl a)

@@ -3,9 +3,8 @@ use Rattle.std.proofs.Common.{◌≡◌, ℕ, Bool, true, false, cond, ◌⊎◌
 use Rattle.opl_token.specs.declared.sign.Sign.TheVariants as signs
 use Rattle.opl_model_tree.specs.Marks.{Mark}
 use Rattle.opl_model_tree.specs.Marks as mk
-use Rattle.opl_grammar.specs.Input.{Input, Stop, syntax, Outcome, Parser, kind, left, refuse, is_sign}
+use Rattle.opl_grammar.specs.Input.{Input, Stop, syntax, Outcome, Parser, kind, refuse, is_sign}
 use Rattle.opl_grammar.specs.Input.{place as place_at}
-use Rattle.opl_grammar.specs.Just.{without}
 use Rattle.opl_model_parse.proofs.Outcomes.{err_one, ok_not_err}
 use Rattle.opl_model_parse.proofs.Phrases.{Shape, Accepts, Sound, Sample, Good, Viable, Fails, AllFail, Law, more_test, Any}
 use Rattle.opl_model_parse.proofs.Takes.{IsUnbraced, Takes, Begins, takes_begins, Written, writes_kind, stop_front}

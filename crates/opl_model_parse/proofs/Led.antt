@@ -1,14 +1,14 @@
 -- A phrase behind a token of which nothing need be kept, and phrases behind a sign each.
-use Rattle.std.proofs.Common.{◌≡◌, ℕ, max, ◌≤◌, Bool, true, false, ◌⊎◌, inl, inr, List, [], ◌∷◌, ◌++◌, map, Option, Some, None, Ok, Err, refl, sym, ap, ◌∙◌, arith}
+use Rattle.std.proofs.Common.{◌≡◌, ℕ, true, false, ◌⊎◌, List, [], ◌∷◌, ◌++◌, map, Option, Some, None, Ok, Err, refl, ap, arith}
 use Rattle.opl_token.specs.declared.sign.Sign.{Sign}
 use Rattle.opl_token.specs.declared.token.Kind.{Kind}
 use Rattle.opl_model_tree.specs.Marks.{Part, Mark, token, sign as sign_part, joined, behind as behind_marks}
 use Rattle.opl_model_tree.specs.Depth.{greatest}
-use Rattle.opl_grammar.specs.Input.{Input, Outcome, Parser, kind, next, and_then, ◌>>=◌, ◌>>◌, pure, one, take_found, sign, is_sign, many, after_each}
-use Rattle.opl_model_parse.proofs.Phrases.{Shape, Law, Reads, one_shape, one_law, pair, pair_shape, pair_law}
-use Rattle.opl_model_parse.proofs.Forms.{mapped, Made, Tree, rule_law, law_as}
-use Rattle.opl_model_parse.proofs.Lists.{ListPart, many_shape, many_law}
-use Rattle.opl_model_parse.proofs.Tokens.{sign_reads, sign_table, sign_first}
+use Rattle.opl_grammar.specs.Input.{Input, Outcome, Parser, kind, next, and_then, ◌>>=◌, ◌>>◌, pure, one, take_found, is_sign, after_each}
+use Rattle.opl_model_parse.proofs.Phrases.{Shape, Law, Reads, one_law, pair, pair_law}
+use Rattle.opl_model_parse.proofs.Forms.{mapped, rule_law, law_as}
+use Rattle.opl_model_parse.proofs.Lists.{many_law}
+use Rattle.opl_model_parse.proofs.Tokens.{sign_reads}
 
 abbrev pub led_shape : {A : Type 0} → Part → (Option Kind → Type 0) → Shape A → Shape A
 led_shape part first t = record {

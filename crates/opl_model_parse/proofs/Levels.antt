@@ -1,12 +1,12 @@
 -- What stands behind an opening token is one level deeper.
-use Rattle.std.proofs.Common.{◌≡◌, ℕ, zero, suc, max, ◌≤◌, Bool, true, false, ◌⊎◌, inl, inr, List, [], ◌∷◌, ◌++◌, Option, Some, None, Ok, Err, refl, sym, ap, ◌∙◌, subst, arith}
-use Rattle.opl_model_tree.specs.Marks.{Part, Mark, place, token}
-use Rattle.opl_model_tree.specs.Spelling.{kind_of, IsProper}
+use Rattle.std.proofs.Common.{◌≡◌, ℕ, zero, suc, ◌≤◌, true, false, ◌⊎◌, inl, inr, [], ◌∷◌, Option, Some, None, Ok, Err, refl, sym, ap, ◌∙◌, subst, arith}
+use Rattle.opl_model_tree.specs.Marks.{Part, token}
+use Rattle.opl_model_tree.specs.Spelling.{IsProper}
 use Rattle.opl_token.specs.declared.token.Kind.{Kind}
-use Rattle.opl_grammar.specs.Input.{Input, Stop, syntax, too_deep, Outcome, Parser, kind, next, place as place_at, and_then, ◌>>=◌, pure, here, one, take_found}
+use Rattle.opl_grammar.specs.Input.{Input, Stop, syntax, too_deep, Parser, kind, next, place as place_at, and_then, ◌>>=◌, pure, here, one, take_found}
 use Rattle.opl_model_parse.proofs.Outcomes.{err_one, ok_not_err, and_then_pure}
-use Rattle.opl_model_parse.proofs.Takes.{Begins, is_deep, Position, before}
-use Rattle.opl_model_parse.proofs.Phrases.{Shape, Accepts, Sound, Sample, Samples, Good, Viable, Faults, Fails, AllFail, nests_too_deep, More, Law, Reads, one_shape, one_law, pair, pair_shape, pair_law}
+use Rattle.opl_model_parse.proofs.Takes.{before}
+use Rattle.opl_model_parse.proofs.Phrases.{Shape, Accepts, Sample, Samples, Good, Faults, Fails, nests_too_deep, Law, Reads, one_shape, one_law, pair, pair_shape, pair_law}
 use Rattle.opl_model_parse.proofs.Forms.{more_as, Tree, rule_law}
 
 -- ---- the same phrase, one level deeper

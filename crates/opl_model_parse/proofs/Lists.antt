@@ -3,11 +3,11 @@ use Rattle.std.proofs.Common.{◌≡◌, ℕ, zero, suc, max, ◌<◌, ◌≤◌
 use Rattle.opl_token.specs.declared.token.Kind.{Kind}
 use Rattle.opl_model_tree.specs.Marks.{joined}
 use Rattle.opl_model_tree.specs.Depth.{greatest}
-use Rattle.opl_grammar.specs.Input.{Input, Stop, syntax, too_deep, Outcome, Parser, kind, left, and_then, ◌>>=◌, pure, refuse, many, many_from}
+use Rattle.opl_grammar.specs.Input.{Input, Stop, Outcome, Parser, kind, left, and_then, ◌>>=◌, pure, refuse, many, many_from}
 use Rattle.opl_model_parse.proofs.Outcomes.{and_then_pure}
 use Rattle.opl_model_parse.proofs.Takes.{Takes, takes_split, Begins, takes_begins, begins_split, begins_less, Written}
-use Rattle.opl_model_parse.proofs.Phrases.{Shape, Accepts, Sound, Good, Fails, AllFail, More, Law, Any, nests_too_deep, more_bind, more_test, pair, pair_shape, pair_good, pair_fails_at, pair_more, max_le, max_left, max_right}
-use Rattle.opl_model_parse.proofs.Forms.{maybe, maybe_shape, maybe_fits, maybe_good, maybe_fails_at, maybe_more, mapped, Made, Rule, rule_good, rule_fails_at, Passes}
+use Rattle.opl_model_parse.proofs.Phrases.{Shape, Accepts, Sound, Good, Fails, AllFail, More, Law, Any, more_bind, more_test, pair, pair_shape, pair_good, pair_fails_at, max_left}
+use Rattle.opl_model_parse.proofs.Forms.{maybe, maybe_shape, maybe_fits, maybe_good, maybe_fails_at, mapped, Made, Rule, rule_good, rule_fails_at, Passes}
 
 some_one : {X : Type 0} {x y : X} → ◌≡◌ {A = Option X} (Some x) (Some y) → x ≡ y
 some_one h = cc

@@ -3,7 +3,7 @@ use Rattle.std.proofs.Common.{◌≡◌, ℕ, max, ◌≤◌, Bool, true, false,
 use Rattle.std.specs.Prelude.{is_some}
 use Rattle.opl_token.specs.declared.token.Kind.{Kind}
 use Rattle.opl_model_tree.specs.Marks.{Mark}
-use Rattle.opl_grammar.specs.Input.{Input, Stop, syntax, Outcome, Parser, kind, next, left, ◌>>=◌, pure, refuse}
+use Rattle.opl_grammar.specs.Input.{Input, Stop, syntax, Outcome, Parser, kind, ◌>>=◌, pure, refuse}
 use Rattle.opl_grammar.specs.Input.{place as place_at}
 use Rattle.opl_model_parse.proofs.Forms.{Passes, by_side}
 use Rattle.opl_model_parse.proofs.Levels.{deeper}

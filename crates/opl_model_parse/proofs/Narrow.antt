@@ -26,7 +26,7 @@ use Rattle.opl_model_tree.specs.Depth.{greatest, nested_if_any, depth_expr, dept
 use Rattle.opl_model_tree.specs.Marks as mk
 use Rattle.opl_model_tree.proofs.Marks.{marks_compare-Single, marks_mul-Product, marks_neg-Compare, marks_sign-Postfix, marks_add-of, marks_add-is, marks_and-of, marks_and-is, marks_expr-of, marks_expr-is, marks_imp-of, marks_imp-is, marks_or-of, marks_or-is}
 use Rattle.opl_model_tree.proofs.Depth.{depth_compare-Single, depth_mul-Product, depth_neg-Compare, depth_sign-Postfix, depth_add-is, depth_and-is, depth_expr-is, depth_imp-is, depth_or-is}
-use Rattle.opl_grammar.specs.Input.{Input, sign, behind}
+use Rattle.opl_grammar.specs.Input.{Input}
 use Rattle.opl_grammar.specs.Input.{place as place_at}
 use Rattle.opl_grammar.specs.Just.{alone, without, OneCompare, OneMul, OneNeg, OneSign, post_at_sign, post_of_sign, post_at_mul, post_of_mul, post_of_add, post_at_compare, post_of_compare, post_at_neg, post_of_neg, post_of_and, post_of_or, post_of_imp, post_of}
 use Rattle.opl_model_parse.proofs.Looked.{Narrows}

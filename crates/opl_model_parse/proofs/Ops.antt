@@ -1,10 +1,9 @@
 -- The operators that a token may be.
-use Rattle.std.proofs.Common.{◌≡◌, Bool, true, false, Option, Some, None, refl, sym, ap, ◌∙◌}
+use Rattle.std.proofs.Common.{◌≡◌, Bool, true, false, Option, Some, refl, ap, ◌∙◌}
 use Rattle.std.specs.Prelude.{is_some}
 use Rattle.opl_token.specs.declared.sign.Sign.{Sign}
 use Rattle.opl_token.specs.declared.sign.Sign.TheVariants as signs
 use Rattle.opl_token.specs.declared.token.Kind.{Kind}
-use Rattle.opl_token.specs.declared.token.Kind.TheVariants as kinds
 use Rattle.opl_model_tree.specs.declared.keyword.Keyword.{Keyword}
 use Rattle.opl_model_tree.specs.declared.keyword.Keyword.TheVariants as words
 use Rattle.opl_model_tree.specs.declared.expression.MulOp.{MulOp}
@@ -31,7 +30,6 @@ use Rattle.opl_model_tree.specs.declared.search.LabelOp.{LabelOp}
 use Rattle.opl_model_tree.specs.declared.search.LabelOp.TheVariants as label_ops
 use Rattle.opl_model_tree.specs.Marks.{Part, sign as sign_part, word as word_part, mul_part, direction_word, relation_sign, add_sign, separator_sign, aggregate_word, call_word, question_word, schedule_word, optimum_word, branch_word, label_word}
 use Rattle.opl_model_tree.specs.Spelling.{kind_of, IsProper}
-use Rattle.opl_model_tree.specs.Keywords.{keyword_text}
 use Rattle.opl_grammar.specs.declared.look.Look.{Look}
 use Rattle.opl_grammar.specs.declared.look.Look.TheVariants as looks
 use Rattle.opl_grammar.specs.Input.{look}

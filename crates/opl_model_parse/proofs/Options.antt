@@ -6,7 +6,7 @@ use Rattle.opl_token.specs.declared.token.Kind.{Kind}
 use Rattle.opl_model_tree.specs.Marks.{Part}
 use Rattle.opl_model_tree.specs.Depth.{if_any}
 use Rattle.opl_model_tree.specs.Marks as mk
-use Rattle.opl_grammar.specs.Input.{Input, Outcome, Parser, kind, next, and_then, ◌>>=◌, pure, one}
+use Rattle.opl_grammar.specs.Input.{Input, Outcome, Parser, kind, and_then, ◌>>=◌, pure}
 use Rattle.opl_model_parse.proofs.Forms.{maybe, maybe_marks, maybe_depth, maybe_shape, Passes, maybe_law, either, either_shape, Misses, either_law, renamed_law}
 use Rattle.opl_model_parse.proofs.Led.{led_shape}
 use Rattle.opl_model_parse.proofs.Outcomes.{steps}

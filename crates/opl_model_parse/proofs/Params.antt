@@ -125,14 +125,14 @@ pub pattern_law : {n : ℕ} {r s : Rules} → RulesLaw n r s → Law n (g.patter
 pattern_law {n} {r} {s} R = plain_law
     (either_law (is_sign signs.Less) (placed_law (pair_law (opened_law (sign_reads signs.Less) R.names) (sign_law signs.Greater) (λ x k h. (tt, from_sign signs.Greater (λ l. sees_sign signs.Comma l ≡ false) k h refl)))) name_law
     (λ F k h. h) (λ F k h. from_name (λ l. sees_sign signs.Less l ≡ false) k h refl)) pattern_to (record {
-  made = pattern_made;
-  marks = pattern_spelt;
-  view = λ x. tt;
-  tag = λ c. refl;
-  depth = pattern_deep;
-  closes = λ k h. (tt, tt);
-  begins = λ F k h. by_side (λ a. or_true_left (is_sign signs.Less k) (is_name k) a) (λ a. or_true_right (is_sign signs.Less k) (is_name k) a) h;
-}) (g.pattern r) (g.pattern s) (pattern_is r) (pattern_is s)
+      made = pattern_made;
+      marks = pattern_spelt;
+      view = λ x. tt;
+      tag = λ c. refl;
+      depth = pattern_deep;
+      closes = λ k h. (tt, tt);
+      begins = λ F k h. by_side (λ a. or_true_left (is_sign signs.Less k) (is_name k) a) (λ a. or_true_right (is_sign signs.Less k) (is_name k) a) h;
+    }) (g.pattern r) (g.pattern s) (pattern_is r) (pattern_is s)
 
 -- ---- groups
 
@@ -154,14 +154,14 @@ pub group_law : {n : ℕ} {r s : Rules} → RulesLaw n r s → Law n (g.group r)
 group_law {n} {r} {s} R = plain_law
     (placed_law (pair_law (flag_law (is_word words.Ordered) (word_reads words.Ordered) (λ k h. h)) (pair_law (pattern_law R) (pair_law (each_law signs.Comma (pattern_law R) (λ k h. tt)) (pair_law (word_law words.In) (set_law R) (λ x k h. tt))
     (λ x k h. (tt, from_word words.In (λ l. sees_sign signs.Comma l ≡ false) k h refl))) (λ x k h. tt)) (λ x k h. pattern_not_ordered (is_sign signs.Less k) (is_name k) k refl refl h))) group_to (record {
-  made = λ t. record { of = ((out-GroupTree t).at, ((out-GroupTree t).is_ordered, ((out-GroupTree t).first, ((out-GroupTree t).rest, (tt, (out-GroupTree t).set))))); is = roll-out-GroupTree t };
-  marks = λ c. marks_group-of c.0 c.1.0 c.1.1.0 c.1.1.1.0 c.1.1.1.1.1;
-  view = λ x. tt;
-  tag = λ c. refl;
-  depth = λ c. let e = depth_group-of c.0 c.1.0 c.1.1.0 c.1.1.1.0 c.1.1.1.1.1 in omega arith;
-  closes = λ k h. h;
-  begins = λ F k h. by_side (λ a. or_true_left (is_word words.Ordered k) (starts_pattern k) a) (λ a. or_true_right (is_word words.Ordered k) (starts_pattern k) a) h;
-}) (g.group r) (g.group s) (group_is r) (group_is s)
+      made = λ t. record { of = ((out-GroupTree t).at, ((out-GroupTree t).is_ordered, ((out-GroupTree t).first, ((out-GroupTree t).rest, (tt, (out-GroupTree t).set))))); is = roll-out-GroupTree t };
+      marks = λ c. marks_group-of c.0 c.1.0 c.1.1.0 c.1.1.1.0 c.1.1.1.1.1;
+      view = λ x. tt;
+      tag = λ c. refl;
+      depth = λ c. let e = depth_group-of c.0 c.1.0 c.1.1.0 c.1.1.1.0 c.1.1.1.1.1 in omega arith;
+      closes = λ k h. h;
+      begins = λ F k h. by_side (λ a. or_true_left (is_word words.Ordered k) (starts_pattern k) a) (λ a. or_true_right (is_word words.Ordered k) (starts_pattern k) a) h;
+    }) (g.group r) (g.group s) (group_is r) (group_is s)
 
 separator_loose : (a : GroupSeparator) → 4 < sign_binds (separator_sign a)
 separator_loose separators.Comma = omega arith
@@ -235,14 +235,14 @@ pub params_law : {n : ℕ} {r s : Rules} → RulesLaw n r s → Law n (g.params 
 params_law {n} {r} {s} R = plain_law
     (placed_law (pair_law (group_law R) (pair_law (many_law is_separator (group_step_law R) (record { passes = λ F k h. h; meets = separator_ends; written = group_step_written }))
     (stricter_law NoGroup (maybe_law (is_sign signs.Colon) (condition_law R) (λ F k h. h))) (λ x k h. steps_meet k h)) (λ x k h. group_meets k h))) params_to (record {
-  made = λ t. record { of = ((out-ParamsTree t).at, ((out-ParamsTree t).first, ((out-ParamsTree t).rest, (out-ParamsTree t).condition))); is = roll-out-ParamsTree t };
-  marks = λ c. marks_params-of c.0 c.1.0 c.1.1.0 c.1.1.1 ∙ ap (λ ms. mk.place c.0 ∷ (marks_group c.1.0 ++ (mk.joined (map marks_group_step c.1.1.0) ++ ms))) (after_maybe (mk.sign signs.Colon) (sign_first signs.Colon) expr_shape c.1.1.1);
-  view = λ x. tt;
-  tag = λ c. refl;
-  depth = λ c. depth_params-of c.0 c.1.0 c.1.1.0 c.1.1.1 ∙ ap (λ d. max (depth_group c.1.0) (max (greatest (map depth_group_step c.1.1.0)) d)) (if_any_maybe condition_shape c.1.1.1);
-  closes = λ k h. let e = h.0 in ((h.0, h.1.1), (omega arith, h.1.0));
-  begins = λ F k h. h;
-}) (g.params r) (g.params s) (params_is r) (params_is s)
+      made = λ t. record { of = ((out-ParamsTree t).at, ((out-ParamsTree t).first, ((out-ParamsTree t).rest, (out-ParamsTree t).condition))); is = roll-out-ParamsTree t };
+      marks = λ c. marks_params-of c.0 c.1.0 c.1.1.0 c.1.1.1 ∙ ap (λ ms. mk.place c.0 ∷ (marks_group c.1.0 ++ (mk.joined (map marks_group_step c.1.1.0) ++ ms))) (after_maybe (mk.sign signs.Colon) (sign_first signs.Colon) expr_shape c.1.1.1);
+      view = λ x. tt;
+      tag = λ c. refl;
+      depth = λ c. depth_params-of c.0 c.1.0 c.1.1.0 c.1.1.1 ∙ ap (λ d. max (depth_group c.1.0) (max (greatest (map depth_group_step c.1.1.0)) d)) (if_any_maybe condition_shape c.1.1.1);
+      closes = λ k h. let e = h.0 in ((h.0, h.1.1), (omega arith, h.1.0));
+      begins = λ F k h. h;
+    }) (g.params r) (g.params s) (params_is r) (params_is s)
 
 chosen_is : (r : Rules) (i : Input) → g.chosen r i ≡ mapped (λ (c : (Unit {0} × ParamsTree) × Unit {0}). c.0.1) (pair (opened (sign_table signs.OpenParenthesis) r.params) (sign signs.CloseParenthesis)) i
 unfolding g.chosen
@@ -396,14 +396,14 @@ keyed_deep (Some c) = refl
 pub keyed_law : {n : ℕ} {r s : Rules} → RulesLaw n r s → Law n (g.keyed r) (g.keyed s) keyed_shape
 keyed_law {n} {r} {s} R = plain_law
     (maybe_law starts_add (pair_law (keyed_part_law R) (each_law signs.Comma (keyed_part_law R) (sign_ends signs.Comma 3 (omega arith))) (λ x k h. comma_meets k h)) (λ F k h. h)) all_of (record {
-  made = all_made;
-  marks = keyed_spelt;
-  view = λ x. tt;
-  tag = λ c. refl;
-  depth = keyed_deep;
-  closes = λ k h. h;
-  begins = λ F k h. h;
-}) (g.keyed r) (g.keyed s) (keyed_is r) (keyed_is s)
+      made = all_made;
+      marks = keyed_spelt;
+      view = λ x. tt;
+      tag = λ c. refl;
+      depth = keyed_deep;
+      closes = λ k h. h;
+      begins = λ F k h. h;
+    }) (g.keyed r) (g.keyed s) (keyed_is r) (keyed_is s)
 
 -- ---- what stands in the braces of a set
 
@@ -465,14 +465,14 @@ braced_deep (Some c) = by_tail c.0 c.1 where
 pub braced_law : {n : ℕ} {r s : Rules} → RulesLaw n r s → Law n (g.braced r) (g.braced s) braced_shape
 braced_law {n} {r} {s} R = plain_law
     (maybe_law starts_add (pair_law (add_law R) (otherwise_law (is_sign signs.Bar) (pair_law (sign_law signs.Bar) (params_law R) (λ x k h. tt)) (each_law signs.Comma (add_law R) (sign_ends signs.Comma 3 (omega arith))) (λ F k h. h) comma_leaves) tail_meets) (λ F k h. h)) braced_to (record {
-  made = braced_made;
-  marks = braced_spelt;
-  view = λ x. tt;
-  tag = λ c. refl;
-  depth = braced_deep;
-  closes = λ k h. let e = h.0.0.0 in ((h.0.0, ((omega arith, h.0.1), h.1.1)), h.1.0);
-  begins = λ F k h. h;
-}) (g.braced r) (g.braced s) (braced_is r) (braced_is s)
+      made = braced_made;
+      marks = braced_spelt;
+      view = λ x. tt;
+      tag = λ c. refl;
+      depth = braced_deep;
+      closes = λ k h. let e = h.0.0.0 in ((h.0.0, ((omega arith, h.0.1), h.1.1)), h.1.0);
+      begins = λ F k h. h;
+    }) (g.braced r) (g.braced s) (braced_is r) (braced_is s)
 
 -- ---- two ends
 

@@ -1,12 +1,12 @@
 -- Readers with what they read: the shape of a phrase, the laws of a reader over so many levels of nesting, and how the
 -- laws carry over from parts to the whole. Each rule of the grammar is put together from these.
-use Rattle.std.proofs.Common.{◌≡◌, ℕ, zero, suc, max, ◌≤◌, Bool, true, false, cond, ◌⊎◌, inl, inr, List, [], ◌∷◌, ◌++◌, Option, Some, None, Ok, Err, refl, sym, ap, ◌∙◌, subst, arith}
-use Rattle.opl_model_tree.specs.Marks.{Part, Mark, place, token}
+use Rattle.std.proofs.Common.{◌≡◌, ℕ, max, ◌≤◌, Bool, true, false, cond, ◌⊎◌, inl, inr, List, [], ◌∷◌, ◌++◌, Option, Some, None, Ok, Err, refl, sym, ap, ◌∙◌, subst, arith}
+use Rattle.opl_model_tree.specs.Marks.{Part, Mark, token}
 use Rattle.opl_model_tree.specs.Spelling.{kind_of, IsProper}
 use Rattle.opl_token.specs.declared.token.Kind.{Kind}
-use Rattle.opl_grammar.specs.Input.{Input, Stop, syntax, too_deep, Outcome, Parser, kind, next, place as place_at, and_then, ◌>>=◌, pure, here, one, take_found}
+use Rattle.opl_grammar.specs.Input.{Input, Stop, syntax, Outcome, Parser, kind, next, place as place_at, and_then, ◌>>=◌, pure, one, take_found}
 use Rattle.opl_model_parse.proofs.Outcomes.{ok_one, err_one, ok_not_err, bind_ok, Broke, bind_err}
-use Rattle.opl_model_parse.proofs.Takes.{Takes, takes_split, takes_join, Begins, takes_begins, begins_split, begins_join, same_front, is_deep, Last, Position, Next, position_join, stop_front, before}
+use Rattle.opl_model_parse.proofs.Takes.{Takes, takes_split, takes_join, Begins, takes_begins, begins_split, begins_join, same_front, is_deep, Position, Next, position_join, stop_front, before}
 
 -- What a phrase is: what it writes, what is known of a value by its tokens alone, how deep it nests, which of its values
 -- the reader is sure to take, before which tokens the reader stops behind a value, before which it stops in any case,

@@ -34,7 +34,7 @@ use Rattle.opl_model_tree.specs.Depth.{depth_suffix}
 use Rattle.opl_model_tree.specs.Marks as mk
 use Rattle.opl_model_tree.proofs.Marks.{marks_suffix-Subscripts, marks_suffix-Field, marks_post-of, marks_subscripts-of, marks_subscripts-is}
 use Rattle.opl_model_tree.proofs.Depth.{depth_suffix-Subscripts, depth_suffix-Field, depth_post-of, depth_subscripts-of}
-use Rattle.opl_grammar.specs.Input.{Input, Parser, one, sign, sees_sign, is_sign, any_in, many, behind}
+use Rattle.opl_grammar.specs.Input.{Input, Parser, one, sign, sees_sign, is_sign, any_in, many}
 use Rattle.opl_grammar.specs.Tables.{starts_suffix}
 use Rattle.opl_grammar.specs.Just.{alone, name_of_prim, name_of_post}
 use Rattle.opl_grammar.specs.Rules as g
@@ -90,14 +90,14 @@ pub subscripts_law : {n : ℕ} {r s : Rules} → RulesLaw n r s → Law n (g.sub
 subscripts_law {n} {r} {s} R = plain_law
     (placed_law (pair_law (opened_law (sign_reads signs.OpenBracket) R.adds) (sign_law signs.CloseBracket) (λ x k h. (sign_ends signs.CloseBracket 3 (omega arith) k h, from_sign signs.CloseBracket (λ l. sees_sign signs.Comma l ≡ false) k h refl))))
     subscripts_to (record {
-  made = λ t. record { of = ((out-SubscriptsTree t).at, ((tt, ((out-SubscriptsTree t).first, (out-SubscriptsTree t).rest)), tt)); is = roll-out-SubscriptsTree t };
-  marks = λ c. marks_subscripts-of c.0 c.1.0.1.0 c.1.0.1.1 ∙ ap (λ ms. mk.place c.0 ∷ mk.token (mk.sign signs.OpenBracket) ∷ ms) (sym (append_assoc (marks_add c.1.0.1.0) (mk.behind signs.Comma (map marks_add c.1.0.1.1)) (mk.token (mk.sign signs.CloseBracket) ∷ [])));
-  view = λ x. tt;
-  tag = λ c. refl;
-  depth = λ c. let e = depth_subscripts-of c.0 c.1.0.1.0 c.1.0.1.1 in omega arith;
-  closes = λ k h. tt;
-  begins = λ F k h. h;
-}) (g.subscripts r) (g.subscripts s) (subscripts_is r) (subscripts_is s)
+      made = λ t. record { of = ((out-SubscriptsTree t).at, ((tt, ((out-SubscriptsTree t).first, (out-SubscriptsTree t).rest)), tt)); is = roll-out-SubscriptsTree t };
+      marks = λ c. marks_subscripts-of c.0 c.1.0.1.0 c.1.0.1.1 ∙ ap (λ ms. mk.place c.0 ∷ mk.token (mk.sign signs.OpenBracket) ∷ ms) (sym (append_assoc (marks_add c.1.0.1.0) (mk.behind signs.Comma (map marks_add c.1.0.1.1)) (mk.token (mk.sign signs.CloseBracket) ∷ [])));
+      view = λ x. tt;
+      tag = λ c. refl;
+      depth = λ c. let e = depth_subscripts-of c.0 c.1.0.1.0 c.1.0.1.1 in omega arith;
+      closes = λ k h. tt;
+      begins = λ F k h. h;
+    }) (g.subscripts r) (g.subscripts s) (subscripts_is r) (subscripts_is s)
 
 -- ---- suffixes
 
@@ -140,14 +140,14 @@ pub suffix_law : {n : ℕ} {r s : Rules} → RulesLaw n r s → Law n (g.suffix 
 suffix_law {n} {r} {s} R = plain_law
     (either_law (is_sign signs.OpenBracket) (subscripts_law R) (placed_law (pair_law (sign_law signs.Dot) field_name_law (λ x k h. tt))) (λ F k h. h) (λ F k h. from_sign signs.Dot (λ l. sees_sign signs.OpenBracket l ≡ false) k h refl))
     suffix_to (record {
-  made = suffix_made;
-  marks = suffix_spelt;
-  view = λ x. tt;
-  tag = λ c. refl;
-  depth = suffix_deep;
-  closes = λ k h. (tt, tt);
-  begins = λ F k h. by_side (λ a. from_sign signs.OpenBracket (λ l. (sees_sign signs.OpenBracket l || sees_sign signs.Dot l) ≡ true) k a refl) (λ a. from_sign signs.Dot (λ l. (sees_sign signs.OpenBracket l || sees_sign signs.Dot l) ≡ true) k a refl) h;
-}) (g.suffix r) (g.suffix s) (suffix_is r) (suffix_is s)
+      made = suffix_made;
+      marks = suffix_spelt;
+      view = λ x. tt;
+      tag = λ c. refl;
+      depth = suffix_deep;
+      closes = λ k h. (tt, tt);
+      begins = λ F k h. by_side (λ a. from_sign signs.OpenBracket (λ l. (sees_sign signs.OpenBracket l || sees_sign signs.Dot l) ≡ true) k a refl) (λ a. from_sign signs.Dot (λ l. (sees_sign signs.OpenBracket l || sees_sign signs.Dot l) ≡ true) k a refl) h;
+    }) (g.suffix r) (g.suffix s) (suffix_is r) (suffix_is s)
 
 subscripts_written : (t : SubscriptsTree) → Written (marks_subscripts t)
 subscripts_written t = subst Written (sym (marks_subscripts-is t)) (record { first = mk.sign signs.OpenBracket; is = refl })
@@ -184,11 +184,11 @@ pub post_law : {n : ℕ} {r s : Rules} → RulesLaw n r s → Law n (g.post r) (
 post_law {n} {r} {s} R = plain_law
     (placed_law (pair_law (prim_law R) (many_law starts_suffix (suffix_law R) (record { passes = λ F k h. h; meets = λ k h. tt; written = suffix_written })) (λ x k h. tt)))
     post_to (record {
-  made = λ t. record { of = ((out-PostTree t).at, ((out-PostTree t).prim, (out-PostTree t).suffixes)); is = roll-out-PostTree t };
-  marks = λ c. marks_post-of c.0 c.1.0 c.1.1;
-  view = λ x. alone_kind x.1 x.0;
-  tag = λ c. ap is_some (name_of_post_is c.0 c.1.0 c.1.1) ∙ alone_some (λ (t : SuffixTree). tt) c.1.1 (name_of_prim c.1.0);
-  depth = λ c. depth_post-of c.0 c.1.0 c.1.1;
-  closes = λ k h. (tt, no_suffix k h);
-  begins = λ F k h. h;
-}) (g.post r) (g.post s) (post_is r) (post_is s)
+      made = λ t. record { of = ((out-PostTree t).at, ((out-PostTree t).prim, (out-PostTree t).suffixes)); is = roll-out-PostTree t };
+      marks = λ c. marks_post-of c.0 c.1.0 c.1.1;
+      view = λ x. alone_kind x.1 x.0;
+      tag = λ c. ap is_some (name_of_post_is c.0 c.1.0 c.1.1) ∙ alone_some (λ (t : SuffixTree). tt) c.1.1 (name_of_prim c.1.0);
+      depth = λ c. depth_post-of c.0 c.1.0 c.1.1;
+      closes = λ k h. (tt, no_suffix k h);
+      begins = λ F k h. h;
+    }) (g.post r) (g.post s) (post_is r) (post_is s)

@@ -22,7 +22,7 @@ use Rattle.opl_model_tree.specs.Depth.{depth_prim}
 use Rattle.opl_model_tree.specs.Marks as mk
 use Rattle.opl_model_tree.proofs.Marks.{marks_name-is, marks_prim-Number, marks_prim-Named, marks_prim-Bracket, marks_prim-Record, marks_prim-Listed, marks_prim-Described, marks_prim-Array, marks_prim-KeyedArray, marks_prim-Call, marks_prim-AllDifferent, marks_prim-Question}
 use Rattle.opl_model_tree.proofs.Depth.{depth_prim-Number, depth_prim-Named, depth_prim-Bracket, depth_prim-Record, depth_prim-Listed, depth_prim-Described, depth_prim-Array, depth_prim-KeyedArray, depth_prim-Call, depth_prim-AllDifferent, depth_prim-Question}
-use Rattle.opl_grammar.specs.Input.{Input, Outcome, Parser, kind, one, sign, word, sees_sign, sees_word, sees_name, sees_number, is_sign, is_word, is_name, is_number, name_in, number_in, behind, sign_seen, word_seen}
+use Rattle.opl_grammar.specs.Input.{Input, Outcome, Parser, kind, one, sign, word, sees_sign, sees_word, sees_name, sees_number, is_sign, is_word, is_name, is_number, name_in, number_in, sign_seen, word_seen}
 use Rattle.opl_grammar.specs.Tables.{through, call_of, call_in, question_in, separator_of, is_call, sign_starts, word_starts_add}
 use Rattle.opl_grammar.specs.Just.{OnePrim, name_at_prim, name_of_prim}
 use Rattle.opl_grammar.specs.Rules as g

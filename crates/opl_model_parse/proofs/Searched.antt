@@ -2,7 +2,6 @@
 use Rattle.std.proofs.Common.{◌≡◌, ℕ, zero, suc, max, ◌<◌, ◌≤◌, true, false, cond, ◌⊎◌, inl, inr, List, [], ◌∷◌, ◌++◌, map, Option, Some, None, Ok, refl, sym, ap, ◌∙◌, subst, arith, append_assoc, pos}
 use Rattle.std.specs.Prelude.{is_some}
 use Rattle.std.specs.Option.{option_map}
-use Rattle.opl_token.specs.declared.sign.Sign.{Sign}
 use Rattle.opl_token.specs.declared.sign.Sign.TheVariants as signs
 use Rattle.opl_token.specs.declared.token.Kind.{Kind}
 use Rattle.opl_model_tree.specs.declared.expression.ExprTree.{ExprTree}
@@ -27,7 +26,7 @@ use Rattle.opl_model_tree.specs.Depth.{greatest, if_any, depth_expr, depth_post,
 use Rattle.opl_model_tree.specs.Marks as mk
 use Rattle.opl_model_tree.proofs.Marks.{marks_statement-Block, marks_statement-Try, marks_statement-Branch, marks_statement-Once, marks_statement-While, marks_statement-If, marks_statement-Label, marks_statement-Precedes, marks_statement-Constraint, marks_statements-Empty, marks_statements-Several, marks_search_block-of, marks_search-is}
 use Rattle.opl_model_tree.proofs.Depth.{depth_statement-Block, depth_statement-Try, depth_statement-Branch, depth_statement-Once, depth_statement-While, depth_statement-If, depth_statement-Label, depth_statement-Precedes, depth_statement-Constraint, depth_statements-Empty, depth_statements-Several, depth_search_block-of, depth_search-is}
-use Rattle.opl_grammar.specs.Input.{Input, Outcome, Parser, kind, and_then, pure, one, sign, word, look, sees_sign, sees_word, is_sign, is_word, many, behind, after_each, word_seen}
+use Rattle.opl_grammar.specs.Input.{Input, Outcome, Parser, kind, and_then, pure, one, sign, word, look, sees_sign, sees_word, is_sign, is_word, behind, after_each, word_seen}
 use Rattle.opl_grammar.specs.Input.{place as place_at}
 use Rattle.opl_grammar.specs.Tables.{through, branch_of, branch_in, label_of, label_in, is_branch, is_label, sign_starts, word_starts_expr, word_starts_statement, starts_statement}
 use Rattle.opl_grammar.specs.Just.{post_of}
@@ -424,14 +423,14 @@ statement_law {n} {r} {s} {u} {v} R L = plain_law (either_law (is_sign signs.Ope
     (λ F k h. h) (λ F k h. (by_side (λ a. from_word words.Once (λ l. is_some (through branch_of (word_seen l)) ≡ false) k a refl) (by_side (λ a. from_word words.While (λ l. is_some (through branch_of (word_seen l)) ≡ false) k a refl) (by_side (λ a. from_word words.If (λ l. is_some (through branch_of (word_seen l)) ≡ false) k a refl) (by_side (λ a. from_label (λ l. is_some (through branch_of (word_seen l)) ≡ false) k a label_no_branch) (λ a. expr_without_branch (look k) a.0))))) h))
     (λ F k h. h) (λ F k h. (by_side (λ a. from_branch (λ l. sees_word words.Try l ≡ false) k a branch_no_Try) (by_side (λ a. from_word words.Once (λ l. sees_word words.Try l ≡ false) k a refl) (by_side (λ a. from_word words.While (λ l. sees_word words.Try l ≡ false) k a refl) (by_side (λ a. from_word words.If (λ l. sees_word words.Try l ≡ false) k a refl) (by_side (λ a. from_label (λ l. sees_word words.Try l ≡ false) k a label_no_Try) (λ a. expr_without_Try (look k) a.0)))))) h))
     (λ F k h. h) (λ F k h. (by_side (λ a. from_word words.Try (λ l. sees_sign signs.OpenBrace l ≡ false) k a refl) (by_side (λ a. from_branch (λ l. sees_sign signs.OpenBrace l ≡ false) k a (λ a. refl)) (by_side (λ a. from_word words.Once (λ l. sees_sign signs.OpenBrace l ≡ false) k a refl) (by_side (λ a. from_word words.While (λ l. sees_sign signs.OpenBrace l ≡ false) k a refl) (by_side (λ a. from_word words.If (λ l. sees_sign signs.OpenBrace l ≡ false) k a refl) (by_side (λ a. from_label (λ l. sees_sign signs.OpenBrace l ≡ false) k a (λ a. refl)) (λ a. a.1))))))) h)) statement_to (record {
-  made = statement_made;
-  marks = statement_spelt;
-  view = λ x. tt;
-  tag = λ c. refl;
-  depth = statement_deep;
-  closes = λ k h. (tt, (tt, (h, (h, (h, (tt, (tt, posted_closes k h)))))));
-  begins = λ F k h. (by_side (λ a. from_sign signs.OpenBrace (λ l. tables.begins sign_starts word_starts_statement l ≡ true) k a refl) (by_side (λ a. from_word words.Try (λ l. tables.begins sign_starts word_starts_statement l ≡ true) k a refl) (by_side (λ a. from_branch (λ l. tables.begins sign_starts word_starts_statement l ≡ true) k a branch_starts) (by_side (λ a. from_word words.Once (λ l. tables.begins sign_starts word_starts_statement l ≡ true) k a refl) (by_side (λ a. from_word words.While (λ l. tables.begins sign_starts word_starts_statement l ≡ true) k a refl) (by_side (λ a. from_word words.If (λ l. tables.begins sign_starts word_starts_statement l ≡ true) k a refl) (by_side (λ a. from_label (λ l. tables.begins sign_starts word_starts_statement l ≡ true) k a label_starts) (λ a. expr_seen_statement (look k) a.0)))))))) h;
-}) (gs.statement r u) (gs.statement s v) (statement_is r u) (statement_is s v)
+      made = statement_made;
+      marks = statement_spelt;
+      view = λ x. tt;
+      tag = λ c. refl;
+      depth = statement_deep;
+      closes = λ k h. (tt, (tt, (h, (h, (h, (tt, (tt, posted_closes k h)))))));
+      begins = λ F k h. (by_side (λ a. from_sign signs.OpenBrace (λ l. tables.begins sign_starts word_starts_statement l ≡ true) k a refl) (by_side (λ a. from_word words.Try (λ l. tables.begins sign_starts word_starts_statement l ≡ true) k a refl) (by_side (λ a. from_branch (λ l. tables.begins sign_starts word_starts_statement l ≡ true) k a branch_starts) (by_side (λ a. from_word words.Once (λ l. tables.begins sign_starts word_starts_statement l ≡ true) k a refl) (by_side (λ a. from_word words.While (λ l. tables.begins sign_starts word_starts_statement l ≡ true) k a refl) (by_side (λ a. from_word words.If (λ l. tables.begins sign_starts word_starts_statement l ≡ true) k a refl) (by_side (λ a. from_label (λ l. tables.begins sign_starts word_starts_statement l ≡ true) k a label_starts) (λ a. expr_seen_statement (look k) a.0)))))))) h;
+    }) (gs.statement r u) (gs.statement s v) (statement_is r u) (statement_is s v)
 
 -- ---- lists of statements
 
@@ -484,14 +483,14 @@ statements_meet k (inr h) = h.0
 pub statements_law : {n : ℕ} {r s : Rules} {u v : StatementRules} → RulesLaw n r s → StatementLaws n u v → Law n (gs.statements r u) (gs.statements s v) statements_shape
 statements_law {n} {r} {s} {u} {v} R L = plain_law
     (placed_law (maybe_law starts_statement (pair_law (statement_law R L) (behind_law signs.Semicolon starts_statement (statement_law R L) (record { passes = λ F k h. h; meets = semicolon_ends })) (λ x k h. statements_meet k h)) (λ F k h. h))) statements_to (record {
-  made = statements_made;
-  marks = λ c. statements_spelt c.0 c.1;
-  view = λ x. tt;
-  tag = λ c. refl;
-  depth = λ c. statements_deep c.0 c.1;
-  closes = λ k h. (h, h.1.0);
-  begins = λ F k h. h;
-}) (gs.statements r u) (gs.statements s v) (statements_is r u) (statements_is s v)
+      made = statements_made;
+      marks = λ c. statements_spelt c.0 c.1;
+      view = λ x. tt;
+      tag = λ c. refl;
+      depth = λ c. statements_deep c.0 c.1;
+      closes = λ k h. (h, h.1.0);
+      begins = λ F k h. h;
+    }) (gs.statements r u) (gs.statements s v) (statements_is r u) (statements_is s v)
 
 -- ---- behind `try`
 
@@ -525,14 +524,14 @@ try_ends k (inr h) = word_ends_statements words.EndTry (omega arith) refl k h
 pub alternatives_law : {n : ℕ} {r s : Rules} {u v : StatementRules} → RulesLaw n r s → StatementLaws n u v → Law n (gs.alternatives r u) (gs.alternatives s v) alternatives_shape
 alternatives_law {n} {r} {s} {u} {v} R L = plain_law
     (pair_law (statements_law R L) (pair_law (alternative_law R L) (pair_law (each_law signs.Bar (statements_law R L) bar_ends) (word_law words.EndTry) (λ x k h. (try_ends k (inr h), from_word words.EndTry (λ l. sees_sign signs.Bar l ≡ false) k h refl))) (λ x k h. try_ends k h)) (λ x k h. bar_ends k h)) alternatives_to (record {
-  made = λ t. record { of = (t.0, (t.1, (t.2, tt))); is = refl };
-  marks = λ c. refl;
-  view = λ x. tt;
-  tag = λ c. refl;
-  depth = λ c. omega arith;
-  closes = λ k h. tt;
-  begins = λ F k h. h;
-}) (gs.alternatives r u) (gs.alternatives s v) (alternatives_is r u) (alternatives_is s v)
+      made = λ t. record { of = (t.0, (t.1, (t.2, tt))); is = refl };
+      marks = λ c. refl;
+      view = λ x. tt;
+      tag = λ c. refl;
+      depth = λ c. omega arith;
+      closes = λ k h. tt;
+      begins = λ F k h. h;
+    }) (gs.alternatives r u) (gs.alternatives s v) (alternatives_is r u) (alternatives_is s v)
 
 -- ---- behind the words of branches and loops
 
@@ -597,14 +596,14 @@ pub choice_law : {n : ℕ} {r s : Rules} {u v : StatementRules} → RulesLaw n r
 choice_law {n} {r} {s} {u} {v} R L = plain_law
     (pair_law (expr_law R) (pair_law (word_law words.Then) (pair_law (statements_law R L) (pair_law (maybe_law (is_word words.Else) (otherwise_statements_law R L) (λ F k h. h)) (word_law words.EndIf)
     (λ x k h. (else_ends k (inr h), from_word words.EndIf (λ l. sees_word words.Else l ≡ false) k h refl))) (λ x k h. else_ends k h)) (λ x k h. tt)) (λ x k h. word_ends words.Then 9 (omega arith) k h)) choice_to (record {
-  made = λ t. record { of = (t.0, (tt, (t.1, (t.2, tt)))); is = refl };
-  marks = λ c. ap (λ ms. marks_expr c.0 ++ mk.token (mk.word words.Then) ∷ (marks_statements c.1.1.0 ++ (ms ++ mk.token (mk.word words.EndIf) ∷ []))) (after_maybe (mk.word words.Else) (word_first words.Else) statements_shape c.1.1.1.0);
-  view = λ x. tt;
-  tag = λ c. refl;
-  depth = λ c. let e = if_any_maybe otherwise_statements c.1.1.1.0 in omega arith;
-  closes = λ k h. tt;
-  begins = λ F k h. h;
-}) (gs.choice r u) (gs.choice s v) (choice_is r u) (choice_is s v)
+      made = λ t. record { of = (t.0, (tt, (t.1, (t.2, tt)))); is = refl };
+      marks = λ c. ap (λ ms. marks_expr c.0 ++ mk.token (mk.word words.Then) ∷ (marks_statements c.1.1.0 ++ (ms ++ mk.token (mk.word words.EndIf) ∷ []))) (after_maybe (mk.word words.Else) (word_first words.Else) statements_shape c.1.1.1.0);
+      view = λ x. tt;
+      tag = λ c. refl;
+      depth = λ c. let e = if_any_maybe otherwise_statements c.1.1.1.0 in omega arith;
+      closes = λ k h. tt;
+      begins = λ F k h. h;
+    }) (gs.choice r u) (gs.choice s v) (choice_is r u) (choice_is s v)
 
 -- ---- a phrase of each kind
 

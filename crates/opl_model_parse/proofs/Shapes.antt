@@ -35,7 +35,7 @@ use Rattle.opl_grammar.specs.declared.parts.Braced.TheVariants as braces
 use Rattle.opl_model_tree.specs.Marks.{Mark, marks_name, marks_pattern, marks_expr, marks_imp, marks_or, marks_and, marks_neg, marks_compare, marks_add, marks_mul, marks_open, marks_sign, marks_post, marks_suffix, marks_subscripts, marks_prim, marks_keyed, marks_set, marks_params, marks_group, marks_type, marks_dim, marks_field, marks_ordered_params}
 use Rattle.opl_model_tree.specs.Depth.{greatest, depth_pattern, depth_expr, depth_imp, depth_or, depth_and, depth_neg, depth_compare, depth_add, depth_mul, depth_open, depth_sign, depth_post, depth_suffix, depth_subscripts, depth_prim, depth_keyed, depth_set, depth_params, depth_group, depth_type, depth_dim, depth_field, depth_ordered_params}
 use Rattle.opl_model_tree.specs.Marks as mk
-use Rattle.opl_grammar.specs.Input.{one, sign, look, is_sign, is_word, is_name, behind}
+use Rattle.opl_grammar.specs.Input.{look, is_sign, is_word, is_name}
 use Rattle.opl_grammar.specs.Tables.{is_separator, sign_starts, word_starts_expr, starts_add, starts_suffix, starts_type}
 use Rattle.opl_grammar.specs.Just.{post_of_sign, post_of_mul, post_of_add, post_of_compare, post_of_neg, post_of_and, post_of_or, post_of_imp, post_of, name_of_prim, name_of_post, name_of}
 use Rattle.opl_grammar.specs.Rules.{Rules}

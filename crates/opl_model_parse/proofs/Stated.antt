@@ -2,7 +2,6 @@
 use Rattle.std.proofs.Common.{◌≡◌, ℕ, zero, suc, max, ◌≤◌, Bool, true, false, cond, ◌⊎◌, inl, inr, List, [], ◌∷◌, ◌++◌, Option, Some, None, Ok, refl, sym, ap, ◌∙◌, subst, arith, append_assoc, pos}
 use Rattle.std.specs.Prelude.{◌||◌}
 use Rattle.std.specs.Option.{option_map}
-use Rattle.opl_token.specs.declared.sign.Sign.{Sign}
 use Rattle.opl_token.specs.declared.sign.Sign.TheVariants as signs
 use Rattle.opl_token.specs.declared.token.Kind.{Kind}
 use Rattle.opl_model_tree.specs.declared.expression.NameTree.{NameTree}
@@ -31,7 +30,7 @@ use Rattle.opl_model_tree.specs.Depth.{if_any, nested_if_any, depth_expr, depth_
 use Rattle.opl_model_tree.specs.Marks as mk
 use Rattle.opl_model_tree.proofs.Marks.{marks_requires-is, marks_item-Block, marks_item-ForAll, marks_item-If, marks_item-Precedes, marks_item-Requires, marks_item-Constraint, marks_items-Empty, marks_items-Several, marks_block-of, marks_instr-Solve, marks_instr-Optimize}
 use Rattle.opl_model_tree.proofs.Depth.{depth_requires-is, depth_item-Block, depth_item-ForAll, depth_item-If, depth_item-Precedes, depth_item-Requires, depth_item-Constraint, depth_items-Empty, depth_items-Several, depth_block-of, depth_instr-Solve, depth_instr-Optimize}
-use Rattle.opl_grammar.specs.Input.{Input, Outcome, Parser, kind, and_then, ◌>>=◌, pure, one, sign, word, look, sees_sign, sees_word, is_sign, is_word, many, behind}
+use Rattle.opl_grammar.specs.Input.{Input, Outcome, Parser, kind, and_then, ◌>>=◌, pure, one, sign, word, look, sees_sign, sees_word, is_sign, is_word, behind}
 use Rattle.opl_grammar.specs.Input.{place as place_at}
 use Rattle.opl_grammar.specs.Tables.{optimum_in, sign_starts, word_starts_expr, word_starts_item, starts_item}
 use Rattle.opl_grammar.specs.Just.{post_of}
@@ -406,14 +405,14 @@ item_law {n} {r} {s} {u} {v} R L = plain_law
     (λ F k h. h) (λ F k h. by_side (λ a. from_word words.If (λ l. sees_word words.ForAll l ≡ false) k a refl) (λ a. forall_unseen (look k) a.0) h))
     (λ F k h. h) (λ F k h. by_side (λ a. from_word words.ForAll (λ l. sees_sign signs.OpenBrace l ≡ false) k a refl) (λ a. by_side (λ b. from_word words.If (λ l. sees_sign signs.OpenBrace l ≡ false) k b refl) (λ b. b.1) a) h))
     item_to (record {
-  made = item_made;
-  marks = item_spelt;
-  view = λ x. tt;
-  tag = λ c. refl;
-  depth = item_deep;
-  closes = λ k h. (tt, (h, (tt, stated_closes k h)));
-  begins = λ F k h. by_side (λ a. from_sign signs.OpenBrace (λ l. tables.begins sign_starts word_starts_item l ≡ true) k a refl) (λ a. by_side (λ b. from_word words.ForAll (λ l. tables.begins sign_starts word_starts_item l ≡ true) k b refl) (λ b. by_side (λ d. from_word words.If (λ l. tables.begins sign_starts word_starts_item l ≡ true) k d refl) (λ d. expr_seen_item (look k) d.0) b) a) h;
-}) (gi.item r u) (gi.item s v) (item_is r u) (item_is s v)
+      made = item_made;
+      marks = item_spelt;
+      view = λ x. tt;
+      tag = λ c. refl;
+      depth = item_deep;
+      closes = λ k h. (tt, (h, (tt, stated_closes k h)));
+      begins = λ F k h. by_side (λ a. from_sign signs.OpenBrace (λ l. tables.begins sign_starts word_starts_item l ≡ true) k a refl) (λ a. by_side (λ b. from_word words.ForAll (λ l. tables.begins sign_starts word_starts_item l ≡ true) k b refl) (λ b. by_side (λ d. from_word words.If (λ l. tables.begins sign_starts word_starts_item l ≡ true) k d refl) (λ d. expr_seen_item (look k) d.0) b) a) h;
+    }) (gi.item r u) (gi.item s v) (item_is r u) (item_is s v)
 
 -- ---- lists of items
 
@@ -466,14 +465,14 @@ items_meet k (inr h) = h.0
 pub items_law : {n : ℕ} {r s : Rules} {u v : ItemRules} → RulesLaw n r s → ItemLaws n u v → Law n (gi.items r u) (gi.items s v) items_shape
 items_law {n} {r} {s} {u} {v} R L = plain_law
     (placed_law (maybe_law starts_item (pair_law (item_law R L) (behind_law signs.Semicolon starts_item (item_law R L) (record { passes = λ F k h. h; meets = semicolon_ends_item })) (λ x k h. items_meet k h)) (λ F k h. h))) items_to (record {
-  made = items_made;
-  marks = λ c. items_spelt c.0 c.1;
-  view = λ x. tt;
-  tag = λ c. refl;
-  depth = λ c. items_deep c.0 c.1;
-  closes = λ k h. (h, h.1.0);
-  begins = λ F k h. h;
-}) (gi.items r u) (gi.items s v) (items_is r u) (items_is s v)
+      made = items_made;
+      marks = λ c. items_spelt c.0 c.1;
+      view = λ x. tt;
+      tag = λ c. refl;
+      depth = λ c. items_deep c.0 c.1;
+      closes = λ k h. (h, h.1.0);
+      begins = λ F k h. h;
+    }) (gi.items r u) (gi.items s v) (items_is r u) (items_is s v)
 
 -- ---- behind `forall` and `if`
 
@@ -506,14 +505,14 @@ pub branches_law : {n : ℕ} {r s : Rules} {u v : ItemRules} → RulesLaw n r s 
 branches_law {n} {r} {s} {u} {v} R L = plain_law
     (pair_law (expr_law R) (pair_law (word_law words.Then) (pair_law (items_law R L) (pair_law (maybe_law (is_word words.Else) (otherwise_items_law R L) (λ F k h. h)) (word_law words.EndIf)
     (λ x k h. (else_ends k (inr h), from_word words.EndIf (λ l. sees_word words.Else l ≡ false) k h refl))) (λ x k h. else_ends k h)) (λ x k h. tt)) (λ x k h. word_ends words.Then 9 (omega arith) k h)) branches_to (record {
-  made = λ t. record { of = (t.0, (tt, (t.1, (t.2, tt)))); is = refl };
-  marks = λ c. ap (λ ms. marks_expr c.0 ++ mk.token (mk.word words.Then) ∷ (marks_items c.1.1.0 ++ (ms ++ mk.token (mk.word words.EndIf) ∷ []))) (after_maybe (mk.word words.Else) (word_first words.Else) items_shape c.1.1.1.0);
-  view = λ x. tt;
-  tag = λ c. refl;
-  depth = λ c. let e = if_any_maybe otherwise_items c.1.1.1.0 in omega arith;
-  closes = λ k h. tt;
-  begins = λ F k h. h;
-}) (gi.branches r u) (gi.branches s v) (branches_is r u) (branches_is s v)
+      made = λ t. record { of = (t.0, (tt, (t.1, (t.2, tt)))); is = refl };
+      marks = λ c. ap (λ ms. marks_expr c.0 ++ mk.token (mk.word words.Then) ∷ (marks_items c.1.1.0 ++ (ms ++ mk.token (mk.word words.EndIf) ∷ []))) (after_maybe (mk.word words.Else) (word_first words.Else) items_shape c.1.1.1.0);
+      view = λ x. tt;
+      tag = λ c. refl;
+      depth = λ c. let e = if_any_maybe otherwise_items c.1.1.1.0 in omega arith;
+      closes = λ k h. tt;
+      begins = λ F k h. h;
+    }) (gi.branches r u) (gi.branches s v) (branches_is r u) (branches_is s v)
 
 -- ---- closed over the levels
 
@@ -615,11 +614,11 @@ instr_law {n} {r} {s} {u} {v} R L = plain_law
     (either_law (is_word words.Solve) (placed_law (pair_law (word_law words.Solve) (pair_law (block_law r s L) (sign_law signs.Semicolon) (λ x k h. tt)) (λ x k h. tt)))
     (placed_law (pair_law (one_law optimum_reads) (pair_law (expr_law R) (pair_law (word_law words.Subject) (pair_law (word_law words.To) (pair_law (block_law r s L) (sign_law signs.Semicolon) (λ x k h. tt)) (λ x k h. tt)) (λ x k h. tt)) (λ x k h. word_ends words.Subject 9 (omega arith) k h)) (λ x k h. tt)))
     (λ F k h. h) (λ F k h. from_optimum (λ l. sees_word words.Solve l ≡ false) k h optimum_not_solve)) instr_to (record {
-  made = instr_made;
-  marks = instr_spelt;
-  view = λ x. tt;
-  tag = λ c. refl;
-  depth = instr_deep;
-  closes = λ k h. (tt, tt);
-  begins = λ F k h. h;
-}) (gi.instr r u) (gi.instr s v) (instr_is r u) (instr_is s v)
+      made = instr_made;
+      marks = instr_spelt;
+      view = λ x. tt;
+      tag = λ c. refl;
+      depth = instr_deep;
+      closes = λ k h. (tt, tt);
+      begins = λ F k h. h;
+    }) (gi.instr r u) (gi.instr s v) (instr_is r u) (instr_is s v)

@@ -1,7 +1,6 @@
 -- The steps of a product: operators with factors, as long as one comes, and an open operand at the end.
 use Rattle.std.proofs.Common.{◌≡◌, ℕ, zero, suc, max, ◌<◌, ◌≤◌, Bool, true, false, cond, ◌⊎◌, inl, inr, List, [], ◌∷◌, ◌++◌, map, Option, Some, None, Ok, Err, refl, sym, ap, ◌∙◌, subst, arith, append_assoc, append-nil}
 use Rattle.std.specs.Option.{option_map}
-use Rattle.opl_token.specs.declared.sign.Sign.{Sign}
 use Rattle.opl_token.specs.declared.token.Kind.{Kind}
 use Rattle.opl_model_tree.specs.declared.expression.MulStep.{MulStep}
 use Rattle.opl_model_tree.specs.declared.expression.LastStep.{LastStep}
@@ -16,9 +15,8 @@ use Rattle.opl_model_tree.specs.Depth.{greatest, if_any, depth_mul_step, depth_l
 use Rattle.opl_model_tree.specs.Marks as mk
 use Rattle.opl_model_tree.proofs.Marks.{marks_last_step-of, marks_mul_step-of, marks_mul_step-is}
 use Rattle.opl_model_tree.proofs.Depth.{depth_last_step-of, depth_mul_step-of}
-use Rattle.opl_grammar.specs.Input.{Input, Stop, Outcome, Parser, kind, left, and_then, ◌>>=◌, pure, refuse, one, many}
+use Rattle.opl_grammar.specs.Input.{Input, Stop, Outcome, Parser, kind, left, and_then, ◌>>=◌, pure, refuse, one}
 use Rattle.opl_grammar.specs.Tables.{mul_op_in, is_mul_op, starts_add}
-use Rattle.opl_grammar.specs.Just.{without}
 use Rattle.opl_grammar.specs.Rules as g
 use Rattle.opl_grammar.specs.Rules.{Rules}
 use Rattle.opl_model_parse.proofs.Follow.{Ends, no_mul, mul_ends}
@@ -26,7 +24,7 @@ use Rattle.opl_model_parse.proofs.Forms.{maybe, maybe_shape, maybe_good, maybe_f
 use Rattle.opl_model_parse.proofs.Going.{after_side, going, going_marks, going_shape, is_left, Forks, going_good, going_fails_at}
 use Rattle.opl_model_parse.proofs.Lists.{pair_same, maybe_same}
 use Rattle.opl_model_parse.proofs.Ops.{mul_first, mul_reads}
-use Rattle.opl_model_parse.proofs.Outcomes.{and_then_pure, steps}
+use Rattle.opl_model_parse.proofs.Outcomes.{and_then_pure}
 use Rattle.opl_model_parse.proofs.Phrases.{Shape, Sound, Good, Fails, AllFail, More, Law, more_bind, more_test, Any, one_shape, one_law, pair, pair_shape, pair_good, pair_fails_at}
 use Rattle.opl_model_parse.proofs.Shapes.{operand_kind, First, marks_operand, depth_operand, operand_ends, operand_shape}
 use Rattle.opl_model_parse.proofs.Takes.{Takes, Begins, takes_begins, begins_split, begins_join, begins_left, Written, begins_less}

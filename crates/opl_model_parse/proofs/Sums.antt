@@ -1,7 +1,6 @@
 -- Operands, products, sums and sets.
 use Rattle.std.proofs.Common.{◌≡◌, ℕ, suc, max, Bool, true, false, ◌⊎◌, inl, inr, List, [], ◌∷◌, ◌++◌, map, Option, Some, None, refl, sym, ap, ◌∙◌, subst, arith, append_assoc}
 use Rattle.std.specs.Prelude.{is_some}
-use Rattle.opl_token.specs.declared.sign.Sign.{Sign}
 use Rattle.opl_token.specs.declared.sign.Sign.TheVariants as signs
 use Rattle.opl_token.specs.declared.token.Kind.{Kind}
 use Rattle.opl_model_tree.specs.declared.expression.ExprTree.{ExprTree}
@@ -40,7 +39,7 @@ use Rattle.opl_model_tree.specs.Depth.{depth_add, depth_add_step, depth_mul}
 use Rattle.opl_model_tree.specs.Marks as mk
 use Rattle.opl_model_tree.proofs.Marks.{marks_mul-Opened, marks_mul-Product, marks_open-NegativeOpen, marks_open-Aggregate, marks_sign-Negative, marks_sign-Postfix, marks_add_step-of, marks_add_step-is, marks_add-of, marks_set-of}
 use Rattle.opl_model_tree.proofs.Depth.{depth_mul-Opened, depth_mul-Product, depth_open-NegativeOpen, depth_open-Aggregate, depth_sign-Negative, depth_sign-Postfix, depth_add_step-of, depth_add-of, depth_set-of}
-use Rattle.opl_grammar.specs.Input.{Input, Parser, and_then, pure, one, sign, sees_sign, is_sign, many}
+use Rattle.opl_grammar.specs.Input.{Input, Parser, and_then, pure, one, sees_sign, is_sign, many}
 use Rattle.opl_grammar.specs.Input.{place as place_at}
 use Rattle.opl_grammar.specs.Tables.{add_op_in, aggregate_in, is_add_op, is_mul_op, is_aggregate, sign_starts, word_starts_add, starts_add}
 use Rattle.opl_grammar.specs.Just.{alone, without, OneMul, OneSign, post_at_sign, post_of_sign, post_at_mul, post_of_mul, post_of_add, name_of_found, name_of}
@@ -167,16 +166,16 @@ operand_law {n} {r} {s} R = rule_law
     (either_law is_aggregate (placed_law (opened_law aggregate_reads R.aggregate)) (post_law R) (λ F k h. h) (λ F k h. prim_no_aggregate k h)) (λ F k h. h)
     (λ F k h. by_side (λ a. from_aggregate (λ l. sees_sign signs.Minus l ≡ false) k a (λ x. refl)) (λ a. prim_no_minus k a) h))
     operand_shape operand_to (record {
-  made = operand_made;
-  marks = operand_spelt;
-  tags = λ a b h. operand_tag a ∙ (ap operand_view h ∙ sym (operand_tag b));
-  depth = operand_deep;
-  fits = λ c. tt;
-  ends = λ a k h. operand_parts_ends (operand_parts.tag a) k (subst (λ x. operand_ends x k) (operand_tag a) h);
-  closing = operand_closing;
-  closes = λ k h. (h, (h, omega arith));
-  begins = λ F k h. by_side (λ a. from_sign signs.Minus (λ l. tables.begins sign_starts word_starts_add l ≡ true) k a refl) (λ a. by_side (λ b. aggregate_starts_add k b) (λ b. prim_starts_add k b) a) h;
-}) (g.operand r) (g.operand s) (operand_is r) (operand_is s)
+      made = operand_made;
+      marks = operand_spelt;
+      tags = λ a b h. operand_tag a ∙ (ap operand_view h ∙ sym (operand_tag b));
+      depth = operand_deep;
+      fits = λ c. tt;
+      ends = λ a k h. operand_parts_ends (operand_parts.tag a) k (subst (λ x. operand_ends x k) (operand_tag a) h);
+      closing = operand_closing;
+      closes = λ k h. (h, (h, omega arith));
+      begins = λ F k h. by_side (λ a. from_sign signs.Minus (λ l. tables.begins sign_starts word_starts_add l ≡ true) k a refl) (λ a. by_side (λ b. aggregate_starts_add k b) (λ b. prim_starts_add k b) a) h;
+    }) (g.operand r) (g.operand s) (operand_is r) (operand_is s)
 
 -- ---- products
 
@@ -313,14 +312,14 @@ pub add_law : {n : ℕ} {r s : Rules} → RulesLaw n r s → Law n (g.add r) (g.
 add_law {n} {r} {s} R = plain_law
     (placed_law (pair_law (mul_law R) (many_law is_add_op (add_step_law R) (record { passes = λ F k h. h; meets = add_ends; written = add_step_written })) (λ x k h. add_meets k h)))
     add_to (record {
-  made = λ t. record { of = ((out-AddTree t).at, ((out-AddTree t).first, (out-AddTree t).rest)); is = roll-out-AddTree t };
-  marks = λ c. marks_add-of c.0 c.1.0 c.1.1;
-  view = λ x. alone x.1 x.0;
-  tag = λ c. ap post_kind (post_of_add_is c.0 c.1.0 c.1.1) ∙ alone_post (λ (t : AddStep). tt) c.1.1 (post_of_mul c.1.0);
-  depth = λ c. depth_add-of c.0 c.1.0 c.1.1;
-  closes = λ k h. (omega arith, no_add k h);
-  begins = λ F k h. h;
-}) (g.add r) (g.add s) (add_is r) (add_is s)
+      made = λ t. record { of = ((out-AddTree t).at, ((out-AddTree t).first, (out-AddTree t).rest)); is = roll-out-AddTree t };
+      marks = λ c. marks_add-of c.0 c.1.0 c.1.1;
+      view = λ x. alone x.1 x.0;
+      tag = λ c. ap post_kind (post_of_add_is c.0 c.1.0 c.1.1) ∙ alone_post (λ (t : AddStep). tt) c.1.1 (post_of_mul c.1.0);
+      depth = λ c. depth_add-of c.0 c.1.0 c.1.1;
+      closes = λ k h. (omega arith, no_add k h);
+      begins = λ F k h. h;
+    }) (g.add r) (g.add s) (add_is r) (add_is s)
 
 -- ---- sets
 
@@ -338,7 +337,6 @@ set_is r i = simp and_then_assoc
 name_of_set_is : (at : ℕ) (t : AddTree) (o : Option AddTree) → name_of (set_to (at, (t, o))) ≡ without o (name_of_found (post_of_add t))
 unfolding name_of
 name_of_set_is at t o = ap (λ v. without v.high (name_of_found (post_of_add v.low))) (out-roll-SetTree (record { at = at; low = t; high = o }))
-
 
 optional_upper_law : {n : ℕ} {r s : Rules} → RulesLaw n r s → Law n (maybe (is_sign signs.Range) (g.upper r)) (maybe (is_sign signs.Range) (g.upper s)) optional_upper
 optional_upper_law R = stricter_law (Ends 3) (maybe_law (is_sign signs.Range) (upper_law R) (λ F k h. h))

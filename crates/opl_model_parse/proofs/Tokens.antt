@@ -1,22 +1,20 @@
 -- The single tokens, and what is seen in them.
-use Rattle.std.proofs.Common.{◌≡◌, ℕ, ◌<◌, Bool, true, false, cond, List, [], Option, Some, None, refl, sym, ap, ◌∙◌, subst, ℤ, pos, arith}
-use Rattle.std.specs.Prelude.{negsuc, is_some, ◌||◌}
+use Rattle.std.proofs.Common.{◌≡◌, ℕ, Bool, true, false, List, [], Option, Some, None, refl, sym, ap, ◌∙◌, subst, ℤ, pos}
+use Rattle.std.specs.Prelude.{negsuc, is_some}
 use Rattle.std.specs.Int.{IsNonNegative}
 use denote.Enum.Bare.{same_true, true_same}
 use Rattle.opl_token.specs.contracts.sign.Sign as sign_contracts
 use Rattle.opl_token.specs.declared.sign.Sign.{Sign}
-use Rattle.opl_token.specs.declared.sign.Sign.TheVariants as signs
 use Rattle.opl_token.specs.declared.token.Kind.{Kind}
 use Rattle.opl_token.specs.declared.token.Kind.TheVariants as kinds
 use Rattle.opl_model_tree.specs.contracts.keyword.Keyword as keyword_contracts
 use Rattle.opl_model_tree.specs.declared.keyword.Keyword.{Keyword}
-use Rattle.opl_model_tree.specs.declared.keyword.Keyword.TheVariants as words
 use Rattle.opl_model_tree.specs.Keywords.{keyword_text, keyword_of}
 use Rattle.opl_model_tree.proofs.Keywords.{keyword_of-text, text_of-keyword}
-use Rattle.opl_model_tree.specs.Marks.{Part, word as word_part, sign as sign_part, name as name_part, any as any_part, number as number_part}
+use Rattle.opl_model_tree.specs.Marks.{word as word_part, sign as sign_part, name as name_part, any as any_part, number as number_part}
 use Rattle.opl_grammar.specs.declared.look.Look.{Look}
 use Rattle.opl_grammar.specs.declared.look.Look.TheVariants as looks
-use Rattle.opl_grammar.specs.Input.{Input, Parser, one, seen, sign, word, look, look_of_word, sees_sign, sees_word, sees_name, sees_number, is_sign, is_word, is_name, is_number, name_in, name_unless, any_in, number_in, sign_seen, word_seen}
+use Rattle.opl_grammar.specs.Input.{seen, sign, word, look, look_of_word, sees_sign, sees_word, sees_name, sees_number, is_sign, is_word, is_name, is_number, name_in, name_unless, any_in, number_in, sign_seen, word_seen}
 use Rattle.opl_grammar.specs.Tables.{through}
 use Rattle.opl_model_parse.proofs.Phrases.{Shape, Law, Reads, one_shape, one_law}
 

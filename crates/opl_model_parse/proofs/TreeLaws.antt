@@ -5,11 +5,8 @@ use Rattle.opl_token.specs.declared.token.Token.{Token}
 use Rattle.opl_model_tree.specs.declared.model.ModelTree.{ModelTree}
 use Rattle.opl_model_tree.specs.Depth.{depth_model}
 use Rattle.opl_model_tree.specs.Reading.{kinds, IsTreeOf, IsViable, Stops, StopsAt, OpensAt}
-use Rattle.opl_model_tree.proofs.Spelt.{spelt}
-use Rattle.opl_grammar.specs.Input.{syntax, too_deep, Outcome, kind, next, one, many, behind}
-use Rattle.opl_grammar.specs.Rules as g
+use Rattle.opl_grammar.specs.Input.{syntax, too_deep, Outcome, behind}
 use Rattle.opl_grammar.specs.Model as gm
-use Rattle.opl_model_parse.proofs.Levels.{deeper}
 use Rattle.opl_model_parse.proofs.Outcomes.{ok_one}
 use Rattle.opl_model_parse.proofs.Texts.{start, first_same, rest_same, whole_reads, whole_ok, kinds-append, whole_stops, whole_opens}
 use Rattle.opl_model_parse.specs.Laws.{OneTree, TreeOrStop, OneStop, ParseTotal, DeepOrTree}

@@ -24,7 +24,7 @@ use Rattle.opl_model_tree.specs.Depth.{nested_if_any, depth_imp, depth_or, depth
 use Rattle.opl_model_tree.specs.Marks as mk
 use Rattle.opl_model_tree.proofs.Marks.{marks_compare-Single, marks_compare-Related, marks_compare-Member, marks_neg-Not, marks_neg-Compare, marks_and-of, marks_expr-of, marks_imp-of, marks_or-of}
 use Rattle.opl_model_tree.proofs.Depth.{depth_compare-Single, depth_compare-Related, depth_compare-Member, depth_neg-Not, depth_neg-Compare, depth_and-of, depth_expr-of, depth_imp-of, depth_or-of}
-use Rattle.opl_grammar.specs.Input.{Input, Parser, and_then, pure, one, sign, word, is_sign, is_word, after_each, sign_seen}
+use Rattle.opl_grammar.specs.Input.{Input, Parser, and_then, pure, one, word, is_sign, is_word, after_each, sign_seen}
 use Rattle.opl_grammar.specs.Input.{place as place_at}
 use Rattle.opl_grammar.specs.Tables.{through, relation_of, relation_in, is_relation, sign_starts, word_starts_expr}
 use Rattle.opl_grammar.specs.Just.{alone, without, OneCompare, OneNeg, post_of_add, post_at_compare, post_of_compare, post_at_neg, post_of_neg, post_of_and, post_of_or, post_of_imp, post_of}
@@ -186,14 +186,14 @@ neg_tag (inr t) = ap (λ x. is_some (post_of_neg x)) (sym (negs.rolls-Compare t)
 pub neg_law : {n : ℕ} {r s : Rules} → RulesLaw n r s → Law n (g.neg r) (g.neg s) neg_shape
 neg_law {n} {r} {s} R = plain_law
     (either_law (is_word words.Not) (placed_law (opened_law (word_reads words.Not) R.neg)) (compare_law R) (λ F k h. h) (λ F k h. add_not k h)) neg_to (record {
-  made = neg_made;
-  marks = neg_spelt;
-  view = neg_view;
-  tag = neg_tag;
-  depth = neg_deep;
-  closes = λ k h. (h, h);
-  begins = λ F k h. by_side (λ a. from_word words.Not (λ l. tables.begins sign_starts word_starts_expr l ≡ true) k a refl) (λ a. add_starts_expr k a) h;
-}) (g.neg r) (g.neg s) (neg_is r) (neg_is s)
+      made = neg_made;
+      marks = neg_spelt;
+      view = neg_view;
+      tag = neg_tag;
+      depth = neg_deep;
+      closes = λ k h. (h, h);
+      begins = λ F k h. by_side (λ a. from_word words.Not (λ l. tables.begins sign_starts word_starts_expr l ≡ true) k a refl) (λ a. add_starts_expr k a) h;
+    }) (g.neg r) (g.neg s) (neg_is r) (neg_is s)
 
 -- ---- `&`, `\/`, `=>` and `<=>`
 
@@ -216,14 +216,14 @@ pub and_law : {n : ℕ} {r s : Rules} → RulesLaw n r s → Law n (g.and r) (g.
 and_law {n} {r} {s} R = plain_law
     (placed_law (pair_law (neg_law R) (each_law signs.And (neg_law R) (sign_ends signs.And 5 (omega arith))) (λ x k h. and_meets k h)))
     and_to (record {
-  made = λ t. record { of = ((out-AndTree t).at, ((out-AndTree t).first, (out-AndTree t).rest)); is = roll-out-AndTree t };
-  marks = λ c. marks_and-of c.0 c.1.0 c.1.1;
-  view = λ x. alone_kind x.1 x.0;
-  tag = λ c. ap is_some (post_of_and_is c.0 c.1.0 c.1.1) ∙ alone_some (λ (t : NegTree). is_some (post_of_neg t)) c.1.1 (post_of_neg c.1.0);
-  depth = λ c. depth_and-of c.0 c.1.0 c.1.1;
-  closes = λ k h. (omega arith, no_sign signs.And 6 (λ e. omega (arith, e)) k h);
-  begins = λ F k h. h;
-}) (g.and r) (g.and s) (and_is r) (and_is s)
+      made = λ t. record { of = ((out-AndTree t).at, ((out-AndTree t).first, (out-AndTree t).rest)); is = roll-out-AndTree t };
+      marks = λ c. marks_and-of c.0 c.1.0 c.1.1;
+      view = λ x. alone_kind x.1 x.0;
+      tag = λ c. ap is_some (post_of_and_is c.0 c.1.0 c.1.1) ∙ alone_some (λ (t : NegTree). is_some (post_of_neg t)) c.1.1 (post_of_neg c.1.0);
+      depth = λ c. depth_and-of c.0 c.1.0 c.1.1;
+      closes = λ k h. (omega arith, no_sign signs.And 6 (λ e. omega (arith, e)) k h);
+      begins = λ F k h. h;
+    }) (g.and r) (g.and s) (and_is r) (and_is s)
 
 abbrev or_to : ℕ × (AndTree × List AndTree) → OrTree
 or_to c = roll-OrTree (record { at = c.0; first = c.1.0; rest = c.1.1 })
@@ -244,14 +244,14 @@ pub or_law : {n : ℕ} {r s : Rules} → RulesLaw n r s → Law n (g.or r) (g.or
 or_law {n} {r} {s} R = plain_law
     (placed_law (pair_law (and_law R) (each_law signs.Or (and_law R) (sign_ends signs.Or 6 (omega arith))) (λ x k h. or_meets k h)))
     or_to (record {
-  made = λ t. record { of = ((out-OrTree t).at, ((out-OrTree t).first, (out-OrTree t).rest)); is = roll-out-OrTree t };
-  marks = λ c. marks_or-of c.0 c.1.0 c.1.1;
-  view = λ x. alone_kind x.1 x.0;
-  tag = λ c. ap is_some (post_of_or_is c.0 c.1.0 c.1.1) ∙ alone_some (λ (t : AndTree). is_some (post_of_and t)) c.1.1 (post_of_and c.1.0);
-  depth = λ c. depth_or-of c.0 c.1.0 c.1.1;
-  closes = λ k h. (omega arith, no_sign signs.Or 7 (λ e. omega (arith, e)) k h);
-  begins = λ F k h. h;
-}) (g.or r) (g.or s) (or_is r) (or_is s)
+      made = λ t. record { of = ((out-OrTree t).at, ((out-OrTree t).first, (out-OrTree t).rest)); is = roll-out-OrTree t };
+      marks = λ c. marks_or-of c.0 c.1.0 c.1.1;
+      view = λ x. alone_kind x.1 x.0;
+      tag = λ c. ap is_some (post_of_or_is c.0 c.1.0 c.1.1) ∙ alone_some (λ (t : AndTree). is_some (post_of_and t)) c.1.1 (post_of_and c.1.0);
+      depth = λ c. depth_or-of c.0 c.1.0 c.1.1;
+      closes = λ k h. (omega arith, no_sign signs.Or 7 (λ e. omega (arith, e)) k h);
+      begins = λ F k h. h;
+    }) (g.or r) (g.or s) (or_is r) (or_is s)
 
 abbrev conclusion_shape : Shape ImpTree
 conclusion_shape = plain (λ t. mk.token (mk.sign signs.Implies) ∷ marks_imp t) (λ t. suc (depth_imp t)) (Ends 8) (First (is_sign signs.Implies))
@@ -308,14 +308,14 @@ without_some (Some t) p = refl
 pub imp_law : {n : ℕ} {r s : Rules} → RulesLaw n r s → Law n (g.imp r) (g.imp s) imp_shape
 imp_law {n} {r} {s} R = plain_law
     (placed_law (pair_law (or_law R) (stricter_law (Ends 7) (maybe_law (is_sign signs.Implies) (conclusion_law R) (λ F k h. h))) (λ x k h. imp_meets k h))) imp_to (record {
-  made = λ t. record { of = ((out-ImpTree t).at, ((out-ImpTree t).premise, (out-ImpTree t).conclusion)); is = roll-out-ImpTree t };
-  marks = λ c. marks_imp-of c.0 c.1.0 c.1.1 ∙ ap (λ ms. mk.place c.0 ∷ (marks_or c.1.0 ++ ms)) (imp_spelt c.1.1);
-  view = λ x. imp_view x.0 x.1;
-  tag = λ c. ap is_some (post_of_imp_is c.0 c.1.0 c.1.1) ∙ without_some c.1.1 (post_of_or c.1.0);
-  depth = λ c. depth_imp-of c.0 c.1.0 c.1.1 ∙ ap (λ d. max (depth_or c.1.0) d) (imp_deep c.1.1);
-  closes = λ k h. ((h, no_sign signs.Implies 8 (λ e. omega (arith, e)) k h), omega arith);
-  begins = λ F k h. h;
-}) (g.imp r) (g.imp s) (imp_is r) (imp_is s)
+      made = λ t. record { of = ((out-ImpTree t).at, ((out-ImpTree t).premise, (out-ImpTree t).conclusion)); is = roll-out-ImpTree t };
+      marks = λ c. marks_imp-of c.0 c.1.0 c.1.1 ∙ ap (λ ms. mk.place c.0 ∷ (marks_or c.1.0 ++ ms)) (imp_spelt c.1.1);
+      view = λ x. imp_view x.0 x.1;
+      tag = λ c. ap is_some (post_of_imp_is c.0 c.1.0 c.1.1) ∙ without_some c.1.1 (post_of_or c.1.0);
+      depth = λ c. depth_imp-of c.0 c.1.0 c.1.1 ∙ ap (λ d. max (depth_or c.1.0) d) (imp_deep c.1.1);
+      closes = λ k h. ((h, no_sign signs.Implies 8 (λ e. omega (arith, e)) k h), omega arith);
+      begins = λ F k h. h;
+    }) (g.imp r) (g.imp s) (imp_is r) (imp_is s)
 
 abbrev expr_to : ℕ × (ImpTree × List ImpTree) → ExprTree
 expr_to c = roll-ExprTree (record { at = c.0; first = c.1.0; rest = c.1.1 })
@@ -336,11 +336,11 @@ pub expr_law : {n : ℕ} {r s : Rules} → RulesLaw n r s → Law n (g.expr r) (
 expr_law {n} {r} {s} R = plain_law
     (placed_law (pair_law (imp_law R) (each_law signs.Equivalent (imp_law R) (sign_ends signs.Equivalent 8 (omega arith))) (λ x k h. expr_meets k h)))
     expr_to (record {
-  made = λ t. record { of = ((out-ExprTree t).at, ((out-ExprTree t).first, (out-ExprTree t).rest)); is = roll-out-ExprTree t };
-  marks = λ c. marks_expr-of c.0 c.1.0 c.1.1;
-  view = λ x. alone_kind x.1 x.0;
-  tag = λ c. ap is_some (post_of_expr_is c.0 c.1.0 c.1.1) ∙ alone_some (λ (t : ImpTree). is_some (post_of_imp t)) c.1.1 (post_of_imp c.1.0);
-  depth = λ c. depth_expr-of c.0 c.1.0 c.1.1;
-  closes = λ k h. (omega arith, no_sign signs.Equivalent 9 (λ e. omega (arith, e)) k h);
-  begins = λ F k h. h;
-}) (g.expr r) (g.expr s) (expr_is r) (expr_is s)
+      made = λ t. record { of = ((out-ExprTree t).at, ((out-ExprTree t).first, (out-ExprTree t).rest)); is = roll-out-ExprTree t };
+      marks = λ c. marks_expr-of c.0 c.1.0 c.1.1;
+      view = λ x. alone_kind x.1 x.0;
+      tag = λ c. ap is_some (post_of_expr_is c.0 c.1.0 c.1.1) ∙ alone_some (λ (t : ImpTree). is_some (post_of_imp t)) c.1.1 (post_of_imp c.1.0);
+      depth = λ c. depth_expr-of c.0 c.1.0 c.1.1;
+      closes = λ k h. (omega arith, no_sign signs.Equivalent 9 (λ e. omega (arith, e)) k h);
+      begins = λ F k h. h;
+    }) (g.expr r) (g.expr s) (expr_is r) (expr_is s)
