@@ -2,3 +2,8 @@
 #![tactic(auto)]
 
 pub mod laws;
+mod model;
+#[cfg(test)]
+mod tests;
+
+pub use model::parse_model;
