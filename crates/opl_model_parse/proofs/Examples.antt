@@ -174,7 +174,6 @@ one_ordered_is = marks_ordered_params-is (record { at = 0; params = one_params; 
 
 pub ordered_sample : Samples ordered_shape
 ordered_sample tail h =
-    let a = params_sample tail h.0 in
     record {
       whole = params_input tail;
       value = record { at = 0; params = one_params; order = None };

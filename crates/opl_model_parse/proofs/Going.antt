@@ -242,20 +242,7 @@ module _ {A B D : Type 0} (n : ℕ) (p : Parser (A ⊎ B)) (s : Shape (A ⊎ B))
             second_viable b f.front tail z put.start put.begins x.value x.is (forks.sides x.value (inr b) x.same);
       }
 
-  going_broke : AllFail q t → (i : Input) (c : A ⊎ B) (m : Input) (e : Stop) → p i ≡ Ok (c, m) → after_side q c m ≡ Err e → Fails (going p q) u i e
-  going_broke g i (inl a) m e h k = absurd (ok_not_err k)
-  going_broke g i (inr b) m e h k = by_second (bind_err (q m) (λ y. pure {A = A ⊎ (B × D)} (inr (b, y))) e k) where
-    by_second : (q m ≡ Err e) ⊎ Broke {B = A ⊎ (B × D)} (q m) (λ y. pure (inr (b, y))) e → Fails (going p q) u i e
-    by_second (inl l) = going_second_fails i b m e h (g m e l)
-    by_second (inr w) = absurd (ok_not_err w.second)
-
-  going_fails : AllFail p s → AllFail q t → AllFail (going p q) u
-  going_fails f g i e h = by_first (bind_err (p i) (after_side q) e h) where
-    by_first : (p i ≡ Err e) ⊎ Broke {B = A ⊎ (B × D)} (p i) (after_side q) e → Fails (going p q) u i e
-    by_first (inl k) = going_first_fails i e (f i e k)
-    by_first (inr w) = going_broke g i w.value w.mid e w.first w.second
-
-  -- the second part fails, with its reason at hand
+  -- where it fails, a part fails
   pub going_fails_at : (i : Input) (e : Stop) → (p i ≡ Err e → Fails p s i e) → ((b : B) (m : Input) → p i ≡ Ok (inr b, m) → q m ≡ Err e → Fails q t m e) → going p q i ≡ Err e → Fails (going p q) u i e
   going_fails_at i e f g h = by_first (bind_err (p i) (after_side q) e h) where
     by_side_at : (c : A ⊎ B) (m : Input) → p i ≡ Ok (c, m) → after_side q c m ≡ Err e → Fails (going p q) u i e
@@ -279,7 +266,7 @@ going_more p p' q q' h k i = more_bind (p i) (p' i) (after_side q) (after_side q
 pub going_law : {A B D : Type 0} {n : ℕ} {p p' : Parser (A ⊎ B)} {s : Shape (A ⊎ B)} {q q' : Parser D} {t : Shape D} {first : Option Kind → Type 0} → Law n p p' s → Law n q q' t → Forks s t first → Law n (going p q) (going p' q') (going_shape s t first)
 going_law {A} {B} {D} {n} {p} {p'} {s} {q} {q'} {t} {first} P Q forks = record {
   good = going_good n p s q t first P.good Q.good forks;
-  fails = going_fails n p s q t first P.good Q.good forks P.fails Q.fails;
+  fails = λ i e. going_fails_at n p s q t first P.good Q.good forks i e (P.fails i e) (λ b m h. Q.fails m e);
   more = going_more p p' q q' P.more Q.more;
   fit = fit;
 } where

@@ -1,4 +1,4 @@
--- The shape of each phrase of expressions, and of what stands in brackets: what it writes, how deep it nests, what is known of it by its tokens, what ends it, and with which tokens it begins.
+-- The shape of each phrase of expressions, and of what stands in brackets.
 use Rattle.std.proofs.Common.{◌≡◌, ℕ, suc, max, Bool, true, false, ◌⊎◌, List, [], ◌∷◌, ◌++◌, map, Option, Some, None}
 use Rattle.std.specs.Prelude.{◌||◌, is_some}
 use Rattle.opl_token.specs.declared.sign.Sign.{Sign}
