@@ -5,7 +5,7 @@ use Rattle.opl_model_tree.specs.Marks.{Mark}
 use Rattle.opl_grammar.specs.Input.{Input, Stop, Parser, kind, ◌>>=◌, pure}
 use Rattle.opl_model_parse.proofs.Outcomes.{ok_one, ok_not_err, bind_ok, Broke, bind_err}
 use Rattle.opl_model_parse.proofs.Takes.{Takes, takes_split, takes_join, Begins, takes_begins, begins_split, begins_join, same_front, position_join, stop_front}
-use Rattle.opl_model_parse.proofs.Phrases.{Shape, Accepts, Sound, Good, Viable, Fails, AllFail, More, Law, more_bind, max_le, max_left, max_right, pair_eq}
+use Rattle.opl_model_parse.proofs.Phrases.{Shape, Accepts, Sound, Good, Viable, Fails, More, Law, more_bind, max_le, max_left, max_right, pair_eq}
 
 abbrev pub after_side : {A B D : Type 0} → Parser D → A ⊎ B → Parser (A ⊎ (B × D))
 after_side q (inl a) = pure (inl a)

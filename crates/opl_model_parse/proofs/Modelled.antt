@@ -13,7 +13,7 @@ use Rattle.opl_model_tree.specs.Depth.{depth_model}
 use Rattle.opl_model_tree.specs.Marks as mk
 use Rattle.opl_model_tree.proofs.Marks.{marks_model-is}
 use Rattle.opl_model_tree.proofs.Depth.{depth_model-is}
-use Rattle.opl_grammar.specs.Input.{Input, Stop, syntax, kind, is_word, many, behind}
+use Rattle.opl_grammar.specs.Input.{Input, Stop, syntax, kind, is_word, many}
 use Rattle.opl_grammar.specs.Input.{place as place_at}
 use Rattle.opl_grammar.specs.Tables.{decl_begins, starts_decl}
 use Rattle.opl_grammar.specs.Rules as g
@@ -65,14 +65,14 @@ pub model_law : {n : ℕ} {r s : Rules} {u u' : ItemRules} {v v' : StatementRule
 model_law {n} {r} {s} {u} {u'} {v} {v'} R I S = plain_law
     (placed_law (pair_law (many_law starts_decl (decl_law R) (record { passes = λ F k h. h; meets = λ k h. tt; written = decl_written })) (pair_law (instr_law R I) (maybe_law (is_word words.Search) (search_law r s S) (λ F k h. h)) (λ x k h. tt))
     (λ x k h. (tt, instr_no_decl k h)))) model_to (record {
-  made = λ t. record { of = (t.at, (t.decls, (t.instr, t.search))); is = refl };
-  marks = λ c. marks_model-is (model_to c) ∙ ap (λ ms. mk.place c.0 ∷ (mk.joined (map marks_decl c.1.0) ++ (marks_instr c.1.1.0 ++ ms))) (written_maybe search_shape c.1.1.1);
-  view = λ x. tt;
-  tag = λ c. refl;
-  depth = λ c. let e = depth_model-is (model_to c) in let d = if_any_maybe search_shape c.1.1.1 in omega arith;
-  closes = λ k h. (tt, h);
-  begins = λ F k h. h;
-}) (gm.model r u v) (gm.model s u' v') (model_is r u v) (model_is s u' v')
+      made = λ t. record { of = (t.at, (t.decls, (t.instr, t.search))); is = refl };
+      marks = λ c. marks_model-is (model_to c) ∙ ap (λ ms. mk.place c.0 ∷ (mk.joined (map marks_decl c.1.0) ++ (marks_instr c.1.1.0 ++ ms))) (written_maybe search_shape c.1.1.1);
+      view = λ x. tt;
+      tag = λ c. refl;
+      depth = λ c. let e = depth_model-is (model_to c) in let d = if_any_maybe search_shape c.1.1.1 in omega arith;
+      closes = λ k h. (tt, h);
+      begins = λ F k h. h;
+    }) (gm.model r u v) (gm.model s u' v') (model_is r u v) (model_is s u' v')
 
 -- ---- the end of the text
 

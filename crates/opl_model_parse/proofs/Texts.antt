@@ -1,7 +1,6 @@
 -- The tree of tokens and the reader of the whole: each is the other.
 use Rattle.std.proofs.Common.{◌≡◌, ℕ, max, ◌<◌, ◌≤◌, Bool, true, false, List, [], ◌∷◌, ◌++◌, map, Option, Some, None, Result, Ok, Err, refl, sym, ap, ◌∙◌, subst, arith, append_assoc, append-nil}
 use Rattle.std.specs.Option.{option_map}
-use Rattle.opl_token.specs.declared.sign.Sign.{Sign}
 use Rattle.opl_token.specs.declared.token.Kind.{Kind}
 use Rattle.opl_token.specs.declared.token.Token.{Token}
 use Rattle.opl_model_tree.specs.declared.model.ModelTree.{ModelTree}
@@ -12,16 +11,13 @@ use Rattle.opl_model_tree.specs.Keywords.{keyword_text}
 use Rattle.opl_model_tree.specs.Spelling.{kind_of, kinds_of, spelling, IsProper, first_part, AllProper, IsWellFormed}
 use Rattle.opl_model_tree.specs.Reading.{kinds, AtPlaces, IsTreeOf, IsViable, Stops, StopsAt, OpensAt}
 use Rattle.opl_model_tree.specs.Marks as mk
-use Rattle.opl_model_tree.proofs.Spelt.{spelt}
-use Rattle.opl_grammar.specs.Input.{Input, Stop, syntax, too_deep, kind, next, left, ◌>>=◌, pure, one, sign, word, look, is_sign, many, first_kind}
+use Rattle.opl_grammar.specs.Input.{Input, Stop, syntax, too_deep, kind, next, ◌>>=◌, pure, look, is_sign, first_kind}
 use Rattle.opl_grammar.specs.Input.{place as place_at}
 use Rattle.opl_grammar.specs.Rules as g
 use Rattle.opl_grammar.specs.Items as gi
 use Rattle.opl_grammar.specs.Search as gs
 use Rattle.opl_grammar.specs.Model as gm
-use Rattle.opl_model_parse.proofs.Levels.{deeper}
 use Rattle.opl_model_parse.proofs.Modelled.{whole_shape, whole_law}
-use Rattle.opl_model_parse.proofs.Narrow.{places}
 use Rattle.opl_model_parse.proofs.Outcomes.{ok_one, ok_not_err, bind_ok}
 use Rattle.opl_model_parse.proofs.Phrases.{Accepts, Faults, Fails, nests_too_deep}
 use Rattle.opl_model_parse.proofs.Takes.{IsUnbraced, Takes, Begins, begins_split, begins_join}
@@ -158,9 +154,9 @@ whole_ends n i t j h =
     let w = bind_ok (gm.model (g.rules n) (gi.item_rules n) (gs.statement_rules n) i) (λ t. gm.finish >>= (λ u. pure t)) t j h in
     let v = bind_ok (gm.finish w.mid) (λ (u : Unit {0}). pure w.value) t j w.second in
     subst (λ x. kind x ≡ None) (ap (λ c. c.1) (ok_one v.second)) (end_there w.mid (kind w.mid) refl v.value v.mid v.first) where
-  end_there : (i : Input) (o : Option Kind) → kind i ≡ o → (u : Unit {0}) (j : Input) → gm.stop_unless (gm.nothing_left o) i ≡ Ok (u, j) → kind j ≡ None
-  end_there i None e u j h = let same = ap (λ c. c.1) (ok_one h) in ap kind (sym same) ∙ e
-  end_there i (Some k) e u j h = absurd (ok_not_err (sym h))
+      end_there : (i : Input) (o : Option Kind) → kind i ≡ o → (u : Unit {0}) (j : Input) → gm.stop_unless (gm.nothing_left o) i ≡ Ok (u, j) → kind j ≡ None
+      end_there i None e u j h = let same = ap (λ c. c.1) (ok_one h) in ap kind (sym same) ∙ e
+      end_there i (Some k) e u j h = absurd (ok_not_err (sym h))
 
 pub whole_ok : (n : ℕ) (tokens : List Token) (end : ℕ) (t : ModelTree) (j : Input) → gm.whole_within n (start tokens end) ≡ Ok (t, j) → IsTreeOf t tokens end × (depth_model t ≤ n)
 whole_ok n tokens end t j h = whole_tree n tokens end t j h (whole_ends n (start tokens end) t j h)
@@ -328,11 +324,11 @@ module _ (n : ℕ) (tokens : List Token) (end at : ℕ) (f : Fails (gm.whole_wit
       let w = begins_split f.position.before (mk.token f.position.part ∷ []) (start tokens end) f.stop (subst (λ ms. Begins ms (start tokens end) f.stop) f.position.is f.begins) in
       let same = begins_functional f.position.before (start tokens end) w.mid f.position.mid w.front f.position.begins in
       opens_at w.mid w.front w.mid.tokens refl w.back.0.0 (f.position.place ∙ ap place_at (sym same)) w.back.0.1 where
-    begins_functional : (ms : List Mark) (i j l : Input) → Begins ms i j → Begins ms i l → j ≡ l
-    begins_functional [] i j l h k = sym h ∙ k
-    begins_functional (mk.place at ∷ ms) i j l h k = begins_functional ms i j l h k
-    begins_functional (mk.token p ∷ ms) i j l h k = begins_functional ms (next i) j l h.1 k.1
-    begins_functional (mk.unbraced ∷ ms) i j l h k = begins_functional ms i j l h.1 k.1
+        begins_functional : (ms : List Mark) (i j l : Input) → Begins ms i j → Begins ms i l → j ≡ l
+        begins_functional [] i j l h k = sym h ∙ k
+        begins_functional (mk.place at ∷ ms) i j l h k = begins_functional ms i j l h k
+        begins_functional (mk.token p ∷ ms) i j l h k = begins_functional ms (next i) j l h.1 k.1
+        begins_functional (mk.unbraced ∷ ms) i j l h k = begins_functional ms i j l h.1 k.1
 
 pub whole_opens : (n : ℕ) (tokens : List Token) (end at : ℕ) → gm.whole_within n (start tokens end) ≡ Err (too_deep at) → OpensAt n tokens at
 whole_opens n tokens end at h = opens_there n tokens end at ((whole_law n n (omega arith)).fails (start tokens end) (too_deep at) h)

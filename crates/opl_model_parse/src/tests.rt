@@ -30,10 +30,22 @@ fn answer(rt: &impl Abort, alloc: Global, text: &[u8]) -> Answer {
 
 #[test]
 fn answers(rt: HostRuntime) {
-    assert_eq!(rt; answer(&rt, rt.alloc(), b" solve { a precedes b; };"), Answer::Tree(1));
-    assert_eq!(rt; answer(&rt, rt.alloc(), b"solve { -a precedes b };"), Answer::Syntax(11));
-    assert_eq!(rt; answer(&rt, rt.alloc(), b"solve { a < b < c };"), Answer::Syntax(14));
-    assert_eq!(rt; answer(&rt, rt.alloc(), b"int d[i in R] = 1; solve { }"), Answer::Syntax(28));
+    assert_eq!(rt;
+        answer(&rt, rt.alloc(), b" solve { a precedes b; };"),
+        Answer::Tree(1)
+    );
+    assert_eq!(rt;
+        answer(&rt, rt.alloc(), b"solve { -a precedes b };"),
+        Answer::Syntax(11)
+    );
+    assert_eq!(rt;
+        answer(&rt, rt.alloc(), b"solve { a < b < c };"),
+        Answer::Syntax(14)
+    );
+    assert_eq!(rt;
+        answer(&rt, rt.alloc(), b"int d[i in R] = 1; solve { }"),
+        Answer::Syntax(28)
+    );
 }
 
 #[test]
