@@ -1,0 +1,12 @@
+//! The rules of the grammar of models, read from left to right by the next token alone.
+#![tactic(auto)]
+
+mod cursor;
+pub mod list;
+mod look;
+mod parts;
+pub mod tables;
+
+pub use cursor::Cursor;
+pub use look::Look;
+pub use parts::{Braced, Operand};

@@ -1,0 +1,17 @@
+//! The parser of whole models.
+ghost use Rattle.opl_model_parse.specs.Answers.{ParseAnswers};
+
+use opl_grammar_model::read_model;
+use opl_model_tree::{ModelTree, SyntaxFault};
+use opl_token::Token;
+use std::alloc::Global;
+
+/// The tree of the tokens of a text with `end` bytes. `Syntax` holds the place of the token that follows the longest
+/// beginning of the tokens that a model begins with, or `end` if none follows; `TooDeep` the place of the token that
+/// opens the 257th level of nesting.
+#[tactic(auto, using(crate::proofs::Texts::read_answers))]
+pub fn parse_model(alloc: Global, tokens: &[Token], end: u32) -> Result<ModelTree, SyntaxFault>
+    ensures { ParseAnswers tokens.now end result }
+{
+    read_model(alloc, tokens, end)
+}
