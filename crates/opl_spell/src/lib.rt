@@ -6,8 +6,6 @@ mod expression;
 mod instruction;
 mod model;
 mod search;
-#[cfg(test)]
-mod tests;
 mod token;
 
 pub use model::spell_model;
