@@ -1,5 +1,5 @@
 -- One level less of items and of statements.
-use Rattle.std.proofs.Common.{◌≡◌, ℕ, suc, ◌-◌, ◌<◌, Ok, Err, refl, arith}
+use Rattle.std.proofs.Common.{◌≡◌, ℕ, suc, ◌-◌, ◌<◌, Ok, Err, refl, ap, ◌∙◌, arith}
 use Rattle.opl_grammar.specs.Input.{Input, too_deep}
 use Rattle.opl_grammar.specs.Rules.{rules}
 use Rattle.opl_grammar.specs.Items.{item_rules, item_level}
@@ -28,7 +28,7 @@ items_more n at w i = refl
 
 -- where one is left, what is wanted is read over the others
 pub items_level : (levels at : ℕ) (w : WantedItems) (i : Input) → 0 < levels → items.read levels at w i ≡ items.one_of (item_level (rules (levels - 1)) (item_rules (levels - 1))) at w i
-items_level levels at w i some = let e : levels ≡ suc (levels - 1) = omega arith in rw e (rw (← e) (items_more (levels - 1) at w i))
+items_level levels at w i some = let e : levels ≡ suc (levels - 1) = omega arith in ap (λ n. items.read n at w i) e ∙ items_more (levels - 1) at w i
 
 statements_none : (at : ℕ) (w : WantedStatements) (i : Input) → statements.one_of (statement_rules 0) at w i ≡ Err (too_deep at)
 unfolding statement_rules
@@ -50,4 +50,4 @@ statements_more n at w i = refl
 
 -- where one is left, what is wanted is read over the others
 pub statements_level : (levels at : ℕ) (w : WantedStatements) (i : Input) → 0 < levels → statements.read levels at w i ≡ statements.one_of (statement_level (rules (levels - 1)) (statement_rules (levels - 1))) at w i
-statements_level levels at w i some = let e : levels ≡ suc (levels - 1) = omega arith in rw e (rw (← e) (statements_more (levels - 1) at w i))
+statements_level levels at w i some = let e : levels ≡ suc (levels - 1) = omega arith in ap (λ n. statements.read n at w i) e ∙ statements_more (levels - 1) at w i

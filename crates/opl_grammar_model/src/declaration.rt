@@ -381,11 +381,11 @@ fn decl<B: Below>(level: &Level<B>, cursor: &mut Cursor<'_>) -> Result<DeclTree,
 
 /// The rule of declarations.
 #[derive(Drop)]
-struct Decls<'l, B> {
+struct DeclRule<'l, B> {
     level: &'l Level<B>,
 }
 
-impl<'l, B: Below> Part<DeclTree> for Decls<'l, B> {
+impl<'l, B: Below> Part<DeclTree> for DeclRule<'l, B> {
     ghost begins = { λ _. tables.starts_decl };
     ghost part = { λ d. rules.decl (B.rules d.level.now.below) };
     ghost is_ready = { λ d. B.is_ready d.level.now.below };
@@ -407,5 +407,5 @@ pub fn decls<B: Below>(
     requires { B.is_ready level.now.below }
     ensures { Reads (steps.many tables.starts_decl (rules.decl (B.rules level.now.below)) cursor.old) result cursor.new }
 {
-    many(level.alloc, cursor, &Decls { level })
+    many(level.alloc, cursor, &DeclRule { level })
 }

@@ -1,5 +1,5 @@
 -- One level less.
-use Rattle.std.proofs.Common.{◌≡◌, ℕ, zero, suc, ◌-◌, ◌<◌, Ok, Err, refl, ap, arith}
+use Rattle.std.proofs.Common.{◌≡◌, ℕ, zero, suc, ◌-◌, ◌<◌, Ok, Err, refl, ap, ◌∙◌, arith}
 use Rattle.opl_grammar.specs.Input.{Input, too_deep}
 use Rattle.opl_grammar.specs.Rules.{rules, level}
 use Rattle.opl_phrase.specs.declared.wanted.Wanted.{Wanted}
@@ -38,4 +38,4 @@ one_level_more n at w i = refl
 
 -- where one is left, what is wanted is read over the others
 pub one_level : (levels at : ℕ) (w : Wanted) (i : Input) → 0 < levels → read levels at w i ≡ one_of (level (rules (levels - 1))) at w i
-one_level levels at w i some = let e : levels ≡ suc (levels - 1) = omega arith in rw e (rw (← e) (one_level_more (levels - 1) at w i))
+one_level levels at w i some = let e : levels ≡ suc (levels - 1) = omega arith in ap (λ n. read n at w i) e ∙ one_level_more (levels - 1) at w i
