@@ -15,7 +15,7 @@ enum Answer {
 }
 
 /// What the parser answers.
-fn answer(rt: &impl Abort, alloc: Global, text: &[u8]) -> Answer {
+fn answer_to(rt: &impl Abort, alloc: Global, text: &[u8]) -> Answer {
     assert!(rt; text.len() < 10000);
     let Ok(tokens) = scan(alloc, text) else {
         panic!(rt; "no tokens")
@@ -31,19 +31,19 @@ fn answer(rt: &impl Abort, alloc: Global, text: &[u8]) -> Answer {
 #[test]
 fn answers(rt: HostRuntime) {
     assert_eq!(rt;
-        answer(&rt, rt.alloc(), b" solve { a precedes b; };"),
+        answer_to(&rt, rt.alloc(), b" solve { a precedes b; };"),
         Answer::Tree(1)
     );
     assert_eq!(rt;
-        answer(&rt, rt.alloc(), b"solve { -a precedes b };"),
+        answer_to(&rt, rt.alloc(), b"solve { -a precedes b };"),
         Answer::Syntax(11)
     );
     assert_eq!(rt;
-        answer(&rt, rt.alloc(), b"solve { a < b < c };"),
+        answer_to(&rt, rt.alloc(), b"solve { a < b < c };"),
         Answer::Syntax(14)
     );
     assert_eq!(rt;
-        answer(&rt, rt.alloc(), b"int d[i in R] = 1; solve { }"),
+        answer_to(&rt, rt.alloc(), b"int d[i in R] = 1; solve { }"),
         Answer::Syntax(28)
     );
 }
