@@ -32,7 +32,10 @@ fn dims_tree<B: Below>(level: &Level<B>, cursor: &mut Cursor<'_>) -> Result<Dims
 
 /// `[DIM, DIM, ..]` or nothing
 #[tactic(auto, unfolding(opl_grammar::specs::Declarations::optional_dims))]
-fn optional_dims<B: Below>(level: &Level<B>, cursor: &mut Cursor<'_>) -> Result<Option<DimsTree>, SyntaxFault>
+fn optional_dims<B: Below>(
+    level: &Level<B>,
+    cursor: &mut Cursor<'_>,
+) -> Result<Option<DimsTree>, SyntaxFault>
     requires { B.is_ready level.now.below }
     ensures { Reads (rules.optional_dims (B.rules level.now.below) cursor.old) result cursor.new }
 {
@@ -111,7 +114,10 @@ fn range_decl<B: Below>(level: &Level<B>, cursor: &mut Cursor<'_>) -> Result<Ran
 
 /// `{NAME, NAME, ..}`
 #[tactic(auto, unfolding(opl_grammar::specs::Declarations::listed_names))]
-fn listed_names<B: Below>(level: &Level<B>, cursor: &mut Cursor<'_>) -> Result<EnumNamesTree, SyntaxFault>
+fn listed_names<B: Below>(
+    level: &Level<B>,
+    cursor: &mut Cursor<'_>,
+) -> Result<EnumNamesTree, SyntaxFault>
     requires { B.is_ready level.now.below }
     ensures { Reads (rules.listed_names (B.rules level.now.below) cursor.old) result cursor.new }
 {
@@ -124,7 +130,10 @@ fn listed_names<B: Below>(level: &Level<B>, cursor: &mut Cursor<'_>) -> Result<E
 
 /// `...`, with or without `=` before it
 #[tactic(auto, unfolding(opl_grammar::specs::Declarations::external_names))]
-fn external_names<B: Below>(level: &Level<B>, cursor: &mut Cursor<'_>) -> Result<EnumNamesTree, SyntaxFault>
+fn external_names<B: Below>(
+    level: &Level<B>,
+    cursor: &mut Cursor<'_>,
+) -> Result<EnumNamesTree, SyntaxFault>
     requires { B.is_ready level.now.below }
     ensures { Reads (rules.external_names (B.rules level.now.below) cursor.old) result cursor.new }
 {
@@ -136,7 +145,10 @@ fn external_names<B: Below>(level: &Level<B>, cursor: &mut Cursor<'_>) -> Result
 
 /// `{NAME, NAME, ..}` or `...`
 #[tactic(auto, unfolding(opl_grammar::specs::Declarations::enum_names))]
-fn enum_names<B: Below>(level: &Level<B>, cursor: &mut Cursor<'_>) -> Result<EnumNamesTree, SyntaxFault>
+fn enum_names<B: Below>(
+    level: &Level<B>,
+    cursor: &mut Cursor<'_>,
+) -> Result<EnumNamesTree, SyntaxFault>
     requires { B.is_ready level.now.below }
     ensures { Reads (rules.enum_names (B.rules level.now.below) cursor.old) result cursor.new }
 {
@@ -163,7 +175,10 @@ fn enum_decl<B: Below>(level: &Level<B>, cursor: &mut Cursor<'_>) -> Result<Enum
 
 /// `struct NAME {FIELD FIELD ..};`
 #[tactic(auto, unfolding(opl_grammar::specs::Declarations::struct_decl))]
-fn struct_decl<B: Below>(level: &Level<B>, cursor: &mut Cursor<'_>) -> Result<StructTree, SyntaxFault>
+fn struct_decl<B: Below>(
+    level: &Level<B>,
+    cursor: &mut Cursor<'_>,
+) -> Result<StructTree, SyntaxFault>
     requires { B.is_ready level.now.below }
     ensures { Reads (rules.struct_decl (B.rules level.now.below) cursor.old) result cursor.new }
 {
@@ -185,7 +200,10 @@ fn struct_decl<B: Below>(level: &Level<B>, cursor: &mut Cursor<'_>) -> Result<St
 
 /// `int`
 #[tactic(auto, unfolding(opl_grammar::specs::Declarations::int_variable))]
-fn int_variable<B: Below>(level: &Level<B>, cursor: &mut Cursor<'_>) -> Result<VariableTypeTree, SyntaxFault>
+fn int_variable<B: Below>(
+    level: &Level<B>,
+    cursor: &mut Cursor<'_>,
+) -> Result<VariableTypeTree, SyntaxFault>
     requires { B.is_ready level.now.below }
     ensures { Reads (rules.int_variable (B.rules level.now.below) cursor.old) result cursor.new }
 {
@@ -196,7 +214,10 @@ fn int_variable<B: Below>(level: &Level<B>, cursor: &mut Cursor<'_>) -> Result<V
 
 /// `int` or `NAME`
 #[tactic(auto, unfolding(opl_grammar::specs::Declarations::variable_type))]
-fn variable_type<B: Below>(level: &Level<B>, cursor: &mut Cursor<'_>) -> Result<VariableTypeTree, SyntaxFault>
+fn variable_type<B: Below>(
+    level: &Level<B>,
+    cursor: &mut Cursor<'_>,
+) -> Result<VariableTypeTree, SyntaxFault>
     requires { B.is_ready level.now.below }
     ensures { Reads (rules.variable_type (B.rules level.now.below) cursor.old) result cursor.new }
 {
@@ -222,7 +243,10 @@ fn bounds<B: Below>(level: &Level<B>, cursor: &mut Cursor<'_>) -> Result<BoundsT
 
 /// `in ADD..ADD` or nothing
 #[tactic(auto, unfolding(opl_grammar::specs::Declarations::optional_bounds))]
-fn optional_bounds<B: Below>(level: &Level<B>, cursor: &mut Cursor<'_>) -> Result<Option<BoundsTree>, SyntaxFault>
+fn optional_bounds<B: Below>(
+    level: &Level<B>,
+    cursor: &mut Cursor<'_>,
+) -> Result<Option<BoundsTree>, SyntaxFault>
     requires { B.is_ready level.now.below }
     ensures { Reads (rules.optional_bounds (B.rules level.now.below) cursor.old) result cursor.new }
 {
@@ -235,7 +259,10 @@ fn optional_bounds<B: Below>(level: &Level<B>, cursor: &mut Cursor<'_>) -> Resul
 
 /// `var TYPE NAME [DIMS] [BOUNDS];`
 #[tactic(auto, unfolding(opl_grammar::specs::Declarations::variable_decl))]
-fn variable_decl<B: Below>(level: &Level<B>, cursor: &mut Cursor<'_>) -> Result<VariableTree, SyntaxFault>
+fn variable_decl<B: Below>(
+    level: &Level<B>,
+    cursor: &mut Cursor<'_>,
+) -> Result<VariableTree, SyntaxFault>
     requires { B.is_ready level.now.below }
     ensures { Reads (rules.variable_decl (B.rules level.now.below) cursor.old) result cursor.new }
 {
@@ -257,7 +284,10 @@ fn variable_decl<B: Below>(level: &Level<B>, cursor: &mut Cursor<'_>) -> Result<
 
 /// `Activity NAME [DIMS] (ADD);` or `Activity NAME [DIMS] (ADD..ADD);`
 #[tactic(auto, unfolding(opl_grammar::specs::Declarations::activity_decl))]
-fn activity_decl<B: Below>(level: &Level<B>, cursor: &mut Cursor<'_>) -> Result<ActivityTree, SyntaxFault>
+fn activity_decl<B: Below>(
+    level: &Level<B>,
+    cursor: &mut Cursor<'_>,
+) -> Result<ActivityTree, SyntaxFault>
     requires { B.is_ready level.now.below }
     ensures { Reads (rules.activity_decl (B.rules level.now.below) cursor.old) result cursor.new }
 {
@@ -295,7 +325,10 @@ fn unary_decl<B: Below>(level: &Level<B>, cursor: &mut Cursor<'_>) -> Result<Una
 
 /// `DiscreteResource NAME [DIMS] (ADD);`
 #[tactic(auto, unfolding(opl_grammar::specs::Declarations::discrete_decl))]
-fn discrete_decl<B: Below>(level: &Level<B>, cursor: &mut Cursor<'_>) -> Result<DiscreteTree, SyntaxFault>
+fn discrete_decl<B: Below>(
+    level: &Level<B>,
+    cursor: &mut Cursor<'_>,
+) -> Result<DiscreteTree, SyntaxFault>
     requires { B.is_ready level.now.below }
     ensures { Reads (rules.discrete_decl (B.rules level.now.below) cursor.old) result cursor.new }
 {
@@ -318,7 +351,10 @@ fn discrete_decl<B: Below>(level: &Level<B>, cursor: &mut Cursor<'_>) -> Result<
 
 /// `scheduleOrigin = ADD;` or `scheduleHorizon = ADD;`
 #[tactic(auto, unfolding(opl_grammar::specs::Declarations::schedule_decl))]
-fn schedule_decl<B: Below>(level: &Level<B>, cursor: &mut Cursor<'_>) -> Result<ScheduleTree, SyntaxFault>
+fn schedule_decl<B: Below>(
+    level: &Level<B>,
+    cursor: &mut Cursor<'_>,
+) -> Result<ScheduleTree, SyntaxFault>
     requires { B.is_ready level.now.below }
     ensures { Reads (rules.schedule_decl (B.rules level.now.below) cursor.old) result cursor.new }
 {
@@ -332,7 +368,10 @@ fn schedule_decl<B: Below>(level: &Level<B>, cursor: &mut Cursor<'_>) -> Result<
 
 /// An activity, a resource or an end of the schedule.
 #[tactic(auto, unfolding(opl_grammar::specs::Declarations::scheduled_decl))]
-fn scheduled_decl<B: Below>(level: &Level<B>, cursor: &mut Cursor<'_>) -> Result<DeclTree, SyntaxFault>
+fn scheduled_decl<B: Below>(
+    level: &Level<B>,
+    cursor: &mut Cursor<'_>,
+) -> Result<DeclTree, SyntaxFault>
     requires { B.is_ready level.now.below }
     ensures { Reads (rules.scheduled_decl (B.rules level.now.below) cursor.old) result cursor.new }
 {
@@ -387,7 +426,9 @@ struct DeclRule<'l, B> {
 
 impl<'l, B: Below> Part<DeclTree> for DeclRule<'l, B> {
     ghost begins = { λ _. tables.starts_decl };
+
     ghost part = { λ d. rules.decl (B.rules d.level.now.below) };
+
     ghost is_ready = { λ d. B.is_ready d.level.now.below };
 
     fn starts(&self, cursor: &Cursor<'_>) -> bool {

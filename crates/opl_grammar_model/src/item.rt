@@ -19,6 +19,7 @@ use opl_token::Sign;
 /// The phrases that stand behind a token that opens a level. Each is given the place of that token.
 pub trait Inner {
     ghost rules: { Self → ItemRules };
+
     ghost is_ready: { Self → Type 0 };
 
     /// Behind `{`.
@@ -27,12 +28,20 @@ pub trait Inner {
         ensures { Reads ((rules self.now).items at cursor.old) result cursor.new };
 
     /// Behind `forall`.
-    fn for_all(&self, cursor: &mut Cursor<'_>, at: u32) -> Result<(Boxed<ParamsTree>, Boxed<ItemTree>), SyntaxFault>
+    fn for_all(
+        &self,
+        cursor: &mut Cursor<'_>,
+        at: u32,
+    ) -> Result<(Boxed<ParamsTree>, Boxed<ItemTree>), SyntaxFault>
         requires { is_ready self.now }
         ensures { Reads ((rules self.now).for_all at cursor.old) result cursor.new };
 
     /// Behind `if`.
-    fn branches(&self, cursor: &mut Cursor<'_>, at: u32) -> Result<(ExprTree, ItemsTree, Option<ItemsTree>), SyntaxFault>
+    fn branches(
+        &self,
+        cursor: &mut Cursor<'_>,
+        at: u32,
+    ) -> Result<(ExprTree, ItemsTree, Option<ItemsTree>), SyntaxFault>
         requires { is_ready self.now }
         ensures { Reads ((rules self.now).branches at cursor.old) result cursor.new };
 }
@@ -87,7 +96,12 @@ impl<B: Below, I: Inner> Items<B, I> {
     }
 
     /// `precedes POST`, where what stands before is just a post
-    fn precedes(&self, cursor: &mut Cursor<'_>, at: u32, before: Option<PostTree>) -> Result<ItemTree, SyntaxFault>
+    fn precedes(
+        &self,
+        cursor: &mut Cursor<'_>,
+        at: u32,
+        before: Option<PostTree>,
+    ) -> Result<ItemTree, SyntaxFault>
         requires level { B.is_ready self.now.level.below }
         requires inner { I.is_ready self.now.inner }
         ensures { Reads (rules.precedes (B.rules self.now.level.below) (I.rules self.now.inner) at before cursor.old) result cursor.new }
@@ -116,7 +130,12 @@ impl<B: Below, I: Inner> Items<B, I> {
 
     /// `requires NAME`, with `(ADD)` before the name and subscripts behind it where they are written
     #[tactic(auto, unfolding(opl_grammar::specs::Items::requires_tree))]
-    fn requires_tree(&self, cursor: &mut Cursor<'_>, at: u32, activity: PostTree) -> Result<RequiresTree, SyntaxFault>
+    fn requires_tree(
+        &self,
+        cursor: &mut Cursor<'_>,
+        at: u32,
+        activity: PostTree,
+    ) -> Result<RequiresTree, SyntaxFault>
         requires level { B.is_ready self.now.level.below }
         requires inner { I.is_ready self.now.inner }
         ensures { Reads (rules.requires_tree (B.rules self.now.level.below) (I.rules self.now.inner) at activity cursor.old) result cursor.new }
@@ -143,22 +162,30 @@ impl<B: Below, I: Inner> Items<B, I> {
     }
 
     /// The same, where what stands before is just a post.
-    fn required(&self, cursor: &mut Cursor<'_>, at: u32, activity: Option<PostTree>) -> Result<ItemTree, SyntaxFault>
+    fn required(
+        &self,
+        cursor: &mut Cursor<'_>,
+        at: u32,
+        activity: Option<PostTree>,
+    ) -> Result<ItemTree, SyntaxFault>
         requires level { B.is_ready self.now.level.below }
         requires inner { I.is_ready self.now.inner }
         ensures { Reads (rules.required (B.rules self.now.level.below) (I.rules self.now.inner) at activity cursor.old) result cursor.new }
     {
         match activity {
-            Some(activity) => Ok(ItemTree::Requires(self.requires_tree(
-                cursor, at, activity,
-            )?)),
+            Some(activity) => Ok(ItemTree::Requires(self.requires_tree(cursor, at, activity)?)),
             None => Err(cursor.refuse()),
         }
     }
 
     /// What an item that begins with this expression at this place is.
     #[tactic(auto, unfolding(opl_grammar::specs::Items::stated_of))]
-    fn stated_of(&self, cursor: &mut Cursor<'_>, at: u32, t: ExprTree) -> Result<ItemTree, SyntaxFault>
+    fn stated_of(
+        &self,
+        cursor: &mut Cursor<'_>,
+        at: u32,
+        t: ExprTree,
+    ) -> Result<ItemTree, SyntaxFault>
         requires level { B.is_ready self.now.level.below }
         requires inner { I.is_ready self.now.inner }
         ensures { Reads (rules.stated_of (B.rules self.now.level.below) (I.rules self.now.inner) at t cursor.old) result cursor.new }
@@ -231,7 +258,10 @@ impl<B: Below, I: Inner> Items<B, I> {
 
     /// `(PARAMS) ITEM`
     #[tactic(auto, unfolding(opl_grammar::specs::Items::quantified))]
-    pub fn quantified(&self, cursor: &mut Cursor<'_>) -> Result<(Boxed<ParamsTree>, Boxed<ItemTree>), SyntaxFault>
+    pub fn quantified(
+        &self,
+        cursor: &mut Cursor<'_>,
+    ) -> Result<(Boxed<ParamsTree>, Boxed<ItemTree>), SyntaxFault>
         requires level { B.is_ready self.now.level.below }
         requires inner { I.is_ready self.now.inner }
         ensures { Reads (rules.quantified (B.rules self.now.level.below) (I.rules self.now.inner) cursor.old) result cursor.new }
@@ -254,7 +284,10 @@ impl<B: Below, I: Inner> Items<B, I> {
 
     /// `EXPR then ITEMS endif`, or with `else ITEMS` before `endif`
     #[tactic(auto, unfolding(opl_grammar::specs::Items::branches))]
-    pub fn branches(&self, cursor: &mut Cursor<'_>) -> Result<(ExprTree, ItemsTree, Option<ItemsTree>), SyntaxFault>
+    pub fn branches(
+        &self,
+        cursor: &mut Cursor<'_>,
+    ) -> Result<(ExprTree, ItemsTree, Option<ItemsTree>), SyntaxFault>
         requires level { B.is_ready self.now.level.below }
         requires inner { I.is_ready self.now.inner }
         ensures { Reads (rules.branches (B.rules self.now.level.below) (I.rules self.now.inner) cursor.old) result cursor.new }
@@ -319,7 +352,9 @@ impl<B: Below, I: Inner> Items<B, I> {
 
 impl<B: Below, I: Inner> Part<ItemTree> for Items<B, I> {
     ghost begins = { λ _. tables.starts_item };
+
     ghost part = { λ l. rules.item (B.rules l.level.below) (I.rules l.inner) };
+
     ghost is_ready = { λ l. B.is_ready l.level.below × I.is_ready l.inner };
 
     fn starts(&self, cursor: &Cursor<'_>) -> bool {

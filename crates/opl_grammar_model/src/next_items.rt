@@ -21,9 +21,16 @@ pub struct NextItems<F> {
     pub read: F,
 }
 
-impl<F: Fn(Global, &mut Cursor<'_>, u32, u32, WantedItems) -> Result<FoundItems, SyntaxFault>> NextItems<F> {
+impl<
+    F: Fn(Global, &mut Cursor<'_>, u32, u32, WantedItems) -> Result<FoundItems, SyntaxFault>,
+> NextItems<F> {
     /// What is wanted behind the token at this place.
-    fn ask(&self, cursor: &mut Cursor<'_>, at: u32, wanted: WantedItems) -> Result<FoundItems, SyntaxFault>
+    fn ask(
+        &self,
+        cursor: &mut Cursor<'_>,
+        at: u32,
+        wanted: WantedItems,
+    ) -> Result<FoundItems, SyntaxFault>
         requires { ItemsNest self.now.levels (F.pre self.now.read) (F.post self.now.read) }
         ensures { Reads (spec.read self.now.levels at wanted cursor.old) result cursor.new }
     {
@@ -31,8 +38,10 @@ impl<F: Fn(Global, &mut Cursor<'_>, u32, u32, WantedItems) -> Result<FoundItems,
     }
 }
 
-impl<F: Fn(Global, &mut Cursor<'_>, u32, u32, WantedItems) -> Result<FoundItems, SyntaxFault>> Inner for NextItems<F> {
+impl<F: Fn(Global, &mut Cursor<'_>, u32, u32, WantedItems) -> Result<FoundItems, SyntaxFault>> Inner
+    for NextItems<F> {
     ghost rules = { λ n. rules.item_rules n.levels };
+
     ghost is_ready = { λ n. ItemsNest n.levels (F.pre n.read) (F.post n.read) };
 
     #[tactic(auto, unfolding(crate::specs::ItemNests::read))]
@@ -44,7 +53,11 @@ impl<F: Fn(Global, &mut Cursor<'_>, u32, u32, WantedItems) -> Result<FoundItems,
     }
 
     #[tactic(auto, unfolding(crate::specs::ItemNests::read))]
-    fn for_all(&self, cursor: &mut Cursor<'_>, at: u32) -> Result<(Boxed<ParamsTree>, Boxed<ItemTree>), SyntaxFault> {
+    fn for_all(
+        &self,
+        cursor: &mut Cursor<'_>,
+        at: u32,
+    ) -> Result<(Boxed<ParamsTree>, Boxed<ItemTree>), SyntaxFault> {
         match self.ask(cursor, at, WantedItems::ForAll)? {
             FoundItems::ForAll(first, second) => Ok((first, second)),
             _ => unreachable!(),
@@ -52,7 +65,11 @@ impl<F: Fn(Global, &mut Cursor<'_>, u32, u32, WantedItems) -> Result<FoundItems,
     }
 
     #[tactic(auto, unfolding(crate::specs::ItemNests::read))]
-    fn branches(&self, cursor: &mut Cursor<'_>, at: u32) -> Result<(ExprTree, ItemsTree, Option<ItemsTree>), SyntaxFault> {
+    fn branches(
+        &self,
+        cursor: &mut Cursor<'_>,
+        at: u32,
+    ) -> Result<(ExprTree, ItemsTree, Option<ItemsTree>), SyntaxFault> {
         match self.ask(cursor, at, WantedItems::Branches)? {
             FoundItems::Branches(first, second, third) => Ok((first, second, third)),
             _ => unreachable!(),
@@ -63,7 +80,12 @@ impl<F: Fn(Global, &mut Cursor<'_>, u32, u32, WantedItems) -> Result<FoundItems,
 impl<B: Below, I: Inner> Items<B, I> {
     /// What is wanted behind the token at this place.
     #[tactic(auto, unfolding(opl_grammar::specs::Items::item_level))]
-    fn one_of(&self, cursor: &mut Cursor<'_>, wanted: WantedItems, at: u32) -> Result<FoundItems, SyntaxFault>
+    fn one_of(
+        &self,
+        cursor: &mut Cursor<'_>,
+        wanted: WantedItems,
+        at: u32,
+    ) -> Result<FoundItems, SyntaxFault>
         requires level { B.is_ready self.now.level.below }
         requires inner { I.is_ready self.now.inner }
         ensures { Reads (spec.one_of (rules.item_level (B.rules self.now.level.below) (I.rules self.now.inner)) at wanted cursor.old) result cursor.new }

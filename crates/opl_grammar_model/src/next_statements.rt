@@ -21,9 +21,22 @@ pub struct NextStatements<F> {
     pub read: F,
 }
 
-impl<F: Fn(Global, &mut Cursor<'_>, u32, u32, WantedStatements) -> Result<FoundStatements, SyntaxFault>> NextStatements<F> {
+impl<
+    F: Fn(
+        Global,
+        &mut Cursor<'_>,
+        u32,
+        u32,
+        WantedStatements,
+    ) -> Result<FoundStatements, SyntaxFault>,
+> NextStatements<F> {
     /// What is wanted behind the token at this place.
-    fn ask(&self, cursor: &mut Cursor<'_>, at: u32, wanted: WantedStatements) -> Result<FoundStatements, SyntaxFault>
+    fn ask(
+        &self,
+        cursor: &mut Cursor<'_>,
+        at: u32,
+        wanted: WantedStatements,
+    ) -> Result<FoundStatements, SyntaxFault>
         requires { StatementsNest self.now.levels (F.pre self.now.read) (F.post self.now.read) }
         ensures { Reads (spec.read self.now.levels at wanted cursor.old) result cursor.new }
     {
@@ -31,8 +44,17 @@ impl<F: Fn(Global, &mut Cursor<'_>, u32, u32, WantedStatements) -> Result<FoundS
     }
 }
 
-impl<F: Fn(Global, &mut Cursor<'_>, u32, u32, WantedStatements) -> Result<FoundStatements, SyntaxFault>> Beneath for NextStatements<F> {
+impl<
+    F: Fn(
+        Global,
+        &mut Cursor<'_>,
+        u32,
+        u32,
+        WantedStatements,
+    ) -> Result<FoundStatements, SyntaxFault>,
+> Beneath for NextStatements<F> {
     ghost rules = { λ n. rules.statement_rules n.levels };
+
     ghost is_ready = { λ n. StatementsNest n.levels (F.pre n.read) (F.post n.read) };
 
     #[tactic(auto, unfolding(crate::specs::StatementNests::read))]
@@ -44,7 +66,11 @@ impl<F: Fn(Global, &mut Cursor<'_>, u32, u32, WantedStatements) -> Result<FoundS
     }
 
     #[tactic(auto, unfolding(crate::specs::StatementNests::read))]
-    fn alternatives(&self, cursor: &mut Cursor<'_>, at: u32) -> Result<(StatementsTree, StatementsTree, Seq<StatementsTree>), SyntaxFault> {
+    fn alternatives(
+        &self,
+        cursor: &mut Cursor<'_>,
+        at: u32,
+    ) -> Result<(StatementsTree, StatementsTree, Seq<StatementsTree>), SyntaxFault> {
         match self.ask(cursor, at, WantedStatements::Alternatives)? {
             FoundStatements::Alternatives(first, second, third) => Ok((first, second, third)),
             _ => unreachable!(),
@@ -52,7 +78,11 @@ impl<F: Fn(Global, &mut Cursor<'_>, u32, u32, WantedStatements) -> Result<FoundS
     }
 
     #[tactic(auto, unfolding(crate::specs::StatementNests::read))]
-    fn branch(&self, cursor: &mut Cursor<'_>, at: u32) -> Result<(Boxed<OrderedParamsTree>, Boxed<StatementTree>), SyntaxFault> {
+    fn branch(
+        &self,
+        cursor: &mut Cursor<'_>,
+        at: u32,
+    ) -> Result<(Boxed<OrderedParamsTree>, Boxed<StatementTree>), SyntaxFault> {
         match self.ask(cursor, at, WantedStatements::Branch)? {
             FoundStatements::Branch(first, second) => Ok((first, second)),
             _ => unreachable!(),
@@ -60,7 +90,11 @@ impl<F: Fn(Global, &mut Cursor<'_>, u32, u32, WantedStatements) -> Result<FoundS
     }
 
     #[tactic(auto, unfolding(crate::specs::StatementNests::read))]
-    fn statement(&self, cursor: &mut Cursor<'_>, at: u32) -> Result<Boxed<StatementTree>, SyntaxFault> {
+    fn statement(
+        &self,
+        cursor: &mut Cursor<'_>,
+        at: u32,
+    ) -> Result<Boxed<StatementTree>, SyntaxFault> {
         match self.ask(cursor, at, WantedStatements::Statement)? {
             FoundStatements::Statement(found) => Ok(found),
             _ => unreachable!(),
@@ -68,7 +102,11 @@ impl<F: Fn(Global, &mut Cursor<'_>, u32, u32, WantedStatements) -> Result<FoundS
     }
 
     #[tactic(auto, unfolding(crate::specs::StatementNests::read))]
-    fn repeated(&self, cursor: &mut Cursor<'_>, at: u32) -> Result<(ExprTree, Boxed<StatementTree>), SyntaxFault> {
+    fn repeated(
+        &self,
+        cursor: &mut Cursor<'_>,
+        at: u32,
+    ) -> Result<(ExprTree, Boxed<StatementTree>), SyntaxFault> {
         match self.ask(cursor, at, WantedStatements::Loop)? {
             FoundStatements::Loop(first, second) => Ok((first, second)),
             _ => unreachable!(),
@@ -76,7 +114,11 @@ impl<F: Fn(Global, &mut Cursor<'_>, u32, u32, WantedStatements) -> Result<FoundS
     }
 
     #[tactic(auto, unfolding(crate::specs::StatementNests::read))]
-    fn choice(&self, cursor: &mut Cursor<'_>, at: u32) -> Result<(ExprTree, StatementsTree, Option<StatementsTree>), SyntaxFault> {
+    fn choice(
+        &self,
+        cursor: &mut Cursor<'_>,
+        at: u32,
+    ) -> Result<(ExprTree, StatementsTree, Option<StatementsTree>), SyntaxFault> {
         match self.ask(cursor, at, WantedStatements::Choice)? {
             FoundStatements::Choice(first, second, third) => Ok((first, second, third)),
             _ => unreachable!(),
@@ -87,13 +129,20 @@ impl<F: Fn(Global, &mut Cursor<'_>, u32, u32, WantedStatements) -> Result<FoundS
 impl<B: Below, I: Beneath> Statements<B, I> {
     /// What is wanted behind the token at this place.
     #[tactic(auto, unfolding(opl_grammar::specs::Search::statement_level))]
-    fn one_of(&self, cursor: &mut Cursor<'_>, wanted: WantedStatements, at: u32) -> Result<FoundStatements, SyntaxFault>
+    fn one_of(
+        &self,
+        cursor: &mut Cursor<'_>,
+        wanted: WantedStatements,
+        at: u32,
+    ) -> Result<FoundStatements, SyntaxFault>
         requires level { B.is_ready self.now.level.below }
         requires inner { I.is_ready self.now.inner }
         ensures { Reads (spec.one_of (rules.statement_level (B.rules self.now.level.below) (I.rules self.now.inner)) at wanted cursor.old) result cursor.new }
     {
         match wanted {
-            WantedStatements::Statements => Ok(FoundStatements::Statements(self.statements(cursor)?)),
+            WantedStatements::Statements => Ok(FoundStatements::Statements(self.statements(
+                cursor,
+            )?)),
             WantedStatements::Alternatives => {
                 let (first, second, rest) = self.alternatives(cursor)?;
                 Ok(FoundStatements::Alternatives(first, second, rest))

@@ -19,6 +19,7 @@ use opl_token::Sign;
 /// The phrases that stand behind a token that opens a level. Each is given the place of that token.
 pub trait Beneath {
     ghost rules: { Self → StatementRules };
+
     ghost is_ready: { Self → Type 0 };
 
     /// Behind `{`.
@@ -27,27 +28,47 @@ pub trait Beneath {
         ensures { Reads ((rules self.now).statements at cursor.old) result cursor.new };
 
     /// Behind `try`.
-    fn alternatives(&self, cursor: &mut Cursor<'_>, at: u32) -> Result<(StatementsTree, StatementsTree, Seq<StatementsTree>), SyntaxFault>
+    fn alternatives(
+        &self,
+        cursor: &mut Cursor<'_>,
+        at: u32,
+    ) -> Result<(StatementsTree, StatementsTree, Seq<StatementsTree>), SyntaxFault>
         requires { is_ready self.now }
         ensures { Reads ((rules self.now).alternatives at cursor.old) result cursor.new };
 
     /// Behind the word of a statement with parameters.
-    fn branch(&self, cursor: &mut Cursor<'_>, at: u32) -> Result<(Boxed<OrderedParamsTree>, Boxed<StatementTree>), SyntaxFault>
+    fn branch(
+        &self,
+        cursor: &mut Cursor<'_>,
+        at: u32,
+    ) -> Result<(Boxed<OrderedParamsTree>, Boxed<StatementTree>), SyntaxFault>
         requires { is_ready self.now }
         ensures { Reads ((rules self.now).branch at cursor.old) result cursor.new };
 
     /// Behind `once`.
-    fn statement(&self, cursor: &mut Cursor<'_>, at: u32) -> Result<Boxed<StatementTree>, SyntaxFault>
+    fn statement(
+        &self,
+        cursor: &mut Cursor<'_>,
+        at: u32,
+    ) -> Result<Boxed<StatementTree>, SyntaxFault>
         requires { is_ready self.now }
         ensures { Reads ((rules self.now).statement at cursor.old) result cursor.new };
 
     /// Behind `while`.
-    fn repeated(&self, cursor: &mut Cursor<'_>, at: u32) -> Result<(ExprTree, Boxed<StatementTree>), SyntaxFault>
+    fn repeated(
+        &self,
+        cursor: &mut Cursor<'_>,
+        at: u32,
+    ) -> Result<(ExprTree, Boxed<StatementTree>), SyntaxFault>
         requires { is_ready self.now }
         ensures { Reads ((rules self.now).repeated at cursor.old) result cursor.new };
 
     /// Behind `if`.
-    fn choice(&self, cursor: &mut Cursor<'_>, at: u32) -> Result<(ExprTree, StatementsTree, Option<StatementsTree>), SyntaxFault>
+    fn choice(
+        &self,
+        cursor: &mut Cursor<'_>,
+        at: u32,
+    ) -> Result<(ExprTree, StatementsTree, Option<StatementsTree>), SyntaxFault>
         requires { is_ready self.now }
         ensures { Reads ((rules self.now).choice at cursor.old) result cursor.new };
 }
@@ -154,7 +175,12 @@ impl<B: Below, I: Beneath> Statements<B, I> {
     }
 
     /// `precedes POST`, where what stands before is just a post
-    fn posted_precedes(&self, cursor: &mut Cursor<'_>, at: u32, before: Option<PostTree>) -> Result<StatementTree, SyntaxFault>
+    fn posted_precedes(
+        &self,
+        cursor: &mut Cursor<'_>,
+        at: u32,
+        before: Option<PostTree>,
+    ) -> Result<StatementTree, SyntaxFault>
         requires level { B.is_ready self.now.level.below }
         requires inner { I.is_ready self.now.inner }
         ensures { Reads (rules.posted_precedes (B.rules self.now.level.below) (I.rules self.now.inner) at before cursor.old) result cursor.new }
@@ -169,7 +195,12 @@ impl<B: Below, I: Beneath> Statements<B, I> {
 
     /// What a statement that begins with this expression at this place is.
     #[tactic(auto, unfolding(opl_grammar::specs::Search::posted_of))]
-    fn posted_of(&self, cursor: &mut Cursor<'_>, at: u32, t: ExprTree) -> Result<StatementTree, SyntaxFault>
+    fn posted_of(
+        &self,
+        cursor: &mut Cursor<'_>,
+        at: u32,
+        t: ExprTree,
+    ) -> Result<StatementTree, SyntaxFault>
         requires level { B.is_ready self.now.level.below }
         requires inner { I.is_ready self.now.inner }
         ensures { Reads (rules.posted_of (B.rules self.now.level.below) (I.rules self.now.inner) at t cursor.old) result cursor.new }
@@ -271,7 +302,10 @@ impl<B: Below, I: Beneath> Statements<B, I> {
 
     /// `STATEMENTS | STATEMENTS | .. endtry`
     #[tactic(auto, unfolding(opl_grammar::specs::Search::alternatives))]
-    pub fn alternatives(&self, cursor: &mut Cursor<'_>) -> Result<(StatementsTree, StatementsTree, Seq<StatementsTree>), SyntaxFault>
+    pub fn alternatives(
+        &self,
+        cursor: &mut Cursor<'_>,
+    ) -> Result<(StatementsTree, StatementsTree, Seq<StatementsTree>), SyntaxFault>
         requires level { B.is_ready self.now.level.below }
         requires inner { I.is_ready self.now.inner }
         ensures { Reads (rules.alternatives (B.rules self.now.level.below) (I.rules self.now.inner) cursor.old) result cursor.new }
@@ -299,7 +333,10 @@ impl<B: Below, I: Beneath> Statements<B, I> {
 
     /// `(PARAMS) STATEMENT`
     #[tactic(auto, unfolding(opl_grammar::specs::Search::branch))]
-    pub fn branch(&self, cursor: &mut Cursor<'_>) -> Result<(Boxed<OrderedParamsTree>, Boxed<StatementTree>), SyntaxFault>
+    pub fn branch(
+        &self,
+        cursor: &mut Cursor<'_>,
+    ) -> Result<(Boxed<OrderedParamsTree>, Boxed<StatementTree>), SyntaxFault>
         requires level { B.is_ready self.now.level.below }
         requires inner { I.is_ready self.now.inner }
         ensures { Reads (rules.branch (B.rules self.now.level.below) (I.rules self.now.inner) cursor.old) result cursor.new }
@@ -311,7 +348,10 @@ impl<B: Below, I: Beneath> Statements<B, I> {
 
     /// `EXPR do STATEMENT`
     #[tactic(auto, unfolding(opl_grammar::specs::Search::repeated))]
-    pub fn repeated(&self, cursor: &mut Cursor<'_>) -> Result<(ExprTree, Boxed<StatementTree>), SyntaxFault>
+    pub fn repeated(
+        &self,
+        cursor: &mut Cursor<'_>,
+    ) -> Result<(ExprTree, Boxed<StatementTree>), SyntaxFault>
         requires level { B.is_ready self.now.level.below }
         requires inner { I.is_ready self.now.inner }
         ensures { Reads (rules.repeated (B.rules self.now.level.below) (I.rules self.now.inner) cursor.old) result cursor.new }
@@ -335,7 +375,10 @@ impl<B: Below, I: Beneath> Statements<B, I> {
 
     /// `EXPR then STATEMENTS endif`, or with `else STATEMENTS` before `endif`
     #[tactic(auto, unfolding(opl_grammar::specs::Search::choice))]
-    pub fn choice(&self, cursor: &mut Cursor<'_>) -> Result<(ExprTree, StatementsTree, Option<StatementsTree>), SyntaxFault>
+    pub fn choice(
+        &self,
+        cursor: &mut Cursor<'_>,
+    ) -> Result<(ExprTree, StatementsTree, Option<StatementsTree>), SyntaxFault>
         requires level { B.is_ready self.now.level.below }
         requires inner { I.is_ready self.now.inner }
         ensures { Reads (rules.choice (B.rules self.now.level.below) (I.rules self.now.inner) cursor.old) result cursor.new }
@@ -369,7 +412,9 @@ impl<B: Below, I: Beneath> Statements<B, I> {
 
 impl<B: Below, I: Beneath> Part<StatementTree> for Statements<B, I> {
     ghost begins = { λ _. tables.starts_statement };
+
     ghost part = { λ l. rules.statement (B.rules l.level.below) (I.rules l.inner) };
+
     ghost is_ready = { λ l. B.is_ready l.level.below × I.is_ready l.inner };
 
     fn starts(&self, cursor: &Cursor<'_>) -> bool {
@@ -383,6 +428,7 @@ impl<B: Below, I: Beneath> Part<StatementTree> for Statements<B, I> {
 
 impl<B: Below, I: Beneath> Phrase<StatementsTree> for Statements<B, I> {
     ghost phrase = { λ l. rules.statements (B.rules l.level.below) (I.rules l.inner) };
+
     ghost is_ready = { λ l. B.is_ready l.level.below × I.is_ready l.inner };
 
     fn phrase(&self, cursor: &mut Cursor<'_>) -> Result<StatementsTree, SyntaxFault> {

@@ -30,20 +30,62 @@ fn outcome(rt: &impl Abort, alloc: Global, text: &[u8]) -> Outcome {
 
 static TEXTS: [(&[u8], Outcome); 46] = [
     // every rule
-    (b"int n = 3; {int} S = {1, 2}; int d[S] = ...; T t = <1, {2}>; solve { };", Outcome::Read),
-    (b"range R 1..n + 1; enum E {a, b}; enum F ...; enum G = ...; struct P { int x; {E} y; }; solve { };", Outcome::Read),
-    (b"var int x[i in R, E] in 0..i; var R y; Activity a[R](2); Activity b(1..n); solve { };", Outcome::Read),
-    (b"UnaryResource u; DiscreteResource r[i in R](i); scheduleOrigin = 0; scheduleHorizon = 9; solve { };", Outcome::Read),
-    (b"minimize sum(i in R, <j, k> in S & ordered l, m in 1..2 : i < 2) -x[i] * sum(p in R) 2 subject to { x; };", Outcome::Read),
-    (b"maximize 2 * -3 mod x.end div y[1, 2].sum subject to { { } ; { x } };", Outcome::Read),
-    (b"solve { a <=> b => c => d \\/ e & not not f <> g; x in 1..2; x in S };", Outcome::Read),
-    (b"solve { (a) + abs(-b) - card({i | i in R}) >= 1; alldifferent([x, y]); t = #[1:2, 3:4]#; s = #[]#; e = [] };", Outcome::Read),
-    (b"solve { forall(i in R) if i < 2 then x; y; else z endif; if 1 < 2 then endif };", Outcome::Read),
-    (b"solve { a[1] precedes b; a requires u; a requires (2) r[1, 2]; };", Outcome::Read),
-    (b"solve { }; search { generate(x); rank(u); { once x = 1 }; };", Outcome::Read),
-    (b"solve { }; search { tryall(i in R ordered by increasing dsize(x[i])) x[i] = 1; a precedes b; };", Outcome::Read),
-    (b"solve { }; search { try x = 1 | x = 2; | endtry; while not bound(x) do x <> dmin(x); };", Outcome::Read),
-    (b"solve { }; search { if dmax(x) > 1 then x < 1 else x > 1; endif; forall(i in R) select(j in R) once y };", Outcome::Read),
+    (
+        b"int n = 3; {int} S = {1, 2}; int d[S] = ...; T t = <1, {2}>; solve { };",
+        Outcome::Read,
+    ),
+    (
+        b"range R 1..n + 1; enum E {a, b}; enum F ...; enum G = ...; struct P { int x; {E} y; }; solve { };",
+        Outcome::Read,
+    ),
+    (
+        b"var int x[i in R, E] in 0..i; var R y; Activity a[R](2); Activity b(1..n); solve { };",
+        Outcome::Read,
+    ),
+    (
+        b"UnaryResource u; DiscreteResource r[i in R](i); scheduleOrigin = 0; scheduleHorizon = 9; solve { };",
+        Outcome::Read,
+    ),
+    (
+        b"minimize sum(i in R, <j, k> in S & ordered l, m in 1..2 : i < 2) -x[i] * sum(p in R) 2 subject to { x; };",
+        Outcome::Read,
+    ),
+    (
+        b"maximize 2 * -3 mod x.end div y[1, 2].sum subject to { { } ; { x } };",
+        Outcome::Read,
+    ),
+    (
+        b"solve { a <=> b => c => d \\/ e & not not f <> g; x in 1..2; x in S };",
+        Outcome::Read,
+    ),
+    (
+        b"solve { (a) + abs(-b) - card({i | i in R}) >= 1; alldifferent([x, y]); t = #[1:2, 3:4]#; s = #[]#; e = [] };",
+        Outcome::Read,
+    ),
+    (
+        b"solve { forall(i in R) if i < 2 then x; y; else z endif; if 1 < 2 then endif };",
+        Outcome::Read,
+    ),
+    (
+        b"solve { a[1] precedes b; a requires u; a requires (2) r[1, 2]; };",
+        Outcome::Read,
+    ),
+    (
+        b"solve { }; search { generate(x); rank(u); { once x = 1 }; };",
+        Outcome::Read,
+    ),
+    (
+        b"solve { }; search { tryall(i in R ordered by increasing dsize(x[i])) x[i] = 1; a precedes b; };",
+        Outcome::Read,
+    ),
+    (
+        b"solve { }; search { try x = 1 | x = 2; | endtry; while not bound(x) do x <> dmin(x); };",
+        Outcome::Read,
+    ),
+    (
+        b"solve { }; search { if dmax(x) > 1 then x < 1 else x > 1; endif; forall(i in R) select(j in R) once y };",
+        Outcome::Read,
+    ),
     // signs and words that do not fit
     (b"", Outcome::Syntax(0)),
     (b"solve { a < b < c };", Outcome::Syntax(14)),
@@ -67,7 +109,10 @@ static TEXTS: [(&[u8], Outcome); 46] = [
     (b"solve { in = 1 };", Outcome::Syntax(8)),
     (b"solve { <1> = <>; };", Outcome::Syntax(14)),
     (b"solve { forall(i) x };", Outcome::Syntax(16)),
-    (b"solve { forall(i, j in R, k in R : k < 1, l in R) x };", Outcome::Syntax(40)),
+    (
+        b"solve { forall(i, j in R, k in R : k < 1, l in R) x };",
+        Outcome::Syntax(40),
+    ),
     (b"int x[i + 1 in R] = 1; solve { };", Outcome::Syntax(12)),
     (b"int x[i in R in S] = 1; solve { };", Outcome::Syntax(13)),
     (b"int x = 1 solve { };", Outcome::Syntax(10)),
@@ -75,7 +120,10 @@ static TEXTS: [(&[u8], Outcome); 46] = [
     (b"enum E { }; solve { };", Outcome::Syntax(9)),
     (b"var {int} x; solve { };", Outcome::Syntax(4)),
     (b"solve { }; search { try x endtry };", Outcome::Syntax(26)),
-    (b"solve { }; search { tryall(i in R ordered increasing i) x };", Outcome::Syntax(42)),
+    (
+        b"solve { }; search { tryall(i in R ordered increasing i) x };",
+        Outcome::Syntax(42),
+    ),
     (b"solve { }; search { x requires u };", Outcome::Syntax(22)),
 ];
 
@@ -112,6 +160,12 @@ fn levels(rt: HostRuntime) {
     assert_eq!(rt; nested(&rt, rt.alloc(), b"(", 256), Outcome::TooDeep(263));
     assert_eq!(rt; nested(&rt, rt.alloc(), b"{", 255), Outcome::Syntax(263));
     assert_eq!(rt; nested(&rt, rt.alloc(), b"{", 300), Outcome::TooDeep(263));
-    assert_eq!(rt; nested(&rt, rt.alloc(), b"not ", 300), Outcome::TooDeep(1028));
-    assert_eq!(rt; nested(&rt, rt.alloc(), b"if x then ", 300), Outcome::TooDeep(2558));
+    assert_eq!(rt;
+        nested(&rt, rt.alloc(), b"not ", 300),
+        Outcome::TooDeep(1028)
+    );
+    assert_eq!(rt;
+        nested(&rt, rt.alloc(), b"if x then ", 300),
+        Outcome::TooDeep(2558)
+    );
 }
