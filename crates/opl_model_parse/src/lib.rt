@@ -1,9 +1,6 @@
-//! The parser of whole models: from the tokens of a text to their tree.
+//! What holds of the trees of whole models: laws of trees, stops and levels of nesting.
 #![tactic(auto)]
 
 pub mod laws;
-mod model;
 #[cfg(test)]
 mod tests;
-
-pub use model::parse_model;

@@ -1,2 +1,0 @@
-pub mod ItemNests
-pub mod StatementNests
