@@ -10,8 +10,6 @@ mod marks;
 mod moment;
 mod outcome;
 mod ranges;
-#[cfg(test)]
-mod tests;
 
 pub use answers::{answered, answered_term};
 pub use core_ranges::CoreRanges;
