@@ -144,13 +144,12 @@ fn external_names<B: Below>(
 }
 
 /// `{NAME, NAME, ..}` or `...`
-#[tactic(auto, unfolding(opl_grammar::specs::Declarations::enum_names))]
 fn enum_names<B: Below>(
     level: &Level<B>,
     cursor: &mut Cursor<'_>,
 ) -> Result<EnumNamesTree, SyntaxFault>
     requires { B.is_ready level.now.below }
-    ensures { Reads (rules.enum_names (B.rules level.now.below) cursor.old) result cursor.new }
+    ensures { Reads (steps.either (steps.is_sign Sign.OpenBrace) (rules.listed_names (B.rules level.now.below)) (rules.external_names (B.rules level.now.below)) cursor.old) result cursor.new }
 {
     if cursor.sees_sign(Sign::OpenBrace) {
         listed_names(level, cursor)
@@ -242,13 +241,12 @@ fn bounds<B: Below>(level: &Level<B>, cursor: &mut Cursor<'_>) -> Result<BoundsT
 }
 
 /// `in ADD..ADD` or nothing
-#[tactic(auto, unfolding(opl_grammar::specs::Declarations::optional_bounds))]
 fn optional_bounds<B: Below>(
     level: &Level<B>,
     cursor: &mut Cursor<'_>,
 ) -> Result<Option<BoundsTree>, SyntaxFault>
     requires { B.is_ready level.now.below }
-    ensures { Reads (rules.optional_bounds (B.rules level.now.below) cursor.old) result cursor.new }
+    ensures { Reads (steps.maybe (steps.is_word Keyword.In) (rules.bounds (B.rules level.now.below)) cursor.old) result cursor.new }
 {
     if cursor.sees_word(Keyword::In) {
         Ok(Some(bounds(level, cursor)?))

@@ -11,7 +11,7 @@ use crate::next_statements::{NextStatements, read_statements};
 use crate::statement::{Beneath, Statements};
 use opl_grammar::Cursor;
 use opl_model_tree::{Keyword, ModelTree, SyntaxFault};
-use opl_phrase::{Below, Level, Next, read};
+use opl_phrase::{Below, Level, Next, read_phrase};
 use opl_token::Token;
 use std::alloc::Global;
 
@@ -60,7 +60,7 @@ fn whole(alloc: Global, cursor: &mut Cursor<'_>) -> Result<ModelTree, SyntaxFaul
             below: Next {
                 alloc,
                 levels,
-                read,
+                read: read_phrase,
             },
         },
         inner: NextItems {
@@ -75,7 +75,7 @@ fn whole(alloc: Global, cursor: &mut Cursor<'_>) -> Result<ModelTree, SyntaxFaul
             below: Next {
                 alloc,
                 levels,
-                read,
+                read: read_phrase,
             },
         },
         inner: NextStatements {

@@ -10,7 +10,7 @@ use crate::wanted_items::{FoundItems, WantedItems};
 use opl_grammar::Cursor;
 use opl_list::Boxed;
 use opl_model_tree::{ExprTree, ItemTree, ItemsTree, ParamsTree, SyntaxFault};
-use opl_phrase::{Below, Level, Next, read};
+use opl_phrase::{Below, Level, Next, read_phrase};
 use std::alloc::Global;
 
 /// What is read with so many levels left, by a function that reads one level.
@@ -124,7 +124,7 @@ pub fn read_items(
         below: Next {
             alloc,
             levels,
-            read,
+            read: read_phrase,
         },
     };
     let inner = NextItems {

@@ -10,7 +10,7 @@ use crate::wanted_statements::{FoundStatements, WantedStatements};
 use opl_grammar::Cursor;
 use opl_list::{Boxed, Seq};
 use opl_model_tree::{ExprTree, OrderedParamsTree, StatementTree, StatementsTree, SyntaxFault};
-use opl_phrase::{Below, Level, Next, read};
+use opl_phrase::{Below, Level, Next, read_phrase};
 use std::alloc::Global;
 
 /// What is read with so many levels left, by a function that reads one level.
@@ -187,7 +187,7 @@ pub fn read_statements(
         below: Next {
             alloc,
             levels,
-            read,
+            read: read_phrase,
         },
     };
     let inner = NextStatements {

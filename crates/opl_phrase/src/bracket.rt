@@ -31,10 +31,7 @@ fn with_first<T: Drop>(alloc: Global, first: T, rest: Seq<T>) -> Result<Seq<T>, 
 impl<B: Below> Level<B> {
     /// `(PARAMS) MUL`
     #[tactic(auto, unfolding(opl_grammar::specs::Rules::aggregated))]
-    pub fn aggregated(
-        &self,
-        cursor: &mut Cursor<'_>,
-    ) -> Result<(Boxed<ParamsTree>, Boxed<MulTree>), SyntaxFault>
+    pub fn aggregated(&self, cursor: &mut Cursor<'_>) -> Result<(Boxed<ParamsTree>, Boxed<MulTree>), SyntaxFault>
         requires { B.is_ready self.now.below }
         ensures { Reads (rules.aggregated (B.rules self.now.below) cursor.old) result cursor.new }
     {
@@ -58,11 +55,7 @@ impl<B: Below> Level<B> {
 
     /// `| PARAMS`
     #[tactic(auto, unfolding(opl_grammar::specs::Rules::described))]
-    fn described(
-        &self,
-        cursor: &mut Cursor<'_>,
-        first: Boxed<AddTree>,
-    ) -> Result<Braced, SyntaxFault>
+    fn described(&self, cursor: &mut Cursor<'_>, first: Boxed<AddTree>) -> Result<Braced, SyntaxFault>
         requires { B.is_ready self.now.below }
         ensures { Reads (rules.described (B.rules self.now.below) first cursor.old) result cursor.new }
     {
@@ -213,10 +206,7 @@ impl<B: Below> Level<B> {
 
     /// `FIELD FIELD ..`
     #[tactic(auto, unfolding(opl_grammar::specs::Rules::fields))]
-    pub fn fields(
-        &self,
-        cursor: &mut Cursor<'_>,
-    ) -> Result<(FieldTree, Seq<FieldTree>), SyntaxFault>
+    pub fn fields(&self, cursor: &mut Cursor<'_>) -> Result<(FieldTree, Seq<FieldTree>), SyntaxFault>
         requires { B.is_ready self.now.below }
         ensures { Reads (rules.fields (B.rules self.now.below) cursor.old) result cursor.new }
     {
@@ -275,7 +265,6 @@ impl<B: Below> Level<B> {
 
 impl<B: Below> Phrase<KeyedTree> for Level<B> {
     ghost phrase = { λ l. rules.keyed_part (B.rules l.below) };
-
     ghost is_ready = { λ l. B.is_ready l.below };
 
     fn phrase(&self, cursor: &mut Cursor<'_>) -> Result<KeyedTree, SyntaxFault> {
@@ -285,7 +274,6 @@ impl<B: Below> Phrase<KeyedTree> for Level<B> {
 
 impl<B: Below> Phrase<DimTree> for Level<B> {
     ghost phrase = { λ l. rules.dim (B.rules l.below) };
-
     ghost is_ready = { λ l. B.is_ready l.below };
 
     fn phrase(&self, cursor: &mut Cursor<'_>) -> Result<DimTree, SyntaxFault> {
@@ -295,9 +283,7 @@ impl<B: Below> Phrase<DimTree> for Level<B> {
 
 impl<B: Below> Part<FieldTree> for Level<B> {
     ghost begins = { λ _. tables.starts_type };
-
     ghost part = { λ l. rules.field (B.rules l.below) };
-
     ghost is_ready = { λ l. B.is_ready l.below };
 
     fn starts(&self, cursor: &Cursor<'_>) -> bool {

@@ -14,6 +14,6 @@ mod word;
 
 pub use below::{Below, Level};
 pub use just::{into_name, into_post};
-pub use next::{Next, read};
+pub use next::{Next, read_phrase};
 pub use wanted::{Found, Wanted};
 pub use word::{field_name, name};

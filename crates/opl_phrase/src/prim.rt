@@ -260,9 +260,7 @@ impl<B: Below> Level<B> {
 
 impl<B: Below> Part<SuffixTree> for Level<B> {
     ghost begins = { λ _. tables.starts_suffix };
-
     ghost part = { λ l. rules.suffix (B.rules l.below) };
-
     ghost is_ready = { λ l. B.is_ready l.below };
 
     fn starts(&self, cursor: &Cursor<'_>) -> bool {

@@ -39,7 +39,6 @@ struct NameRule {
 
 impl Phrase<NameTree> for NameRule {
     ghost phrase = { λ _. rules.name };
-
     ghost is_ready = { λ _. Unit {0} };
 
     fn phrase(&self, cursor: &mut Cursor<'_>) -> Result<NameTree, SyntaxFault> {
