@@ -1,7 +1,7 @@
 -- Capped numbers, part by part.
 use Rattle.std.proofs.Common.{◌≡◌, ◌<◌, ◌≤◌, ℕ, ◌+◌, min, max, List, length, drop, get_or, map, refl, ap, ◌∙◌, arith}
 use Rattle.std.proofs.lemmas.List.{drop_more, drop_all}
-use Rattle.opl_model_tree.specs.Depth.{greatest}
+use Rattle.opl_tree.specs.Depth.{greatest}
 use Rattle.opl_depth.specs.Capped.{capped}
 
 pub capped-zero : capped 0 ≡ 0

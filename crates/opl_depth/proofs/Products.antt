@@ -1,12 +1,12 @@
 -- How deep a product nests, with and without a last step.
 use Rattle.std.proofs.Common.{◌≡◌, ℕ, max, List, map, Option, Some, None, ap, ◌∙◌, arith}
-use Rattle.opl_model_tree.specs.declared.expression.LastStep.{LastStep}
-use Rattle.opl_model_tree.specs.declared.expression.MulStep.{MulStep}
-use Rattle.opl_model_tree.specs.declared.expression.MulTree.{MulTree}
-use Rattle.opl_model_tree.specs.declared.expression.MulTree.TheVariants as muls
-use Rattle.opl_model_tree.specs.declared.expression.SignTree.{SignTree}
-use Rattle.opl_model_tree.specs.Depth.{greatest, depth_mul, depth_sign, depth_mul_step, depth_last_step}
-use Rattle.opl_model_tree.proofs.Depth.{depth_mul-Product}
+use Rattle.opl_tree.specs.declared.expression.LastStep.{LastStep}
+use Rattle.opl_tree.specs.declared.expression.MulStep.{MulStep}
+use Rattle.opl_tree.specs.declared.expression.MulTree.{MulTree}
+use Rattle.opl_tree.specs.declared.expression.MulTree.TheVariants as muls
+use Rattle.opl_tree.specs.declared.expression.SignTree.{SignTree}
+use Rattle.opl_tree.specs.Depth.{greatest, depth_mul, depth_sign, depth_mul_step, depth_last_step}
+use Rattle.opl_tree.proofs.Depth.{depth_mul-Product}
 use Rattle.opl_depth.specs.Capped.{capped}
 use Rattle.opl_depth.proofs.Capped.{capped-max, capped-zero}
 

@@ -2,11 +2,11 @@
 ghost use Rattle.std.specs.Prelude.{◌≡◌, map};
 ghost use Rattle.std.specs.Option.{option_map};
 ghost use Rattle.opl_depth.specs.Capped.{capped};
-ghost use Rattle.opl_model_tree.specs.Depth as depth;
+ghost use Rattle.opl_tree.specs.Depth as depth;
 
 use crate::expression::{depth_add, depth_set};
 use crate::level::{deeper, one_more};
-use opl_model_tree::{
+use opl_tree::{
     ActivityTree, BoundsTree, DataTree, DeclTree, DimTree, DimsTree, DiscreteTree, EnumNamesTree,
     EnumTree, FieldTree, InitialTree, RangeTree, ScheduleTree, StructTree, TypeTree, UnaryTree,
     VariableTree,
@@ -24,7 +24,7 @@ fn depth_dims_if_any(dims: &Option<DimsTree>) -> u32
 }
 
 /// How deep a declaration nests.
-#[tactic(auto, using(opl_model_tree::proofs::Depth::decl_depth, crate::proofs::Capped::capped_parts))]
+#[tactic(auto, using(opl_tree::proofs::Depth::decl_depth, crate::proofs::Capped::capped_parts))]
 pub(crate) fn depth_decl(t: &DeclTree) -> u32
     ensures { result ≡ capped (depth.depth_decl t.now) }
 {
@@ -54,7 +54,7 @@ pub(crate) fn deepest_decls(decls: &[DeclTree]) -> u32
 }
 
 /// How deep a declaration of data nests.
-#[tactic(auto, using(opl_model_tree::proofs::Depth::data_depth, crate::proofs::Capped::capped_parts))]
+#[tactic(auto, using(opl_tree::proofs::Depth::data_depth, crate::proofs::Capped::capped_parts))]
 fn depth_data(t: &DataTree) -> u32
     ensures { result ≡ capped (depth.depth_data t.now) }
 {
@@ -65,7 +65,7 @@ fn depth_data(t: &DataTree) -> u32
 }
 
 /// How deep an initial value nests.
-#[tactic(auto, using(opl_model_tree::proofs::Depth::initial_depth, crate::proofs::Capped::capped_parts))]
+#[tactic(auto, using(opl_tree::proofs::Depth::initial_depth, crate::proofs::Capped::capped_parts))]
 fn depth_initial(t: &InitialTree) -> u32
     ensures { result ≡ capped (depth.depth_initial t.now) }
 {
@@ -77,7 +77,7 @@ fn depth_initial(t: &InitialTree) -> u32
 
 /// How deep a type nests.
 #[cycle(types)]
-#[tactic(auto, using(opl_model_tree::proofs::Depth::type_depth, crate::proofs::Capped::capped_parts))]
+#[tactic(auto, using(opl_tree::proofs::Depth::type_depth, crate::proofs::Capped::capped_parts))]
 fn depth_type(t: &TypeTree) -> u32
     ensures { result ≡ capped (depth.depth_type t.now) }
 {
@@ -89,7 +89,7 @@ fn depth_type(t: &TypeTree) -> u32
 }
 
 /// How deep dimensions nests.
-#[tactic(auto, using(opl_model_tree::proofs::Depth::dims_depth, crate::proofs::Capped::capped_parts))]
+#[tactic(auto, using(opl_tree::proofs::Depth::dims_depth, crate::proofs::Capped::capped_parts))]
 fn depth_dims(t: &DimsTree) -> u32
     ensures { result ≡ capped (depth.depth_dims t.now) }
 {
@@ -97,7 +97,7 @@ fn depth_dims(t: &DimsTree) -> u32
 }
 
 /// How deep a dimension nests.
-#[tactic(auto, using(opl_model_tree::proofs::Depth::dim_depth, crate::proofs::Capped::capped_parts))]
+#[tactic(auto, using(opl_tree::proofs::Depth::dim_depth, crate::proofs::Capped::capped_parts))]
 fn depth_dim(t: &DimTree) -> u32
     ensures { result ≡ capped (depth.depth_dim t.now) }
 {
@@ -117,7 +117,7 @@ fn deepest_dims(dims: &[DimTree]) -> u32
 }
 
 /// How deep a declaration of a range nests.
-#[tactic(auto, using(opl_model_tree::proofs::Depth::range_depth, crate::proofs::Capped::capped_parts))]
+#[tactic(auto, using(opl_tree::proofs::Depth::range_depth, crate::proofs::Capped::capped_parts))]
 fn depth_range(t: &RangeTree) -> u32
     ensures { result ≡ capped (depth.depth_range t.now) }
 {
@@ -125,7 +125,7 @@ fn depth_range(t: &RangeTree) -> u32
 }
 
 /// How deep a declaration of an enumeration nests.
-#[tactic(auto, using(opl_model_tree::proofs::Depth::enum_depth, crate::proofs::Capped::capped_parts))]
+#[tactic(auto, using(opl_tree::proofs::Depth::enum_depth, crate::proofs::Capped::capped_parts))]
 fn depth_enum(t: &EnumTree) -> u32
     ensures { result ≡ capped (depth.depth_enum t.now) }
 {
@@ -133,7 +133,7 @@ fn depth_enum(t: &EnumTree) -> u32
 }
 
 /// How deep the names of an enumeration nests.
-#[tactic(auto, using(opl_model_tree::proofs::Depth::enum_names_depth, crate::proofs::Capped::capped_parts))]
+#[tactic(auto, using(opl_tree::proofs::Depth::enum_names_depth, crate::proofs::Capped::capped_parts))]
 fn depth_enum_names(t: &EnumNamesTree) -> u32
     ensures { result ≡ capped (depth.depth_enum_names t.now) }
 {
@@ -144,7 +144,7 @@ fn depth_enum_names(t: &EnumNamesTree) -> u32
 }
 
 /// How deep a declaration of a record nests.
-#[tactic(auto, using(opl_model_tree::proofs::Depth::struct_depth, crate::proofs::Capped::capped_parts))]
+#[tactic(auto, using(opl_tree::proofs::Depth::struct_depth, crate::proofs::Capped::capped_parts))]
 fn depth_struct(t: &StructTree) -> u32
     ensures { result ≡ capped (depth.depth_struct t.now) }
 {
@@ -152,7 +152,7 @@ fn depth_struct(t: &StructTree) -> u32
 }
 
 /// How deep a field nests.
-#[tactic(auto, using(opl_model_tree::proofs::Depth::field_depth, crate::proofs::Capped::capped_parts))]
+#[tactic(auto, using(opl_tree::proofs::Depth::field_depth, crate::proofs::Capped::capped_parts))]
 fn depth_field(t: &FieldTree) -> u32
     ensures { result ≡ capped (depth.depth_field t.now) }
 {
@@ -172,7 +172,7 @@ fn deepest_fields(fields: &[FieldTree]) -> u32
 }
 
 /// How deep a declaration of a variable nests.
-#[tactic(auto, using(opl_model_tree::proofs::Depth::variable_depth, crate::proofs::Capped::capped_parts))]
+#[tactic(auto, using(opl_tree::proofs::Depth::variable_depth, crate::proofs::Capped::capped_parts))]
 fn depth_variable(t: &VariableTree) -> u32
     ensures { result ≡ capped (depth.depth_variable t.now) }
 {
@@ -184,7 +184,7 @@ fn depth_variable(t: &VariableTree) -> u32
 }
 
 /// How deep the bounds of a variable nests.
-#[tactic(auto, using(opl_model_tree::proofs::Depth::bounds_depth, crate::proofs::Capped::capped_parts))]
+#[tactic(auto, using(opl_tree::proofs::Depth::bounds_depth, crate::proofs::Capped::capped_parts))]
 fn depth_bounds(t: &BoundsTree) -> u32
     ensures { result ≡ capped (depth.depth_bounds t.now) }
 {
@@ -192,7 +192,7 @@ fn depth_bounds(t: &BoundsTree) -> u32
 }
 
 /// How deep a declaration of an activity nests.
-#[tactic(auto, using(opl_model_tree::proofs::Depth::activity_depth, crate::proofs::Capped::capped_parts))]
+#[tactic(auto, using(opl_tree::proofs::Depth::activity_depth, crate::proofs::Capped::capped_parts))]
 fn depth_activity(t: &ActivityTree) -> u32
     ensures { result ≡ capped (depth.depth_activity t.now) }
 {
@@ -207,7 +207,7 @@ fn depth_activity(t: &ActivityTree) -> u32
 }
 
 /// How deep a declaration of a unary resource nests.
-#[tactic(auto, using(opl_model_tree::proofs::Depth::unary_depth, crate::proofs::Capped::capped_parts))]
+#[tactic(auto, using(opl_tree::proofs::Depth::unary_depth, crate::proofs::Capped::capped_parts))]
 fn depth_unary(t: &UnaryTree) -> u32
     ensures { result ≡ capped (depth.depth_unary t.now) }
 {
@@ -215,7 +215,7 @@ fn depth_unary(t: &UnaryTree) -> u32
 }
 
 /// How deep a declaration of a discrete resource nests.
-#[tactic(auto, using(opl_model_tree::proofs::Depth::discrete_depth, crate::proofs::Capped::capped_parts))]
+#[tactic(auto, using(opl_tree::proofs::Depth::discrete_depth, crate::proofs::Capped::capped_parts))]
 fn depth_discrete(t: &DiscreteTree) -> u32
     ensures { result ≡ capped (depth.depth_discrete t.now) }
 {
@@ -223,7 +223,7 @@ fn depth_discrete(t: &DiscreteTree) -> u32
 }
 
 /// How deep a declaration of an end of the schedule nests.
-#[tactic(auto, using(opl_model_tree::proofs::Depth::schedule_depth, crate::proofs::Capped::capped_parts))]
+#[tactic(auto, using(opl_tree::proofs::Depth::schedule_depth, crate::proofs::Capped::capped_parts))]
 fn depth_schedule(t: &ScheduleTree) -> u32
     ensures { result ≡ capped (depth.depth_schedule t.now) }
 {

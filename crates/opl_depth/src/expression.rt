@@ -1,10 +1,10 @@
 //! How deep expressions nest.
 ghost use Rattle.std.specs.Prelude.{◌≡◌, map};
 ghost use Rattle.opl_depth.specs.Capped.{capped};
-ghost use Rattle.opl_model_tree.specs.Depth as depth;
+ghost use Rattle.opl_tree.specs.Depth as depth;
 
 use crate::level::{deeper, one_more};
-use opl_model_tree::{
+use opl_tree::{
     AddStep, AddTree, AndTree, CompareTree, ExprTree, GroupStep, GroupTree, ImpTree, KeyedTree,
     LastStep, MulStep, MulTree, NegTree, OpenTree, OrTree, ParamsTree, PatternTree, PostTree,
     PrimTree, SetTree, SignTree, SubscriptsTree, SuffixTree,
@@ -12,7 +12,7 @@ use opl_model_tree::{
 
 /// How deep an expression nests.
 #[cycle(expressions)]
-#[tactic(auto, using(opl_model_tree::proofs::Depth::expr_depth, crate::proofs::Capped::capped_parts))]
+#[tactic(auto, using(opl_tree::proofs::Depth::expr_depth, crate::proofs::Capped::capped_parts))]
 pub(crate) fn depth_expr(t: &ExprTree) -> u32
     ensures { result ≡ capped (depth.depth_expr t.now) }
 {
@@ -21,7 +21,7 @@ pub(crate) fn depth_expr(t: &ExprTree) -> u32
 
 /// How deep an implication nests.
 #[cycle(expressions)]
-#[tactic(auto, using(opl_model_tree::proofs::Depth::imp_depth, crate::proofs::Capped::capped_parts))]
+#[tactic(auto, using(opl_tree::proofs::Depth::imp_depth, crate::proofs::Capped::capped_parts))]
 fn depth_imp(t: &ImpTree) -> u32
     ensures { result ≡ capped (depth.depth_imp t.now) }
 {
@@ -47,7 +47,7 @@ fn deepest_imps(imps: &[ImpTree]) -> u32
 
 /// How deep a disjunction nests.
 #[cycle(expressions)]
-#[tactic(auto, using(opl_model_tree::proofs::Depth::or_depth, crate::proofs::Capped::capped_parts))]
+#[tactic(auto, using(opl_tree::proofs::Depth::or_depth, crate::proofs::Capped::capped_parts))]
 fn depth_or(t: &OrTree) -> u32
     ensures { result ≡ capped (depth.depth_or t.now) }
 {
@@ -56,7 +56,7 @@ fn depth_or(t: &OrTree) -> u32
 
 /// How deep a conjunction nests.
 #[cycle(expressions)]
-#[tactic(auto, using(opl_model_tree::proofs::Depth::and_depth, crate::proofs::Capped::capped_parts))]
+#[tactic(auto, using(opl_tree::proofs::Depth::and_depth, crate::proofs::Capped::capped_parts))]
 fn depth_and(t: &AndTree) -> u32
     ensures { result ≡ capped (depth.depth_and t.now) }
 {
@@ -78,7 +78,7 @@ fn deepest_ands(ands: &[AndTree]) -> u32
 
 /// How deep a negation nests.
 #[cycle(expressions)]
-#[tactic(auto, using(opl_model_tree::proofs::Depth::neg_depth, crate::proofs::Capped::capped_parts))]
+#[tactic(auto, using(opl_tree::proofs::Depth::neg_depth, crate::proofs::Capped::capped_parts))]
 fn depth_neg(t: &NegTree) -> u32
     ensures { result ≡ capped (depth.depth_neg t.now) }
 {
@@ -103,7 +103,7 @@ fn deepest_negs(negs: &[NegTree]) -> u32
 
 /// How deep a comparison nests.
 #[cycle(expressions)]
-#[tactic(auto, using(opl_model_tree::proofs::Depth::compare_depth, crate::proofs::Capped::capped_parts))]
+#[tactic(auto, using(opl_tree::proofs::Depth::compare_depth, crate::proofs::Capped::capped_parts))]
 fn depth_compare(t: &CompareTree) -> u32
     ensures { result ≡ capped (depth.depth_compare t.now) }
 {
@@ -122,7 +122,7 @@ fn depth_compare(t: &CompareTree) -> u32
 
 /// How deep a sum nests.
 #[cycle(expressions)]
-#[tactic(auto, using(opl_model_tree::proofs::Depth::add_depth, crate::proofs::Capped::capped_parts))]
+#[tactic(auto, using(opl_tree::proofs::Depth::add_depth, crate::proofs::Capped::capped_parts))]
 pub(crate) fn depth_add(t: &AddTree) -> u32
     ensures { result ≡ capped (depth.depth_add t.now) }
 {
@@ -144,7 +144,7 @@ fn deepest_adds(adds: &[AddTree]) -> u32
 
 /// How deep a step of a sum nests.
 #[cycle(expressions)]
-#[tactic(auto, using(opl_model_tree::proofs::Depth::add_step_depth, crate::proofs::Capped::capped_parts))]
+#[tactic(auto, using(opl_tree::proofs::Depth::add_step_depth, crate::proofs::Capped::capped_parts))]
 fn depth_add_step(t: &AddStep) -> u32
     ensures { result ≡ capped (depth.depth_add_step t.now) }
 {
@@ -166,7 +166,7 @@ fn deepest_add_steps(add_steps: &[AddStep]) -> u32
 
 /// How deep a product nests.
 #[cycle(expressions)]
-#[tactic(auto, using(opl_model_tree::proofs::Depth::mul_depth, crate::proofs::Capped::capped_parts))]
+#[tactic(auto, using(opl_tree::proofs::Depth::mul_depth, crate::proofs::Capped::capped_parts))]
 fn depth_mul(t: &MulTree) -> u32
     ensures { result ≡ capped (depth.depth_mul t.now) }
 {
@@ -184,7 +184,7 @@ fn depth_mul(t: &MulTree) -> u32
 
 /// How deep a step of a product nests.
 #[cycle(expressions)]
-#[tactic(auto, using(opl_model_tree::proofs::Depth::mul_step_depth, crate::proofs::Capped::capped_parts))]
+#[tactic(auto, using(opl_tree::proofs::Depth::mul_step_depth, crate::proofs::Capped::capped_parts))]
 fn depth_mul_step(t: &MulStep) -> u32
     ensures { result ≡ capped (depth.depth_mul_step t.now) }
 {
@@ -206,7 +206,7 @@ fn deepest_mul_steps(mul_steps: &[MulStep]) -> u32
 
 /// How deep the last step of a product nests.
 #[cycle(expressions)]
-#[tactic(auto, using(opl_model_tree::proofs::Depth::last_step_depth, crate::proofs::Capped::capped_parts))]
+#[tactic(auto, using(opl_tree::proofs::Depth::last_step_depth, crate::proofs::Capped::capped_parts))]
 fn depth_last_step(t: &LastStep) -> u32
     ensures { result ≡ capped (depth.depth_last_step t.now) }
 {
@@ -215,7 +215,7 @@ fn depth_last_step(t: &LastStep) -> u32
 
 /// How deep an aggregate nests.
 #[cycle(expressions)]
-#[tactic(auto, using(opl_model_tree::proofs::Depth::open_depth, crate::proofs::Capped::capped_parts))]
+#[tactic(auto, using(opl_tree::proofs::Depth::open_depth, crate::proofs::Capped::capped_parts))]
 fn depth_open(t: &OpenTree) -> u32
     ensures { result ≡ capped (depth.depth_open t.now) }
 {
@@ -230,7 +230,7 @@ fn depth_open(t: &OpenTree) -> u32
 
 /// How deep a signed operand nests.
 #[cycle(expressions)]
-#[tactic(auto, using(opl_model_tree::proofs::Depth::sign_depth, crate::proofs::Capped::capped_parts))]
+#[tactic(auto, using(opl_tree::proofs::Depth::sign_depth, crate::proofs::Capped::capped_parts))]
 fn depth_sign(t: &SignTree) -> u32
     ensures { result ≡ capped (depth.depth_sign t.now) }
 {
@@ -242,7 +242,7 @@ fn depth_sign(t: &SignTree) -> u32
 
 /// How deep an operand nests.
 #[cycle(expressions)]
-#[tactic(auto, using(opl_model_tree::proofs::Depth::post_depth, crate::proofs::Capped::capped_parts))]
+#[tactic(auto, using(opl_tree::proofs::Depth::post_depth, crate::proofs::Capped::capped_parts))]
 pub(crate) fn depth_post(t: &PostTree) -> u32
     ensures { result ≡ capped (depth.depth_post t.now) }
 {
@@ -251,7 +251,7 @@ pub(crate) fn depth_post(t: &PostTree) -> u32
 
 /// How deep a suffix nests.
 #[cycle(expressions)]
-#[tactic(auto, using(opl_model_tree::proofs::Depth::suffix_depth, crate::proofs::Capped::capped_parts))]
+#[tactic(auto, using(opl_tree::proofs::Depth::suffix_depth, crate::proofs::Capped::capped_parts))]
 fn depth_suffix(t: &SuffixTree) -> u32
     ensures { result ≡ capped (depth.depth_suffix t.now) }
 {
@@ -276,7 +276,7 @@ fn deepest_suffixes(suffixes: &[SuffixTree]) -> u32
 
 /// How deep subscripts nests.
 #[cycle(expressions)]
-#[tactic(auto, using(opl_model_tree::proofs::Depth::subscripts_depth, crate::proofs::Capped::capped_parts))]
+#[tactic(auto, using(opl_tree::proofs::Depth::subscripts_depth, crate::proofs::Capped::capped_parts))]
 pub(crate) fn depth_subscripts(t: &SubscriptsTree) -> u32
     ensures { result ≡ capped (depth.depth_subscripts t.now) }
 {
@@ -285,7 +285,7 @@ pub(crate) fn depth_subscripts(t: &SubscriptsTree) -> u32
 
 /// How deep what an operand begins with nests.
 #[cycle(expressions)]
-#[tactic(auto, using(opl_model_tree::proofs::Depth::prim_depth, crate::proofs::Capped::capped_parts))]
+#[tactic(auto, using(opl_tree::proofs::Depth::prim_depth, crate::proofs::Capped::capped_parts))]
 fn depth_prim(t: &PrimTree) -> u32
     ensures { result ≡ capped (depth.depth_prim t.now) }
 {
@@ -312,7 +312,7 @@ fn depth_prim(t: &PrimTree) -> u32
 
 /// How deep a key and its value nests.
 #[cycle(expressions)]
-#[tactic(auto, using(opl_model_tree::proofs::Depth::keyed_depth, crate::proofs::Capped::capped_parts))]
+#[tactic(auto, using(opl_tree::proofs::Depth::keyed_depth, crate::proofs::Capped::capped_parts))]
 fn depth_keyed(t: &KeyedTree) -> u32
     ensures { result ≡ capped (depth.depth_keyed t.now) }
 {
@@ -334,7 +334,7 @@ fn deepest_pairs(pairs: &[KeyedTree]) -> u32
 
 /// How deep a set nests.
 #[cycle(expressions)]
-#[tactic(auto, using(opl_model_tree::proofs::Depth::set_depth, crate::proofs::Capped::capped_parts))]
+#[tactic(auto, using(opl_tree::proofs::Depth::set_depth, crate::proofs::Capped::capped_parts))]
 pub(crate) fn depth_set(t: &SetTree) -> u32
     ensures { result ≡ capped (depth.depth_set t.now) }
 {
@@ -347,7 +347,7 @@ pub(crate) fn depth_set(t: &SetTree) -> u32
 
 /// How deep parameters nests.
 #[cycle(expressions)]
-#[tactic(auto, using(opl_model_tree::proofs::Depth::params_depth, crate::proofs::Capped::capped_parts))]
+#[tactic(auto, using(opl_tree::proofs::Depth::params_depth, crate::proofs::Capped::capped_parts))]
 pub(crate) fn depth_params(t: &ParamsTree) -> u32
     ensures { result ≡ capped (depth.depth_params t.now) }
 {
@@ -363,7 +363,7 @@ pub(crate) fn depth_params(t: &ParamsTree) -> u32
 
 /// How deep a further group of parameters nests.
 #[cycle(expressions)]
-#[tactic(auto, using(opl_model_tree::proofs::Depth::group_step_depth, crate::proofs::Capped::capped_parts))]
+#[tactic(auto, using(opl_tree::proofs::Depth::group_step_depth, crate::proofs::Capped::capped_parts))]
 fn depth_group_step(t: &GroupStep) -> u32
     ensures { result ≡ capped (depth.depth_group_step t.now) }
 {
@@ -385,7 +385,7 @@ fn deepest_group_steps(group_steps: &[GroupStep]) -> u32
 
 /// How deep a group of parameters nests.
 #[cycle(expressions)]
-#[tactic(auto, using(opl_model_tree::proofs::Depth::group_depth, crate::proofs::Capped::capped_parts))]
+#[tactic(auto, using(opl_tree::proofs::Depth::group_depth, crate::proofs::Capped::capped_parts))]
 fn depth_group(t: &GroupTree) -> u32
     ensures { result ≡ capped (depth.depth_group t.now) }
 {
@@ -396,7 +396,7 @@ fn depth_group(t: &GroupTree) -> u32
 }
 
 /// How deep a pattern nests.
-#[tactic(auto, using(opl_model_tree::proofs::Depth::pattern_depth, crate::proofs::Capped::capped_parts))]
+#[tactic(auto, using(opl_tree::proofs::Depth::pattern_depth, crate::proofs::Capped::capped_parts))]
 fn depth_pattern(t: &PatternTree) -> u32
     ensures { result ≡ capped (depth.depth_pattern t.now) }
 {

@@ -2,11 +2,11 @@
 ghost use Rattle.std.specs.Prelude.{◌≡◌, map};
 ghost use Rattle.std.specs.Option.{option_map};
 ghost use Rattle.opl_depth.specs.Capped.{capped};
-ghost use Rattle.opl_model_tree.specs.Depth as depth;
+ghost use Rattle.opl_tree.specs.Depth as depth;
 
 use crate::expression::{depth_add, depth_expr, depth_params, depth_post, depth_subscripts};
 use crate::level::{deeper, one_more};
-use opl_model_tree::{AddTree, BlockTree, InstrTree, ItemTree, ItemsTree, RequiresTree};
+use opl_tree::{AddTree, BlockTree, InstrTree, ItemTree, ItemsTree, RequiresTree};
 
 /// How deep a demand nests, where it is written: its parenthesis opens a level.
 #[tactic(auto, using(crate::proofs::Capped::capped_parts))]
@@ -20,7 +20,7 @@ fn depth_demand(demand: &Option<AddTree>) -> u32
 }
 
 /// How deep an instruction nests.
-#[tactic(auto, using(opl_model_tree::proofs::Depth::instr_depth, crate::proofs::Capped::capped_parts))]
+#[tactic(auto, using(opl_tree::proofs::Depth::instr_depth, crate::proofs::Capped::capped_parts))]
 pub(crate) fn depth_instr(t: &InstrTree) -> u32
     ensures { result ≡ capped (depth.depth_instr t.now) }
 {
@@ -35,7 +35,7 @@ pub(crate) fn depth_instr(t: &InstrTree) -> u32
 
 /// How deep a block nests.
 #[cycle(items)]
-#[tactic(auto, using(opl_model_tree::proofs::Depth::block_depth, crate::proofs::Capped::capped_parts))]
+#[tactic(auto, using(opl_tree::proofs::Depth::block_depth, crate::proofs::Capped::capped_parts))]
 fn depth_block(t: &BlockTree) -> u32
     ensures { result ≡ capped (depth.depth_block t.now) }
 {
@@ -44,7 +44,7 @@ fn depth_block(t: &BlockTree) -> u32
 
 /// How deep a list of items nests.
 #[cycle(items)]
-#[tactic(auto, using(opl_model_tree::proofs::Depth::items_depth, crate::proofs::Capped::capped_parts))]
+#[tactic(auto, using(opl_tree::proofs::Depth::items_depth, crate::proofs::Capped::capped_parts))]
 fn depth_items(t: &ItemsTree) -> u32
     ensures { result ≡ capped (depth.depth_items t.now) }
 {
@@ -59,7 +59,7 @@ fn depth_items(t: &ItemsTree) -> u32
 
 /// How deep an item nests.
 #[cycle(items)]
-#[tactic(auto, using(opl_model_tree::proofs::Depth::item_depth, crate::proofs::Capped::capped_parts))]
+#[tactic(auto, using(opl_tree::proofs::Depth::item_depth, crate::proofs::Capped::capped_parts))]
 fn depth_item(t: &ItemTree) -> u32
     ensures { result ≡ capped (depth.depth_item t.now) }
 {
@@ -96,7 +96,7 @@ fn deepest_items(items: &[ItemTree]) -> u32
 }
 
 /// How deep a requirement nests.
-#[tactic(auto, using(opl_model_tree::proofs::Depth::requires_depth, crate::proofs::Capped::capped_parts))]
+#[tactic(auto, using(opl_tree::proofs::Depth::requires_depth, crate::proofs::Capped::capped_parts))]
 fn depth_requires(t: &RequiresTree) -> u32
     ensures { result ≡ capped (depth.depth_requires t.now) }
 {

@@ -1,16 +1,16 @@
 //! How deep a whole model nests.
 ghost use Rattle.std.specs.Prelude.{◌≡◌, ◌<◌, ◌^◌};
 ghost use Rattle.opl_depth.specs.Capped.{capped};
-ghost use Rattle.opl_model_tree.specs.Depth as depth;
+ghost use Rattle.opl_tree.specs.Depth as depth;
 
 use crate::declaration::deepest_decls;
 use crate::instruction::depth_instr;
 use crate::level::deeper;
 use crate::search::depth_search;
-use opl_model_tree::ModelTree;
+use opl_tree::ModelTree;
 
 /// How deep a model nests, as far as the numbers go.
-#[tactic(auto, using(opl_model_tree::proofs::Depth::model_depth, crate::proofs::Capped::capped_parts))]
+#[tactic(auto, using(opl_tree::proofs::Depth::model_depth, crate::proofs::Capped::capped_parts))]
 fn capped_depth(t: &ModelTree) -> u32
     ensures { result ≡ capped (depth.depth_model t.now) }
 {

@@ -1,16 +1,16 @@
 //! How deep the search section nests.
 ghost use Rattle.std.specs.Prelude.{◌≡◌, map};
 ghost use Rattle.opl_depth.specs.Capped.{capped};
-ghost use Rattle.opl_model_tree.specs.Depth as depth;
+ghost use Rattle.opl_tree.specs.Depth as depth;
 
 use crate::expression::{depth_add, depth_expr, depth_params, depth_post};
 use crate::level::{deeper, one_more};
-use opl_model_tree::{
+use opl_tree::{
     OrderTree, OrderedParamsTree, SearchBlockTree, SearchTree, StatementTree, StatementsTree,
 };
 
 /// How deep a search section nests.
-#[tactic(auto, using(opl_model_tree::proofs::Depth::search_depth, crate::proofs::Capped::capped_parts))]
+#[tactic(auto, using(opl_tree::proofs::Depth::search_depth, crate::proofs::Capped::capped_parts))]
 pub(crate) fn depth_search(t: &SearchTree) -> u32
     ensures { result ≡ capped (depth.depth_search t.now) }
 {
@@ -19,7 +19,7 @@ pub(crate) fn depth_search(t: &SearchTree) -> u32
 
 /// How deep a block of statements nests.
 #[cycle(statements)]
-#[tactic(auto, using(opl_model_tree::proofs::Depth::search_block_depth, crate::proofs::Capped::capped_parts))]
+#[tactic(auto, using(opl_tree::proofs::Depth::search_block_depth, crate::proofs::Capped::capped_parts))]
 fn depth_search_block(t: &SearchBlockTree) -> u32
     ensures { result ≡ capped (depth.depth_search_block t.now) }
 {
@@ -28,7 +28,7 @@ fn depth_search_block(t: &SearchBlockTree) -> u32
 
 /// How deep a list of statements nests.
 #[cycle(statements)]
-#[tactic(auto, using(opl_model_tree::proofs::Depth::statements_depth, crate::proofs::Capped::capped_parts))]
+#[tactic(auto, using(opl_tree::proofs::Depth::statements_depth, crate::proofs::Capped::capped_parts))]
 fn depth_statements(t: &StatementsTree) -> u32
     ensures { result ≡ capped (depth.depth_statements t.now) }
 {
@@ -56,7 +56,7 @@ fn deepest_lists(lists: &[StatementsTree]) -> u32
 
 /// How deep a statement nests.
 #[cycle(statements)]
-#[tactic(auto, using(opl_model_tree::proofs::Depth::statement_depth, crate::proofs::Capped::capped_parts))]
+#[tactic(auto, using(opl_tree::proofs::Depth::statement_depth, crate::proofs::Capped::capped_parts))]
 fn depth_statement(t: &StatementTree) -> u32
     ensures { result ≡ capped (depth.depth_statement t.now) }
 {
@@ -105,7 +105,7 @@ fn deepest_statements(statements: &[StatementTree]) -> u32
 }
 
 /// How deep parameters with an order nests.
-#[tactic(auto, using(opl_model_tree::proofs::Depth::ordered_params_depth, crate::proofs::Capped::capped_parts))]
+#[tactic(auto, using(opl_tree::proofs::Depth::ordered_params_depth, crate::proofs::Capped::capped_parts))]
 fn depth_ordered_params(t: &OrderedParamsTree) -> u32
     ensures { result ≡ capped (depth.depth_ordered_params t.now) }
 {
@@ -117,7 +117,7 @@ fn depth_ordered_params(t: &OrderedParamsTree) -> u32
 }
 
 /// How deep an order nests.
-#[tactic(auto, using(opl_model_tree::proofs::Depth::order_depth, crate::proofs::Capped::capped_parts))]
+#[tactic(auto, using(opl_tree::proofs::Depth::order_depth, crate::proofs::Capped::capped_parts))]
 fn depth_order(t: &OrderTree) -> u32
     ensures { result ≡ capped (depth.depth_order t.now) }
 {

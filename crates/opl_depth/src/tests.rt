@@ -1,10 +1,10 @@
 //! How deep a small tree nests that is made by hand.
 ghost use Rattle.std.specs.Prelude.{◌≡◌};
-ghost use Rattle.opl_model_tree.specs.Depth as depth;
+ghost use Rattle.opl_tree.specs.Depth as depth;
 
 use crate::depth_model;
 use opl_list::Seq;
-use opl_model_tree::{BlockTree, InstrTree, ItemsTree, ModelTree};
+use opl_tree::{BlockTree, InstrTree, ItemsTree, ModelTree};
 use std::alloc::Global;
 
 /// `solve {};`

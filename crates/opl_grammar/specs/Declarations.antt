@@ -1,26 +1,26 @@
 -- The rules of declarations.
 use Rattle.std.specs.Prelude.{Option, Some, None}
 use Rattle.opl_token.specs.declared.sign.Sign.TheVariants as signs
-use Rattle.opl_model_tree.specs.declared.keyword.Keyword.TheVariants as words
-use Rattle.opl_model_tree.specs.declared.declaration.ActivityTree.{ActivityTree}
-use Rattle.opl_model_tree.specs.declared.declaration.BoundsTree.{BoundsTree}
-use Rattle.opl_model_tree.specs.declared.declaration.DataTree.{DataTree}
-use Rattle.opl_model_tree.specs.declared.declaration.DeclTree.{DeclTree}
-use Rattle.opl_model_tree.specs.declared.declaration.DeclTree.TheVariants as decls
-use Rattle.opl_model_tree.specs.declared.declaration.DimsTree.{DimsTree}
-use Rattle.opl_model_tree.specs.declared.declaration.DiscreteTree.{DiscreteTree}
-use Rattle.opl_model_tree.specs.declared.declaration.EnumNamesTree.{EnumNamesTree}
-use Rattle.opl_model_tree.specs.declared.declaration.EnumNamesTree.TheVariants as enum_names
-use Rattle.opl_model_tree.specs.declared.declaration.EnumTree.{EnumTree}
-use Rattle.opl_model_tree.specs.declared.declaration.InitialTree.{InitialTree}
-use Rattle.opl_model_tree.specs.declared.declaration.InitialTree.TheVariants as initials
-use Rattle.opl_model_tree.specs.declared.declaration.RangeTree.{RangeTree}
-use Rattle.opl_model_tree.specs.declared.declaration.ScheduleTree.{ScheduleTree}
-use Rattle.opl_model_tree.specs.declared.declaration.StructTree.{StructTree}
-use Rattle.opl_model_tree.specs.declared.declaration.UnaryTree.{UnaryTree}
-use Rattle.opl_model_tree.specs.declared.declaration.VariableTree.{VariableTree}
-use Rattle.opl_model_tree.specs.declared.declaration.VariableTypeTree.{VariableTypeTree}
-use Rattle.opl_model_tree.specs.declared.declaration.VariableTypeTree.TheVariants as variable_types
+use Rattle.opl_tree.specs.declared.keyword.Keyword.TheVariants as words
+use Rattle.opl_tree.specs.declared.declaration.ActivityTree.{ActivityTree}
+use Rattle.opl_tree.specs.declared.declaration.BoundsTree.{BoundsTree}
+use Rattle.opl_tree.specs.declared.declaration.DataTree.{DataTree}
+use Rattle.opl_tree.specs.declared.declaration.DeclTree.{DeclTree}
+use Rattle.opl_tree.specs.declared.declaration.DeclTree.TheVariants as decls
+use Rattle.opl_tree.specs.declared.declaration.DimsTree.{DimsTree}
+use Rattle.opl_tree.specs.declared.declaration.DiscreteTree.{DiscreteTree}
+use Rattle.opl_tree.specs.declared.declaration.EnumNamesTree.{EnumNamesTree}
+use Rattle.opl_tree.specs.declared.declaration.EnumNamesTree.TheVariants as enum_names
+use Rattle.opl_tree.specs.declared.declaration.EnumTree.{EnumTree}
+use Rattle.opl_tree.specs.declared.declaration.InitialTree.{InitialTree}
+use Rattle.opl_tree.specs.declared.declaration.InitialTree.TheVariants as initials
+use Rattle.opl_tree.specs.declared.declaration.RangeTree.{RangeTree}
+use Rattle.opl_tree.specs.declared.declaration.ScheduleTree.{ScheduleTree}
+use Rattle.opl_tree.specs.declared.declaration.StructTree.{StructTree}
+use Rattle.opl_tree.specs.declared.declaration.UnaryTree.{UnaryTree}
+use Rattle.opl_tree.specs.declared.declaration.VariableTree.{VariableTree}
+use Rattle.opl_tree.specs.declared.declaration.VariableTypeTree.{VariableTypeTree}
+use Rattle.opl_tree.specs.declared.declaration.VariableTypeTree.TheVariants as variable_types
 use Rattle.opl_grammar.specs.Input.{Parser, ◌>>=◌, ◌>>◌, ◌<$>◌, pure, here, one, sign, word, either, maybe, flag, is_sign, is_word}
 use Rattle.opl_grammar.specs.Rules.{Rules, name, add, upper, type_tree}
 use Rattle.opl_grammar.specs.Tables.{schedule_end_in, starts_type}

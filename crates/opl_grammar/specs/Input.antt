@@ -6,14 +6,14 @@ use Rattle.opl_token.specs.declared.sign.Sign.{Sign}
 use Rattle.opl_token.specs.declared.token.Kind.{Kind}
 use Rattle.opl_token.specs.declared.token.Kind.TheVariants as kinds
 use Rattle.opl_token.specs.declared.token.Token.{Token}
-use Rattle.opl_model_tree.specs.Keywords.{keyword_of}
-use Rattle.opl_model_tree.specs.Reading.{place_of}
-use Rattle.opl_model_tree.specs.contracts.keyword.Keyword.{the_type}
-use Rattle.opl_model_tree.specs.declared.keyword.Keyword.{Keyword}
+use Rattle.opl_tree.specs.Keywords.{keyword_of}
+use Rattle.opl_tree.specs.Reading.{place_of}
+use Rattle.opl_tree.specs.contracts.keyword.Keyword.{the_type}
+use Rattle.opl_tree.specs.declared.keyword.Keyword.{Keyword}
 use Rattle.opl_grammar.specs.declared.look.Look.{Look}
 use Rattle.opl_grammar.specs.declared.look.Look.TheVariants as looks
-use Rattle.opl_model_tree.specs.declared.fault.SyntaxFault.{SyntaxFault}
-use Rattle.opl_model_tree.specs.declared.fault.SyntaxFault.TheVariants.{Syntax, TooDeep, OutOfMemory}
+use Rattle.opl_tree.specs.declared.fault.SyntaxFault.{SyntaxFault}
+use Rattle.opl_tree.specs.declared.fault.SyntaxFault.TheVariants.{Syntax, TooDeep, OutOfMemory}
 
 -- the tokens that are left, and the length of the text
 pub record Input : Type 0 where

@@ -1,19 +1,19 @@
 -- The rules of items, of their lists and of the instruction.
 use Rattle.std.specs.Prelude.{ℕ, zero, suc, Option, Some, None}
 use Rattle.opl_token.specs.declared.sign.Sign.TheVariants as signs
-use Rattle.opl_model_tree.specs.declared.keyword.Keyword.TheVariants as words
-use Rattle.opl_model_tree.specs.declared.expression.AddTree.{AddTree}
-use Rattle.opl_model_tree.specs.declared.expression.ExprTree.{ExprTree}
-use Rattle.opl_model_tree.specs.declared.expression.ParamsTree.{ParamsTree}
-use Rattle.opl_model_tree.specs.declared.expression.PostTree.{PostTree}
-use Rattle.opl_model_tree.specs.declared.instruction.BlockTree.{BlockTree, roll-BlockTree}
-use Rattle.opl_model_tree.specs.declared.instruction.InstrTree.{InstrTree}
-use Rattle.opl_model_tree.specs.declared.instruction.InstrTree.TheVariants as instrs
-use Rattle.opl_model_tree.specs.declared.instruction.ItemTree.{ItemTree}
-use Rattle.opl_model_tree.specs.declared.instruction.ItemTree.TheVariants as items_are
-use Rattle.opl_model_tree.specs.declared.instruction.ItemsTree.{ItemsTree}
-use Rattle.opl_model_tree.specs.declared.instruction.ItemsTree.TheVariants as lists
-use Rattle.opl_model_tree.specs.declared.instruction.RequiresTree.{RequiresTree}
+use Rattle.opl_tree.specs.declared.keyword.Keyword.TheVariants as words
+use Rattle.opl_tree.specs.declared.expression.AddTree.{AddTree}
+use Rattle.opl_tree.specs.declared.expression.ExprTree.{ExprTree}
+use Rattle.opl_tree.specs.declared.expression.ParamsTree.{ParamsTree}
+use Rattle.opl_tree.specs.declared.expression.PostTree.{PostTree}
+use Rattle.opl_tree.specs.declared.instruction.BlockTree.{BlockTree, roll-BlockTree}
+use Rattle.opl_tree.specs.declared.instruction.InstrTree.{InstrTree}
+use Rattle.opl_tree.specs.declared.instruction.InstrTree.TheVariants as instrs
+use Rattle.opl_tree.specs.declared.instruction.ItemTree.{ItemTree}
+use Rattle.opl_tree.specs.declared.instruction.ItemTree.TheVariants as items_are
+use Rattle.opl_tree.specs.declared.instruction.ItemsTree.{ItemsTree}
+use Rattle.opl_tree.specs.declared.instruction.ItemsTree.TheVariants as lists
+use Rattle.opl_tree.specs.declared.instruction.RequiresTree.{RequiresTree}
 use Rattle.opl_grammar.specs.Input.{Parser, ◌>>=◌, ◌>>◌, ◌<$>◌, pure, refuse, refuse_level, here, one, sign, word, either, maybe, behind, is_sign, is_word}
 use Rattle.opl_grammar.specs.Just.{post_of}
 use Rattle.opl_grammar.specs.Rules.{Rules, rules, name, subscripts, post, expr, chosen}

@@ -1,29 +1,29 @@
 -- Whether a phrase that was read is just a name, or just a prim with its suffixes.
 use Rattle.std.specs.Prelude.{List, [], ◌∷◌, Option, Some, None}
-use Rattle.opl_model_tree.specs.declared.expression.AddStep.{AddStep}
-use Rattle.opl_model_tree.specs.declared.expression.AddTree.{AddTree, out-AddTree}
-use Rattle.opl_model_tree.specs.declared.expression.AndTree.{AndTree, out-AndTree}
-use Rattle.opl_model_tree.specs.declared.expression.CompareTree.{CompareTree, out-CompareTree}
-use Rattle.opl_model_tree.specs.declared.expression.ExprTree.{ExprTree, out-ExprTree}
-use Rattle.opl_model_tree.specs.declared.expression.GroupStep.{GroupStep}
-use Rattle.opl_model_tree.specs.declared.expression.GroupTree.{GroupTree}
-use Rattle.opl_model_tree.specs.declared.expression.ImpTree.{ImpTree, out-ImpTree}
-use Rattle.opl_model_tree.specs.declared.expression.KeyedTree.{KeyedTree}
-use Rattle.opl_model_tree.specs.declared.expression.LastStep.{LastStep}
-use Rattle.opl_model_tree.specs.declared.expression.MulStep.{MulStep}
-use Rattle.opl_model_tree.specs.declared.expression.MulTree.{MulTree, out-MulTree}
-use Rattle.opl_model_tree.specs.declared.expression.NegTree.{NegTree, out-NegTree}
-use Rattle.opl_model_tree.specs.declared.expression.OpenTree.{OpenTree}
-use Rattle.opl_model_tree.specs.declared.expression.OrTree.{OrTree, out-OrTree}
-use Rattle.opl_model_tree.specs.declared.expression.ParamsTree.{ParamsTree}
-use Rattle.opl_model_tree.specs.declared.expression.PostTree.{PostTree, out-PostTree}
-use Rattle.opl_model_tree.specs.declared.expression.PrimTree.{PrimTree, out-PrimTree}
-use Rattle.opl_model_tree.specs.declared.expression.SetTree.{SetTree, out-SetTree}
-use Rattle.opl_model_tree.specs.declared.expression.SignTree.{SignTree, out-SignTree}
-use Rattle.opl_model_tree.specs.declared.expression.SubscriptsTree.{SubscriptsTree}
-use Rattle.opl_model_tree.specs.declared.expression.SuffixTree.{SuffixTree}
-use Rattle.opl_model_tree.specs.declared.expression.NameTree.{NameTree}
-use Rattle.opl_model_tree.specs.declared.expression.CompareTree.TheOpen.{CompareTree-F, MulTree-F, NegTree-F, PrimTree-F, SignTree-F}
+use Rattle.opl_tree.specs.declared.expression.AddStep.{AddStep}
+use Rattle.opl_tree.specs.declared.expression.AddTree.{AddTree, out-AddTree}
+use Rattle.opl_tree.specs.declared.expression.AndTree.{AndTree, out-AndTree}
+use Rattle.opl_tree.specs.declared.expression.CompareTree.{CompareTree, out-CompareTree}
+use Rattle.opl_tree.specs.declared.expression.ExprTree.{ExprTree, out-ExprTree}
+use Rattle.opl_tree.specs.declared.expression.GroupStep.{GroupStep}
+use Rattle.opl_tree.specs.declared.expression.GroupTree.{GroupTree}
+use Rattle.opl_tree.specs.declared.expression.ImpTree.{ImpTree, out-ImpTree}
+use Rattle.opl_tree.specs.declared.expression.KeyedTree.{KeyedTree}
+use Rattle.opl_tree.specs.declared.expression.LastStep.{LastStep}
+use Rattle.opl_tree.specs.declared.expression.MulStep.{MulStep}
+use Rattle.opl_tree.specs.declared.expression.MulTree.{MulTree, out-MulTree}
+use Rattle.opl_tree.specs.declared.expression.NegTree.{NegTree, out-NegTree}
+use Rattle.opl_tree.specs.declared.expression.OpenTree.{OpenTree}
+use Rattle.opl_tree.specs.declared.expression.OrTree.{OrTree, out-OrTree}
+use Rattle.opl_tree.specs.declared.expression.ParamsTree.{ParamsTree}
+use Rattle.opl_tree.specs.declared.expression.PostTree.{PostTree, out-PostTree}
+use Rattle.opl_tree.specs.declared.expression.PrimTree.{PrimTree, out-PrimTree}
+use Rattle.opl_tree.specs.declared.expression.SetTree.{SetTree, out-SetTree}
+use Rattle.opl_tree.specs.declared.expression.SignTree.{SignTree, out-SignTree}
+use Rattle.opl_tree.specs.declared.expression.SubscriptsTree.{SubscriptsTree}
+use Rattle.opl_tree.specs.declared.expression.SuffixTree.{SuffixTree}
+use Rattle.opl_tree.specs.declared.expression.NameTree.{NameTree}
+use Rattle.opl_tree.specs.declared.expression.CompareTree.TheOpen.{CompareTree-F, MulTree-F, NegTree-F, PrimTree-F, SignTree-F}
 
 -- that, where nothing stands behind it
 abbrev pub alone : {A B : Type 0} → List A → Option B → Option B

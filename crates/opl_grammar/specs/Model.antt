@@ -2,9 +2,9 @@
 use Rattle.std.specs.Prelude.{ℕ, List, Option, Some, None, Result, Ok}
 use Rattle.opl_token.specs.declared.token.Kind.{Kind}
 use Rattle.opl_token.specs.declared.token.Token.{Token}
-use Rattle.opl_model_tree.specs.declared.keyword.Keyword.TheVariants as words
-use Rattle.opl_model_tree.specs.declared.fault.SyntaxFault.{SyntaxFault}
-use Rattle.opl_model_tree.specs.declared.model.ModelTree.{ModelTree}
+use Rattle.opl_tree.specs.declared.keyword.Keyword.TheVariants as words
+use Rattle.opl_tree.specs.declared.fault.SyntaxFault.{SyntaxFault}
+use Rattle.opl_tree.specs.declared.model.ModelTree.{ModelTree}
 use Rattle.opl_grammar.specs.Declarations.{decl}
 use Rattle.opl_grammar.specs.Input.{Input, Outcome, Parser, Reads, kind, ◌>>=◌, ◌>>◌, pure, refuse, here, maybe, many, is_word}
 use Rattle.opl_grammar.specs.Items.{ItemRules, item_rules, instr}

@@ -2,44 +2,44 @@
 use Rattle.std.specs.Prelude.{ℕ, zero, suc, Bool, true, false, List, [], ◌∷◌, ◌++◌, Option, Some, None, Ok, if◌then◌else◌}
 use Rattle.opl_token.specs.declared.sign.Sign.TheVariants as signs
 use Rattle.opl_token.specs.declared.token.Kind.{Kind}
-use Rattle.opl_model_tree.specs.declared.keyword.Keyword.TheVariants as words
-use Rattle.opl_model_tree.specs.declared.declaration.DimTree.{DimTree}
-use Rattle.opl_model_tree.specs.declared.declaration.FieldTree.{FieldTree}
-use Rattle.opl_model_tree.specs.declared.declaration.TypeTree.{TypeTree}
-use Rattle.opl_model_tree.specs.declared.declaration.TypeTree.TheVariants as types
-use Rattle.opl_model_tree.specs.declared.expression.AddStep.{AddStep, roll-AddStep}
-use Rattle.opl_model_tree.specs.declared.expression.AddTree.{AddTree, roll-AddTree, out-AddTree}
-use Rattle.opl_model_tree.specs.declared.expression.AndTree.{AndTree, roll-AndTree}
-use Rattle.opl_model_tree.specs.declared.expression.CompareTree.{CompareTree}
-use Rattle.opl_model_tree.specs.declared.expression.CompareTree.TheVariants as compares
-use Rattle.opl_model_tree.specs.declared.expression.ExprTree.{ExprTree, roll-ExprTree}
-use Rattle.opl_model_tree.specs.declared.expression.GroupStep.{GroupStep, roll-GroupStep}
-use Rattle.opl_model_tree.specs.declared.expression.GroupTree.{GroupTree, roll-GroupTree}
-use Rattle.opl_model_tree.specs.declared.expression.ImpTree.{ImpTree, roll-ImpTree}
-use Rattle.opl_model_tree.specs.declared.expression.KeyedTree.{KeyedTree, roll-KeyedTree}
-use Rattle.opl_model_tree.specs.declared.expression.LastStep.{LastStep, roll-LastStep}
-use Rattle.opl_model_tree.specs.declared.expression.MulOp.{MulOp}
-use Rattle.opl_model_tree.specs.declared.expression.MulStep.{MulStep, roll-MulStep}
-use Rattle.opl_model_tree.specs.declared.expression.MulTree.{MulTree}
-use Rattle.opl_model_tree.specs.declared.expression.MulTree.TheVariants as muls
-use Rattle.opl_model_tree.specs.declared.expression.NameTree.{NameTree}
-use Rattle.opl_model_tree.specs.declared.expression.NegTree.{NegTree}
-use Rattle.opl_model_tree.specs.declared.expression.NegTree.TheVariants as negs
-use Rattle.opl_model_tree.specs.declared.expression.OpenTree.TheVariants as opens
-use Rattle.opl_model_tree.specs.declared.expression.OrTree.{OrTree, roll-OrTree}
-use Rattle.opl_model_tree.specs.declared.expression.ParamsTree.{ParamsTree, roll-ParamsTree}
-use Rattle.opl_model_tree.specs.declared.expression.PatternTree.{PatternTree}
-use Rattle.opl_model_tree.specs.declared.expression.PatternTree.TheVariants as patterns
-use Rattle.opl_model_tree.specs.declared.expression.PostTree.{PostTree, roll-PostTree}
-use Rattle.opl_model_tree.specs.declared.expression.PrimTree.{PrimTree}
-use Rattle.opl_model_tree.specs.declared.expression.PrimTree.TheVariants as prims
-use Rattle.opl_model_tree.specs.declared.expression.SetTree.{SetTree, roll-SetTree}
-use Rattle.opl_model_tree.specs.declared.expression.SignTree.TheVariants as factors
-use Rattle.opl_model_tree.specs.declared.expression.SubscriptsTree.{SubscriptsTree, roll-SubscriptsTree}
-use Rattle.opl_model_tree.specs.declared.expression.SuffixTree.{SuffixTree}
-use Rattle.opl_model_tree.specs.declared.expression.SuffixTree.TheVariants as suffixes
-use Rattle.opl_model_tree.specs.declared.search.OrderTree.{OrderTree}
-use Rattle.opl_model_tree.specs.declared.search.OrderedParamsTree.{OrderedParamsTree}
+use Rattle.opl_tree.specs.declared.keyword.Keyword.TheVariants as words
+use Rattle.opl_tree.specs.declared.declaration.DimTree.{DimTree}
+use Rattle.opl_tree.specs.declared.declaration.FieldTree.{FieldTree}
+use Rattle.opl_tree.specs.declared.declaration.TypeTree.{TypeTree}
+use Rattle.opl_tree.specs.declared.declaration.TypeTree.TheVariants as types
+use Rattle.opl_tree.specs.declared.expression.AddStep.{AddStep, roll-AddStep}
+use Rattle.opl_tree.specs.declared.expression.AddTree.{AddTree, roll-AddTree, out-AddTree}
+use Rattle.opl_tree.specs.declared.expression.AndTree.{AndTree, roll-AndTree}
+use Rattle.opl_tree.specs.declared.expression.CompareTree.{CompareTree}
+use Rattle.opl_tree.specs.declared.expression.CompareTree.TheVariants as compares
+use Rattle.opl_tree.specs.declared.expression.ExprTree.{ExprTree, roll-ExprTree}
+use Rattle.opl_tree.specs.declared.expression.GroupStep.{GroupStep, roll-GroupStep}
+use Rattle.opl_tree.specs.declared.expression.GroupTree.{GroupTree, roll-GroupTree}
+use Rattle.opl_tree.specs.declared.expression.ImpTree.{ImpTree, roll-ImpTree}
+use Rattle.opl_tree.specs.declared.expression.KeyedTree.{KeyedTree, roll-KeyedTree}
+use Rattle.opl_tree.specs.declared.expression.LastStep.{LastStep, roll-LastStep}
+use Rattle.opl_tree.specs.declared.expression.MulOp.{MulOp}
+use Rattle.opl_tree.specs.declared.expression.MulStep.{MulStep, roll-MulStep}
+use Rattle.opl_tree.specs.declared.expression.MulTree.{MulTree}
+use Rattle.opl_tree.specs.declared.expression.MulTree.TheVariants as muls
+use Rattle.opl_tree.specs.declared.expression.NameTree.{NameTree}
+use Rattle.opl_tree.specs.declared.expression.NegTree.{NegTree}
+use Rattle.opl_tree.specs.declared.expression.NegTree.TheVariants as negs
+use Rattle.opl_tree.specs.declared.expression.OpenTree.TheVariants as opens
+use Rattle.opl_tree.specs.declared.expression.OrTree.{OrTree, roll-OrTree}
+use Rattle.opl_tree.specs.declared.expression.ParamsTree.{ParamsTree, roll-ParamsTree}
+use Rattle.opl_tree.specs.declared.expression.PatternTree.{PatternTree}
+use Rattle.opl_tree.specs.declared.expression.PatternTree.TheVariants as patterns
+use Rattle.opl_tree.specs.declared.expression.PostTree.{PostTree, roll-PostTree}
+use Rattle.opl_tree.specs.declared.expression.PrimTree.{PrimTree}
+use Rattle.opl_tree.specs.declared.expression.PrimTree.TheVariants as prims
+use Rattle.opl_tree.specs.declared.expression.SetTree.{SetTree, roll-SetTree}
+use Rattle.opl_tree.specs.declared.expression.SignTree.TheVariants as factors
+use Rattle.opl_tree.specs.declared.expression.SubscriptsTree.{SubscriptsTree, roll-SubscriptsTree}
+use Rattle.opl_tree.specs.declared.expression.SuffixTree.{SuffixTree}
+use Rattle.opl_tree.specs.declared.expression.SuffixTree.TheVariants as suffixes
+use Rattle.opl_tree.specs.declared.search.OrderTree.{OrderTree}
+use Rattle.opl_tree.specs.declared.search.OrderedParamsTree.{OrderedParamsTree}
 use Rattle.opl_grammar.specs.declared.parts.Braced.{Braced}
 use Rattle.opl_grammar.specs.declared.parts.Braced.TheVariants as braces
 use Rattle.opl_grammar.specs.declared.parts.Operand.{Operand}

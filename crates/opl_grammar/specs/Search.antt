@@ -1,16 +1,16 @@
 -- The rules of the search section and of its statements.
 use Rattle.std.specs.Prelude.{ℕ, zero, suc, List, Option, Some, None}
 use Rattle.opl_token.specs.declared.sign.Sign.TheVariants as signs
-use Rattle.opl_model_tree.specs.declared.keyword.Keyword.TheVariants as words
-use Rattle.opl_model_tree.specs.declared.expression.ExprTree.{ExprTree}
-use Rattle.opl_model_tree.specs.declared.expression.PostTree.{PostTree}
-use Rattle.opl_model_tree.specs.declared.search.OrderedParamsTree.{OrderedParamsTree}
-use Rattle.opl_model_tree.specs.declared.search.SearchBlockTree.{SearchBlockTree, roll-SearchBlockTree}
-use Rattle.opl_model_tree.specs.declared.search.SearchTree.{SearchTree}
-use Rattle.opl_model_tree.specs.declared.search.StatementTree.{StatementTree}
-use Rattle.opl_model_tree.specs.declared.search.StatementTree.TheVariants as statements_are
-use Rattle.opl_model_tree.specs.declared.search.StatementsTree.{StatementsTree}
-use Rattle.opl_model_tree.specs.declared.search.StatementsTree.TheVariants as lists
+use Rattle.opl_tree.specs.declared.keyword.Keyword.TheVariants as words
+use Rattle.opl_tree.specs.declared.expression.ExprTree.{ExprTree}
+use Rattle.opl_tree.specs.declared.expression.PostTree.{PostTree}
+use Rattle.opl_tree.specs.declared.search.OrderedParamsTree.{OrderedParamsTree}
+use Rattle.opl_tree.specs.declared.search.SearchBlockTree.{SearchBlockTree, roll-SearchBlockTree}
+use Rattle.opl_tree.specs.declared.search.SearchTree.{SearchTree}
+use Rattle.opl_tree.specs.declared.search.StatementTree.{StatementTree}
+use Rattle.opl_tree.specs.declared.search.StatementTree.TheVariants as statements_are
+use Rattle.opl_tree.specs.declared.search.StatementsTree.{StatementsTree}
+use Rattle.opl_tree.specs.declared.search.StatementsTree.TheVariants as lists
 use Rattle.opl_grammar.specs.Input.{Parser, ◌>>=◌, ◌>>◌, ◌<$>◌, pure, refuse, refuse_level, here, one, sign, word, either, maybe, behind, after_each, is_sign, is_word}
 use Rattle.opl_grammar.specs.Just.{post_of}
 use Rattle.opl_grammar.specs.Rules.{Rules, rules, post, asked, expr}

@@ -3,30 +3,30 @@ use Rattle.std.specs.Prelude.{Bool, true, false, ◌||◌, Option, Some, None, i
 use Rattle.opl_token.specs.declared.sign.Sign.{Sign}
 use Rattle.opl_token.specs.declared.sign.Sign.TheVariants as signs
 use Rattle.opl_token.specs.declared.token.Kind.{Kind}
-use Rattle.opl_model_tree.specs.declared.keyword.Keyword.{Keyword}
-use Rattle.opl_model_tree.specs.declared.keyword.Keyword.TheVariants as words
-use Rattle.opl_model_tree.specs.declared.expression.Relation.{Relation}
-use Rattle.opl_model_tree.specs.declared.expression.Relation.TheVariants as relations
-use Rattle.opl_model_tree.specs.declared.expression.AddOp.{AddOp}
-use Rattle.opl_model_tree.specs.declared.expression.AddOp.TheVariants as add_ops
-use Rattle.opl_model_tree.specs.declared.expression.MulOp.{MulOp}
-use Rattle.opl_model_tree.specs.declared.expression.MulOp.TheVariants as mul_ops
-use Rattle.opl_model_tree.specs.declared.expression.AggregateOp.{AggregateOp}
-use Rattle.opl_model_tree.specs.declared.expression.AggregateOp.TheVariants as aggregate_ops
-use Rattle.opl_model_tree.specs.declared.expression.CallOp.{CallOp}
-use Rattle.opl_model_tree.specs.declared.expression.CallOp.TheVariants as call_ops
-use Rattle.opl_model_tree.specs.declared.expression.QuestionOp.{QuestionOp}
-use Rattle.opl_model_tree.specs.declared.expression.QuestionOp.TheVariants as question_ops
-use Rattle.opl_model_tree.specs.declared.expression.GroupSeparator.{GroupSeparator}
-use Rattle.opl_model_tree.specs.declared.expression.GroupSeparator.TheVariants as separators
-use Rattle.opl_model_tree.specs.declared.declaration.ScheduleEnd.{ScheduleEnd}
-use Rattle.opl_model_tree.specs.declared.declaration.ScheduleEnd.TheVariants as schedule_ends
-use Rattle.opl_model_tree.specs.declared.instruction.Optimum.{Optimum}
-use Rattle.opl_model_tree.specs.declared.instruction.Optimum.TheVariants as optima
-use Rattle.opl_model_tree.specs.declared.search.BranchOp.{BranchOp}
-use Rattle.opl_model_tree.specs.declared.search.BranchOp.TheVariants as branch_ops
-use Rattle.opl_model_tree.specs.declared.search.LabelOp.{LabelOp}
-use Rattle.opl_model_tree.specs.declared.search.LabelOp.TheVariants as label_ops
+use Rattle.opl_tree.specs.declared.keyword.Keyword.{Keyword}
+use Rattle.opl_tree.specs.declared.keyword.Keyword.TheVariants as words
+use Rattle.opl_tree.specs.declared.expression.Relation.{Relation}
+use Rattle.opl_tree.specs.declared.expression.Relation.TheVariants as relations
+use Rattle.opl_tree.specs.declared.expression.AddOp.{AddOp}
+use Rattle.opl_tree.specs.declared.expression.AddOp.TheVariants as add_ops
+use Rattle.opl_tree.specs.declared.expression.MulOp.{MulOp}
+use Rattle.opl_tree.specs.declared.expression.MulOp.TheVariants as mul_ops
+use Rattle.opl_tree.specs.declared.expression.AggregateOp.{AggregateOp}
+use Rattle.opl_tree.specs.declared.expression.AggregateOp.TheVariants as aggregate_ops
+use Rattle.opl_tree.specs.declared.expression.CallOp.{CallOp}
+use Rattle.opl_tree.specs.declared.expression.CallOp.TheVariants as call_ops
+use Rattle.opl_tree.specs.declared.expression.QuestionOp.{QuestionOp}
+use Rattle.opl_tree.specs.declared.expression.QuestionOp.TheVariants as question_ops
+use Rattle.opl_tree.specs.declared.expression.GroupSeparator.{GroupSeparator}
+use Rattle.opl_tree.specs.declared.expression.GroupSeparator.TheVariants as separators
+use Rattle.opl_tree.specs.declared.declaration.ScheduleEnd.{ScheduleEnd}
+use Rattle.opl_tree.specs.declared.declaration.ScheduleEnd.TheVariants as schedule_ends
+use Rattle.opl_tree.specs.declared.instruction.Optimum.{Optimum}
+use Rattle.opl_tree.specs.declared.instruction.Optimum.TheVariants as optima
+use Rattle.opl_tree.specs.declared.search.BranchOp.{BranchOp}
+use Rattle.opl_tree.specs.declared.search.BranchOp.TheVariants as branch_ops
+use Rattle.opl_tree.specs.declared.search.LabelOp.{LabelOp}
+use Rattle.opl_tree.specs.declared.search.LabelOp.TheVariants as label_ops
 use Rattle.opl_grammar.specs.declared.look.Look.{Look}
 use Rattle.opl_grammar.specs.declared.look.Look.TheVariants as looks
 use Rattle.opl_grammar.specs.Input.{look, sign_seen, word_seen, is_sign, is_word}

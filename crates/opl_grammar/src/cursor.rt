@@ -1,13 +1,13 @@
 //! A cursor over the tokens of a text.
 ghost use Rattle.std.specs.Prelude.{◌≡◌, ◌+◌, suc};
 ghost use Rattle.opl_grammar.specs.Input as spec;
-ghost use Rattle.opl_model_tree.specs.Keywords.{keyword_of};
+ghost use Rattle.opl_tree.specs.Keywords.{keyword_of};
 ghost use Rattle.opl_grammar.specs.Input.{Reads};
 ghost use Rattle.opl_grammar.specs.Model as rules;
 
 use crate::look::Look;
 use opl_list::Seq;
-use opl_model_tree::{Keyword, Name, SyntaxFault, keyword_of};
+use opl_tree::{Keyword, Name, SyntaxFault, keyword_of};
 use opl_token::{Kind, Sign, Token};
 use std::alloc::Global;
 use std::marker::Model;

@@ -1,5 +1,5 @@
 //! What the grammar sees in a token.
-use opl_model_tree::Keyword;
+use opl_tree::Keyword;
 use opl_token::Sign;
 
 /// What the grammar sees in the next token. The text of a name and the value of a number decide nothing.

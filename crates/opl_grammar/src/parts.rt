@@ -1,5 +1,5 @@
 //! Parts of expressions that are read before it is known which node they are of.
-use opl_model_tree::{AddTree, Boxed, OpenTree, ParamsTree, Seq, SignTree};
+use opl_tree::{AddTree, Boxed, OpenTree, ParamsTree, Seq, SignTree};
 
 /// What may stand behind a sign, and what a product begins with.
 #[derive(Drop)]

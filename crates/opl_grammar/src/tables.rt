@@ -5,7 +5,7 @@ ghost use Rattle.opl_grammar.specs.Tables as spec;
 ghost use Rattle.opl_grammar.specs.Tables.{through, begins};
 
 use crate::look::Look;
-use opl_model_tree::{
+use opl_tree::{
     AddOp, AggregateOp, BranchOp, CallOp, GroupSeparator, Keyword, LabelOp, MulOp, Optimum,
     QuestionOp, Relation, ScheduleEnd,
 };

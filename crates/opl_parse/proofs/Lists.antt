@@ -1,20 +1,23 @@
--- The two lists of the grammar: parts one after another, and parts behind a sign each.
-use Rattle.std.proofs.Common.{◌≡◌, ℕ, zero, suc, ◌<◌, ◌≤◌, Bool, true, false, cond, ◌⊎◌, inl, inr, List, [], ◌∷◌, ◌++◌, map, Option, Some, None, Ok, Err, refl, sym, ap, ◌∙◌, subst, arith, append_assoc, append-nil}
+-- Parts one after another, as long as one begins.
+use Rattle.std.proofs.Common.{◌≡◌, ℕ, zero, suc, max, ◌<◌, ◌≤◌, Bool, true, false, cond, ◌⊎◌, inl, inr, List, [], ◌∷◌, ◌++◌, map, Option, Some, None, Ok, Err, refl, sym, ap, ◌∙◌, subst, arith, append_assoc, append-nil}
 use Rattle.opl_token.specs.declared.token.Kind.{Kind}
 use Rattle.opl_tree.specs.Marks.{joined}
-use Rattle.opl_parse.specs.Input.{Input, Outcome, Parser, kind, left, and_then, ◌>>=◌, pure, refuse, many, many_from}
-use Rattle.opl_parse.proofs.Takes.{Takes, takes_split, parts, parts-append, Begins, takes_begins, begins_split, begins_less, Written}
-use Rattle.opl_parse.proofs.Phrases.{Shape, Good, Fails, AllFail, Any, pair, pair_shape, pair_good, pair_fails_at, maybe, maybe_shape, maybe_fits, maybe_ends, maybe_good, maybe_fails_at, mapped, mapped_shape, Same, mapped_good, mapped_fails_at, Passes, Reshaped, reshaped_good, Law}
+use Rattle.opl_tree.specs.Depth.{greatest}
+use Rattle.opl_grammar.specs.Input.{Input, Stop, Outcome, Parser, kind, left, and_then, ◌>>=◌, pure, refuse, many, many_from}
+use Rattle.opl_parse.proofs.Outcomes.{and_then_pure}
+use Rattle.opl_parse.proofs.Takes.{Takes, takes_split, Begins, takes_begins, begins_split, begins_less, Written}
+use Rattle.opl_parse.proofs.Phrases.{Shape, Accepts, Sound, Good, Fails, AllFail, More, Law, Any, more_bind, more_test, pair, pair_shape, pair_good, pair_fails_at, max_left}
+use Rattle.opl_parse.proofs.Forms.{maybe, maybe_shape, maybe_fits, maybe_good, maybe_fails_at, mapped, Made, Rule, rule_good, rule_fails_at, Passes}
 
--- ---- parts one after another
+some_one : {X : Type 0} {x y : X} → ◌≡◌ {A = Option X} (Some x) (Some y) → x ≡ y
+some_one h = cc
+
+cons_eq : {X : Type 0} {x y : X} {xs ys : List X} → x ≡ y → xs ≡ ys → x ∷ xs ≡ y ∷ ys
+cons_eq h k = cc
 
 abbrev pub list_of : {A : Type 0} → Option (A × List A) → List A
 list_of None = []
 list_of (Some c) = c.0 ∷ c.1
-
-abbrev pub head_of : {A : Type 0} → List A → Option (A × List A)
-head_of [] = None
-head_of (x ∷ xs) = Some (x, xs)
 
 -- one step over the list that follows
 abbrev pub many_step : {A : Type 0} → (Option Kind → Bool) → Parser A → Parser (List A) → Parser (List A)
@@ -25,93 +28,113 @@ unfoldable pub many_n : {A : Type 0} → (Option Kind → Bool) → Parser A →
 many_n starts p zero = refuse
 many_n starts p (suc n) = many_step starts p (many_n starts p n)
 
+-- so many turns are enough
 abbrev pub list_fits : {A : Type 0} → Shape A → ℕ → List A → Type 0
 list_fits s zero xs = ⊥
 list_fits s (suc n) [] = Unit {0}
 list_fits s (suc n) (x ∷ xs) = s.fits x × list_fits s n xs
 
+abbrev pub list_tag : {A : Type 0} (s : Shape A) → List A → List s.Tag
+list_tag s xs = map s.tag xs
+
+abbrev pub list_depth : {A : Type 0} → Shape A → List A → ℕ
+list_depth s xs = greatest (map s.depth xs)
+
 abbrev pub many_shape_n : {A : Type 0} → (Option Kind → Bool) → Shape A → ℕ → Shape (List A)
 many_shape_n starts s n = record {
   marks = λ xs. joined (map s.marks xs);
+  Tag = List s.Tag;
+  tag = list_tag s;
+  depth = list_depth s;
   fits = list_fits s n;
-  ends = λ xs k. starts k ≡ false;
-  closes = λ k. starts k ≡ false;
+  ends = λ x k. s.closes k × (starts k ≡ false);
+  closes = λ k. s.closes k × (starts k ≡ false);
   begins = λ F k. (starts k ≡ true) ⊎ F k;
 }
 
--- a list's part: it begins with a token that passes the test, it stops by itself, and it writes something
+-- a list's part: it begins with a token that passes the test, it stops where another begins, and it writes something
 pub record ListPart {A : Type 0} (starts : Option Kind → Bool) (s : Shape A) : Type 1 where
   pub passes : Passes starts s
-  pub closes : (k : Option Kind) → s.closes k
-  pub written : (a : A) → Written (parts (s.marks a))
+  pub meets : (k : Option Kind) → starts k ≡ true → s.closes k
+  pub written : (a : A) → Written (s.marks a)
 
-list_same : {A : Type 0} (starts : Option Kind → Bool) (s : Shape A) (rest : Shape (List A)) → ((xs : List A) → rest.marks xs ≡ joined (map s.marks xs)) → Same (maybe_shape starts (pair_shape s rest)) (λ xs. joined (map s.marks xs)) list_of head_of
-list_same {A} starts s rest same = record { there = there; back = back; spelt = spelt } where
-  there : (xs : List A) → list_of (head_of xs) ≡ xs
-  there [] = refl
-  there (x ∷ xs) = refl
+abbrev step_shape : {A : Type 0} → (Option Kind → Bool) → Shape A → Shape (List A) → Shape (Option (A × List A))
+step_shape starts s rest = maybe_shape starts (pair_shape s rest)
 
-  back : (o : Option (A × List A)) → head_of (list_of o) ≡ o
-  back None = refl
-  back (Some c) = refl
+list_made : {A : Type 0} (xs : List A) → Made list_of xs
+list_made [] = record { of = None; is = refl }
+list_made (x ∷ xs) = record { of = Some (x, xs); is = refl }
 
-  spelt : (xs : List A) → joined (map s.marks xs) ≡ (maybe_shape starts (pair_shape s rest)).marks (head_of xs)
-  spelt [] = refl
-  spelt (x ∷ xs) = ap (λ ms. s.marks x ++ ms) (sym (same xs))
+module _ {A : Type 0} (starts : Option Kind → Bool) (s : Shape A) (rest : Shape (List A)) (same : (xs : List A) → rest.marks xs ≡ joined (map s.marks xs)) (deeps : (xs : List A) → rest.depth xs ≡ list_depth s xs) where
+  step_marks : (o : Option (A × List A)) → joined (map s.marks (list_of o)) ≡ (step_shape starts s rest).marks o
+  step_marks None = refl
+  step_marks (Some c) = ap (λ ms. s.marks c.0 ++ ms) (sym (same c.1))
 
-module _ {A : Type 0} (starts : Option Kind → Bool) (p : Parser A) (s : Shape A) (P : Good p s) (part : ListPart starts s) where
-  list_fits_to : (n : ℕ) (xs : List A) → maybe_fits (pair_shape s (many_shape_n starts s n)) (head_of xs) → list_fits s (suc n) xs
-  list_fits_to n [] h = tt
-  list_fits_to n (x ∷ xs) h = h
+  step_depth : (o : Option (A × List A)) → list_depth s (list_of o) ≡ (step_shape starts s rest).depth o
+  step_depth None = refl
+  step_depth (Some c) = ap (λ d. max (s.depth c.0) d) (sym (deeps c.1))
 
-  list_fits_from : (n : ℕ) (xs : List A) → list_fits s (suc n) xs → maybe_fits (pair_shape s (many_shape_n starts s n)) (head_of xs)
-  list_fits_from n [] h = tt
-  list_fits_from n (x ∷ xs) h = h
+module _ {A : Type 0} (n : ℕ) (starts : Option Kind → Bool) (p : Parser A) (s : Shape A) (P : Good n p s) (part : ListPart starts s) where
+  list_fits_to : (m : ℕ) (o : Option (A × List A)) → maybe_fits (pair_shape s (many_shape_n starts s m)) o → list_fits s (suc m) (list_of o)
+  list_fits_to m None h = tt
+  list_fits_to m (Some c) h = h
 
-  list_ends_to : (n : ℕ) (xs : List A) (k : Option Kind) → maybe_ends starts (pair_shape s (many_shape_n starts s n)) (head_of xs) k → starts k ≡ false
-  list_ends_to n [] k h = h
-  list_ends_to n (x ∷ xs) k h = h
+  list_fits_from : (m : ℕ) (o : Option (A × List A)) → list_fits s (suc m) (list_of o) → maybe_fits (pair_shape s (many_shape_n starts s m)) o
+  list_fits_from m None h = tt
+  list_fits_from m (Some c) h = h
 
-  list_ends_from : (n : ℕ) (xs : List A) (k : Option Kind) → starts k ≡ false → maybe_ends starts (pair_shape s (many_shape_n starts s n)) (head_of xs) k
-  list_ends_from n [] k h = h
-  list_ends_from n (x ∷ xs) k h = h
+  list_tags : (rest : Shape (List A)) → ((xs ys : List A) → rest.tag xs ≡ rest.tag ys → list_tag s xs ≡ list_tag s ys) → (o u : Option (A × List A)) → (step_shape starts s rest).tag o ≡ (step_shape starts s rest).tag u → list_tag s (list_of o) ≡ list_tag s (list_of u)
+  list_tags rest same None None h = refl
+  list_tags rest same None (Some d) h = cc
+  list_tags rest same (Some c) None h = cc
+  list_tags rest same (Some c) (Some d) h = let e = some_one h in cons_eq (ap (λ x. x.0) e) (same c.1 d.1 (ap (λ x. x.1) e))
 
-  list_reshaped : (n : ℕ) → Reshaped (mapped_shape (λ xs. joined (map s.marks xs)) head_of (maybe_shape starts (pair_shape s (many_shape_n starts s n)))) (many_shape_n starts s (suc n))
-  list_reshaped n = record {
-    marks = λ xs. refl;
-    fits_to = list_fits_to n;
-    fits_from = list_fits_from n;
-    ends_to = list_ends_to n;
-    ends_from = list_ends_from n;
-    closes = λ k h. (h, h);
+  list_ends : (rest : Shape (List A)) → ((xs : List A) (k : Option Kind) → s.closes k × (starts k ≡ false) → rest.ends (rest.tag xs) k) → (o : Option (A × List A)) (k : Option Kind) → s.closes k × (starts k ≡ false) → (step_shape starts s rest).ends ((step_shape starts s rest).tag o) k
+  list_ends rest ends None k h = h.1
+  list_ends rest ends (Some c) k h = ends c.1 k h
+
+  list_rule : (m : ℕ) → Rule (step_shape starts s (many_shape_n starts s m)) (many_shape_n starts s (suc m)) list_of
+  list_rule m = record {
+    made = list_made;
+    marks = step_marks starts s (many_shape_n starts s m) (λ xs. refl) (λ xs. refl);
+    tags = list_tags (many_shape_n starts s m) (λ xs ys h. h);
+    depth = step_depth starts s (many_shape_n starts s m) (λ xs. refl) (λ xs. refl);
+    fits_to = list_fits_to m;
+    fits_from = list_fits_from m;
+    ends = list_ends (many_shape_n starts s m) (λ xs k h. h);
+    closing = λ x k h. h;
+    closes = λ k h. (h, h.1);
     begins = λ F k h. h;
   }
 
-  list_pair : (n : ℕ) → Good (many_n starts p n) (many_shape_n starts s n) → Good (pair p (many_n starts p n)) (pair_shape s (many_shape_n starts s n))
-  list_pair n rest = pair_good p s (many_n starts p n) (many_shape_n starts s n) P rest (λ xs k h. part.closes k)
+  list_meets : (F : Option Kind → Type 0) (k : Option Kind) → (starts k ≡ true) ⊎ (s.closes k × F k) → s.closes k
+  list_meets F k (inl h) = part.meets k h
+  list_meets F k (inr h) = h.0
 
-  list_maybe : (n : ℕ) → Good (many_n starts p n) (many_shape_n starts s n) → Good (maybe starts (pair p (many_n starts p n))) (maybe_shape starts (pair_shape s (many_shape_n starts s n)))
-  list_maybe n rest = maybe_good starts (pair p (many_n starts p n)) (pair_shape s (many_shape_n starts s n)) (list_pair n rest) (λ F k h. part.passes (λ l. (starts l ≡ true) ⊎ F l) k h)
+  list_pair : (m : ℕ) → Good n (many_n starts p m) (many_shape_n starts s m) → Good n (pair p (many_n starts p m)) (pair_shape s (many_shape_n starts s m))
+  list_pair m rest = pair_good n p s (many_n starts p m) (many_shape_n starts s m) P rest (λ x k h. list_meets (λ l. starts l ≡ false) k h)
 
-  many_n_good : (n : ℕ) → Good (many_n starts p n) (many_shape_n starts s n)
+  list_maybe : (m : ℕ) → Good n (many_n starts p m) (many_shape_n starts s m) → Good n (maybe starts (pair p (many_n starts p m))) (step_shape starts s (many_shape_n starts s m))
+  list_maybe m rest = maybe_good n starts (pair p (many_n starts p m)) (pair_shape s (many_shape_n starts s m)) (list_pair m rest) (λ F k h. part.passes (λ l. (starts l ≡ true) ⊎ F l) k h)
+
+  many_n_good : (m : ℕ) → Good n (many_n starts p m) (many_shape_n starts s m)
   unfolding many_n
   many_n_good zero = record {
     sound = λ i a j h. cc;
-    complete = λ i a j fits t e. absurd fits;
-    accepts = λ i a j fits t e. absurd fits;
-    front = λ i a j F t e. front_of i a j F t e;
-    closing = λ a k h. h;
-    sample = λ tail h. record { whole = tail; value = []; takes = refl };
+    complete = λ i a j fits d t e. absurd fits;
+    accepts = λ i a j fits d t e. absurd fits;
+    front = λ i a j F d t e. front_of i a j F d t e;
+    closing = λ x k h. h;
+    sample = λ tail h. record { whole = tail; value = []; takes = refl; starts = λ F k. inr k };
   } where
-    front_of : (i : Input) (xs : List A) (j : Input) (F : Option Kind → Type 0) → Takes (joined (map s.marks xs)) i j → F (kind j) → (starts (kind i) ≡ true) ⊎ F (kind i)
-    front_of i [] j F t e = inr (subst (λ x. F (kind x)) (sym t) e)
-    front_of i (x ∷ xs) j F t e =
+    front_of : (i : Input) (xs : List A) (j : Input) (F : Option Kind → Type 0) → list_depth s xs ≤ n → Takes (joined (map s.marks xs)) i j → F (kind j) → (starts (kind i) ≡ true) ⊎ F (kind i)
+    front_of i [] j F d t e = inr (subst (λ x. F (kind x)) (sym t) e)
+    front_of i (x ∷ xs) j F d t e =
         let w = takes_split (s.marks x) (joined (map s.marks xs)) i j t in
-        inl (part.passes Any (kind i) (P.front i x w.mid Any w.front tt))
-  many_n_good (suc n) =
-      reshaped_good (many_step starts p (many_n starts p n)) (mapped_shape (λ xs. joined (map s.marks xs)) head_of (maybe_shape starts (pair_shape s (many_shape_n starts s n)))) (many_shape_n starts s (suc n)) (list_reshaped n)
-      (mapped_good (maybe starts (pair p (many_n starts p n))) (maybe_shape starts (pair_shape s (many_shape_n starts s n))) (list_maybe n (many_n_good n))
-      (λ xs. joined (map s.marks xs)) list_of head_of (list_same starts s (many_shape_n starts s n) (λ xs. refl)) (many_step starts p (many_n starts p n)) (λ i. refl))
+        inl (part.passes Any (kind i) (P.front i x w.mid Any (max_left (s.depth x) (list_depth s xs) d) w.front tt))
+  many_n_good (suc m) =
+      rule_good n (maybe starts (pair p (many_n starts p m))) (step_shape starts s (many_shape_n starts s m)) (list_maybe m (many_n_good m))
+      (many_shape_n starts s (suc m)) list_of (list_rule m) (many_step starts p (many_n starts p m)) (λ i. refl)
 
 -- ---- enough turns are as good as more
 
@@ -160,10 +183,6 @@ many_found {A} starts p (suc n) found i = by_test (λ x j. many_found starts p n
   by_test again true = by_part again (p i)
   by_test again false = rw append-nil refl
 
-pub and_then_pure : {X : Type 0} (o : Outcome X) → and_then o (λ x. pure x) ≡ o
-and_then_pure (Ok c) = refl
-and_then_pure (Err at) = refl
-
 pub many_is_n : {A : Type 0} (starts : Option Kind → Bool) (p : Parser A) → Shrinks p → (n : ℕ) (i : Input) → left i < n → many starts p i ≡ many_n starts p n i
 unfolding many
 many_is_n starts p shrinks n i h =
@@ -178,6 +197,19 @@ pub many_is_step : {A : Type 0} (starts : Option Kind → Bool) (p : Parser A) �
 many_is_step starts p shrinks i =
     many_is_n starts p shrinks (suc (suc (left i))) i (omega arith) ∙ many_n_step starts p shrinks (suc (left i)) i (omega arith)
 
+-- ---- more levels
+
+many_from_more_levels : {A : Type 0} (starts : Option Kind → Bool) (p q : Parser A) → More p q → (n : ℕ) (found : List A) → More (many_from starts p n found) (many_from starts q n found)
+unfolding many_from
+many_from_more_levels starts p q h zero found i d = refl
+many_from_more_levels {A} starts p q h (suc n) found i d = more_test {A = List A} (starts (kind i)) ((p >>= (λ x. many_from starts p n (found ++ x ∷ []))) i) (Ok (found, i)) ((q >>= (λ x. many_from starts q n (found ++ x ∷ []))) i) (Ok (found, i))
+    (more_bind (p i) (q i) (λ x. many_from starts p n (found ++ x ∷ [])) (λ x. many_from starts q n (found ++ x ∷ [])) (h i) (λ x. many_from_more_levels starts p q h n (found ++ x ∷ [])))
+    (λ d. refl) d
+
+many_more : {A : Type 0} (starts : Option Kind → Bool) (p q : Parser A) → More p q → More (many starts p) (many starts q)
+unfolding many
+many_more starts p q h i d = many_from_more_levels starts p q h (suc (left i)) [] i d
+
 -- ---- the laws of the list
 
 abbrev pub all_fit : {A : Type 0} → Shape A → List A → Type 0
@@ -187,102 +219,117 @@ all_fit s (x ∷ xs) = s.fits x × all_fit s xs
 abbrev pub many_shape : {A : Type 0} → (Option Kind → Bool) → Shape A → Shape (List A)
 many_shape starts s = record {
   marks = λ xs. joined (map s.marks xs);
+  Tag = List s.Tag;
+  tag = list_tag s;
+  depth = list_depth s;
   fits = all_fit s;
-  ends = λ xs k. starts k ≡ false;
-  closes = λ k. starts k ≡ false;
+  ends = λ x k. s.closes k × (starts k ≡ false);
+  closes = λ k. s.closes k × (starts k ≡ false);
   begins = λ F k. (starts k ≡ true) ⊎ F k;
 }
 
-module _ {A : Type 0} (starts : Option Kind → Bool) (p : Parser A) (s : Shape A) (P : Good p s) (part : ListPart starts s) where
+module _ {A : Type 0} (n : ℕ) (starts : Option Kind → Bool) (p : Parser A) (s : Shape A) (P : Good n p s) (part : ListPart starts s) where
   pub shrinks : Shrinks p
-  shrinks i a j e = begins_less (parts (s.marks a)) i j (part.written a) (takes_begins (s.marks a) i j (P.sound i a j e).takes)
+  shrinks i a j e = begins_less (s.marks a) i j (part.written a) (takes_begins (s.marks a) i j (P.sound i a j e).takes)
 
-  fits_enough : (xs : List A) (i j : Input) (n : ℕ) → all_fit s xs → Begins (parts (joined (map s.marks xs))) i j → left i < n → list_fits s n xs
+  fits_enough : (xs : List A) (i j : Input) (m : ℕ) → all_fit s xs → Begins (joined (map s.marks xs)) i j → left i < m → list_fits s m xs
   fits_enough [] i j zero fits h less = absurd (omega arith)
-  fits_enough [] i j (suc n) fits h less = tt
+  fits_enough [] i j (suc m) fits h less = tt
   fits_enough (x ∷ xs) i j zero fits h less = absurd (omega arith)
-  fits_enough (x ∷ xs) i j (suc n) fits h less =
-      let w = begins_split (parts (s.marks x)) (parts (joined (map s.marks xs))) i j (subst (λ ps. Begins ps i j) (parts-append (s.marks x) (joined (map s.marks xs))) h) in
-      let m = begins_less (parts (s.marks x)) i w.mid (part.written x) w.front in
-      (fits.0, fits_enough xs w.mid j n fits.1 w.back (omega arith))
+  fits_enough (x ∷ xs) i j (suc m) fits h less =
+      let w = begins_split (s.marks x) (joined (map s.marks xs)) i j h in
+      let l = begins_less (s.marks x) i w.mid (part.written x) w.front in
+      (fits.0, fits_enough xs w.mid j m fits.1 w.back (omega arith))
 
-  fits_all : (n : ℕ) (xs : List A) → list_fits s n xs → all_fit s xs
+  fits_all : (m : ℕ) (xs : List A) → list_fits s m xs → all_fit s xs
   fits_all zero xs h = absurd h
-  fits_all (suc n) [] h = tt
-  fits_all (suc n) (x ∷ xs) h = (h.0, fits_all n xs h.1)
+  fits_all (suc m) [] h = tt
+  fits_all (suc m) (x ∷ xs) h = (h.0, fits_all m xs h.1)
 
   many_as : (i : Input) → many starts p i ≡ many_n starts p (suc (left i)) i
   many_as i = many_is_n starts p shrinks (suc (left i)) i (omega arith)
 
-  pub many_good : Good (many starts p) (many_shape starts s)
+  many_accepts : (i : Input) (xs : List A) (j : Input) → Accepts (many_n starts p (suc (left i))) (many_shape_n starts s (suc (left i))) xs i j → Accepts (many starts p) (many_shape starts s) xs i j
+  many_accepts i xs j x = record { value = x.value; is = many_as i ∙ x.is; same = x.same }
+
+  -- the turns that another input allows
+  many_again : (i : Input) (xs : List A) (j : Input) → many starts p i ≡ Ok (xs, j) → Sound (many starts p) (many_shape starts s) n i xs j
+  many_again i xs j e = record {
+    takes = (sound_at i j (suc (left i)) (omega arith) e).takes;
+    fits = fits_all (suc (left i)) xs (sound_at i j (suc (left i)) (omega arith) e).fits;
+    deep = (sound_at i j (suc (left i)) (omega arith) e).deep;
+    again = λ i' j' b c.
+        let m = suc (max (left i) (left i')) in
+        let x = (sound_at i j m (omega arith) e).again i' j' b c in
+        record { value = x.value; is = many_is_n starts p shrinks m i' (omega arith) ∙ x.is; same = x.same };
+    before = (sound_at i j (suc (left i)) (omega arith) e).before;
+  } where
+    sound_at : (i j : Input) (m : ℕ) → left i < m → many starts p i ≡ Ok (xs, j) → Sound (many_n starts p m) (many_shape_n starts s m) n i xs j
+    sound_at i j m h e = (many_n_good n starts p s P part m).sound i xs j (sym (many_is_n starts p shrinks m i h) ∙ e)
+
+  pub many_good : Good n (many starts p) (many_shape starts s)
   many_good = record {
-    sound = λ i xs j e.
-        let x = (many_n_good starts p s P part (suc (left i))).sound i xs j (sym (many_as i) ∙ e) in
-        record { takes = x.takes; ends = x.ends; fits = fits_all (suc (left i)) xs x.fits };
-    complete = λ i xs j fits t e.
-        many_as i ∙ (many_n_good starts p s P part (suc (left i))).complete i xs j (fits_enough xs i j (suc (left i)) fits (takes_begins (joined (map s.marks xs)) i j t) (omega arith)) t e;
-    accepts = λ i xs j fits b e.
-        let x = (many_n_good starts p s P part (suc (left i))).accepts i xs j (fits_enough xs i j (suc (left i)) fits b (omega arith)) b e in
-        record { value = x.value; is = many_as i ∙ x.is };
-    front = (many_n_good starts p s P part 1).front;
-    closing = λ xs k h. h;
-    sample = λ tail h. record { whole = tail; value = []; takes = refl };
+    sound = many_again;
+    complete = λ i xs j fits d t e.
+        many_as i ∙ (many_n_good n starts p s P part (suc (left i))).complete i xs j (fits_enough xs i j (suc (left i)) fits (takes_begins (joined (map s.marks xs)) i j t) (omega arith)) d t e;
+    accepts = λ i xs j fits d b e.
+        many_accepts i xs j ((many_n_good n starts p s P part (suc (left i))).accepts i xs j (fits_enough xs i j (suc (left i)) fits b (omega arith)) d b e);
+    front = (many_n_good n starts p s P part 1).front;
+    closing = λ x k h. h;
+    sample = λ tail h. record { whole = tail; value = []; takes = refl; starts = λ F k. inr k };
   }
 
-  many_pair : Good (pair p (many starts p)) (pair_shape s (many_shape starts s))
-  many_pair = pair_good p s (many starts p) (many_shape starts s) P many_good (λ xs k h. part.closes k)
+  whole_closes : (k : Option Kind) → (starts k ≡ true) ⊎ (s.closes k × (starts k ≡ false)) → s.closes k
+  whole_closes k (inl h) = part.meets k h
+  whole_closes k (inr h) = h.0
+
+  many_pair : Good n (pair p (many starts p)) (pair_shape s (many_shape starts s))
+  many_pair = pair_good n p s (many starts p) (many_shape starts s) P many_good (λ x k h. whole_closes k h)
 
   whole_passes : Passes starts (pair_shape s (many_shape starts s))
   whole_passes F k h = part.passes (λ l. (starts l ≡ true) ⊎ F l) k h
 
-  whole_closes : (xs : List A) (k : Option Kind) → (starts k ≡ true) ⊎ (starts k ≡ false) → s.closes k
-  whole_closes xs k h = part.closes k
+  whole_rule : Rule (step_shape starts s (many_shape starts s)) (many_shape starts s) list_of
+  whole_rule = record {
+    made = list_made;
+    marks = step_marks starts s (many_shape starts s) (λ xs. refl) (λ xs. refl);
+    tags = list_tags n starts p s P part (many_shape starts s) (λ xs ys h. h);
+    depth = step_depth starts s (many_shape starts s) (λ xs. refl) (λ xs. refl);
+    fits_to = whole_fits_to;
+    fits_from = whole_fits_from;
+    ends = list_ends n starts p s P part (many_shape starts s) (λ xs k h. h);
+    closing = λ x k h. h;
+    closes = λ k h. (h, h.1);
+    begins = λ F k h. h;
+  } where
+    whole_fits_to : (o : Option (A × List A)) → maybe_fits (pair_shape s (many_shape starts s)) o → all_fit s (list_of o)
+    whole_fits_to None h = tt
+    whole_fits_to (Some c) h = h
 
-  many_fail : AllFail p s → (n : ℕ) (i : Input) (at : ℕ) → left i < n → many starts p i ≡ Err at → Fails (many starts p) (many_shape starts s) i at
-  many_fail f zero i at less h = absurd (omega arith)
-  many_fail f (suc n) i at less h =
-      let x = mapped_fails_at (maybe starts (pair p (many starts p))) (maybe_shape starts (pair_shape s (many_shape starts s)))
-      (maybe_good starts (pair p (many starts p)) (pair_shape s (many_shape starts s)) many_pair whole_passes)
-      (λ xs. joined (map s.marks xs)) list_of head_of (list_same starts s (many_shape starts s) (λ xs. refl)) (many starts p) (many_is_step starts p shrinks) i at
-      (maybe_fails_at starts (pair p (many starts p)) (pair_shape s (many_shape starts s)) many_pair whole_passes i at
-      (pair_fails_at p s (many starts p) (many_shape starts s) P many_good whole_closes i at (f i at)
-      (λ a m e k. let l = shrinks i a m e in many_fail f n m at (omega arith) k))) h in
-      record {
-        front = x.front;
-        stop = x.stop;
-        begins = x.begins;
-        place = x.place;
-        again = x.again;
-        viable = λ tail c. let a = x.viable tail (c, c) in record { whole = a.whole; mid = a.mid; value = a.value; begins = a.begins; takes = a.takes };
-      }
+    whole_fits_from : (o : Option (A × List A)) → all_fit s (list_of o) → maybe_fits (pair_shape s (many_shape starts s)) o
+    whole_fits_from None h = tt
+    whole_fits_from (Some c) h = h
+
+  many_fail : AllFail p s → (m : ℕ) (i : Input) (e : Stop) → left i < m → many starts p i ≡ Err e → Fails (many starts p) (many_shape starts s) i e
+  many_fail f zero i e less h = absurd (omega arith)
+  many_fail f (suc m) i e less h =
+      rule_fails_at n (maybe starts (pair p (many starts p))) (step_shape starts s (many_shape starts s))
+      (maybe_good n starts (pair p (many starts p)) (pair_shape s (many_shape starts s)) many_pair whole_passes)
+      (many_shape starts s) list_of whole_rule (many starts p) (many_is_step starts p shrinks) i e
+      (maybe_fails_at n starts (pair p (many starts p)) (pair_shape s (many_shape starts s)) many_pair whole_passes i e
+      (pair_fails_at n p s (many starts p) (many_shape starts s) P many_good (λ x k h. whole_closes k h) i e (f i e)
+      (λ a l c k. let less' = shrinks i a l c in many_fail f m l e (omega arith) k))) h
 
   pub many_fails : AllFail p s → AllFail (many starts p) (many_shape starts s)
-  many_fails f i at h = many_fail f (suc (left i)) i at (omega arith) h
+  many_fails f i e h = many_fail f (suc (left i)) i e (omega arith) h
 
-pub many_law : {A : Type 0} {p : Parser A} {s : Shape A} (starts : Option Kind → Bool) → Law p s → ListPart starts s → Law (many starts p) (many_shape starts s)
-many_law {A} {p} {s} starts P part = record { good = many_good starts p s P.good part; fails = many_fails starts p s P.good part P.fails }
-
--- ---- the turns of a loop that reads the list
-
-many_from_enough : {A : Type 0} (starts : Option Kind → Bool) (p : Parser A) → Shrinks p → (n m : ℕ) (found : List A) (i : Input) → left i < n → left i < m → many_from starts p n found i ≡ many_from starts p m found i
-many_from_enough {A} starts p shrinks n m found i h k =
-    many_found starts p n found i ∙ (ap (λ (o : Outcome (List A)). and_then o (λ xs. pure (found ++ xs))) (many_enough starts p shrinks n m i h k) ∙ sym (many_found starts p m found i))
-
--- one more part
-pub many_from_more : {A : Type 0} (starts : Option Kind → Bool) (p : Parser A) → Shrinks p → (found : List A) (i : Input) (x : A) (j : Input) → starts (kind i) ≡ true → p i ≡ Ok (x, j) →
-    many_from starts p (suc (left i)) found i ≡ many_from starts p (suc (left j)) (found ++ x ∷ []) j
-unfolding many_from
-many_from_more starts p shrinks found i x j t h =
-    let less = shrinks i x j h in
-    let turn : many_from starts p (suc (left i)) found i ≡ many_from starts p (left i) (found ++ x ∷ []) j = rw (t, h) refl in
-    turn ∙ many_from_enough starts p shrinks (left i) (suc (left j)) (found ++ x ∷ []) j less (omega arith)
-
--- a part that fails
-pub many_from_err : {A : Type 0} (starts : Option Kind → Bool) (p : Parser A) (found : List A) (i : Input) (at : ℕ) → starts (kind i) ≡ true → p i ≡ Err at → many_from starts p (suc (left i)) found i ≡ Err at
-unfolding many_from
-many_from_err starts p found i at t h = rw (t, h) refl
-
--- no more parts
-pub many_from_end : {A : Type 0} (starts : Option Kind → Bool) (p : Parser A) (found : List A) (i : Input) → starts (kind i) ≡ false → many_from starts p (suc (left i)) found i ≡ Ok (found, i)
-unfolding many_from
-many_from_end starts p found i t = rw t refl
+pub many_law : {A : Type 0} {n : ℕ} {p q : Parser A} {s : Shape A} (starts : Option Kind → Bool) → Law n p q s → ListPart starts s → Law n (many starts p) (many starts q) (many_shape starts s)
+many_law {A} {n} {p} {q} {s} starts P part = record {
+  good = many_good n starts p s P.good part;
+  fails = many_fails n starts p s P.good part P.fails;
+  more = many_more starts p q P.more;
+  fit = fit;
+} where
+  fit : (xs : List A) → all_fit s xs
+  fit [] = tt
+  fit (x ∷ xs) = (P.fit x, fit xs)

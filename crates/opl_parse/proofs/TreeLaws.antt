@@ -1,17 +1,21 @@
 -- The laws of trees and stops.
-use Rattle.std.proofs.Common.{◌≡◌, ℕ, ◌⊎◌, inl, inr, List, [], ◌∷◌, ◌++◌, Ok, Err, refl, sym, ap, ◌∙◌, subst, append_assoc, append-nil}
+use Rattle.std.proofs.Common.{◌≡◌, ℕ, max, ◌≤◌, ◌⊎◌, inl, inr, List, [], ◌∷◌, ◌++◌, Ok, Err, refl, sym, ap, ◌∙◌, subst, arith, append_assoc, append-nil}
 use Rattle.opl_token.specs.declared.token.Kind.{Kind}
 use Rattle.opl_token.specs.declared.token.Token.{Token}
 use Rattle.opl_tree.specs.declared.model.ModelTree.{ModelTree}
-use Rattle.opl_tree.specs.Reading.{kinds, IsTreeOf, IsViable, Stops, StopsAt}
-use Rattle.opl_parse.specs.Input.{Outcome}
-use Rattle.opl_parse.specs.Laws.{OneTree, TreeOrStop, OneStop, ParseTotal}
-use Rattle.opl_parse.specs.Rules.{whole}
+use Rattle.opl_tree.specs.Depth.{depth_model}
+use Rattle.opl_tree.specs.Reading.{kinds, IsTreeOf, IsViable, Stops, StopsAt, OpensAt}
+use Rattle.opl_grammar.specs.Input.{syntax, too_deep, Outcome, behind}
+use Rattle.opl_grammar.specs.Model as gm
 use Rattle.opl_parse.proofs.Outcomes.{ok_one}
-use Rattle.opl_parse.proofs.Texts.{start, first_same, rest_same, whole_reads, whole_tree, whole_stops, kinds-append}
+use Rattle.opl_parse.proofs.Texts.{start, first_same, rest_same, whole_reads, whole_ok, kinds-append, whole_stops, whole_opens}
+use Rattle.opl_parse.specs.Laws.{OneTree, TreeOrStop, OneStop, ParseTotal, DeepOrTree}
 
 pub one_tree : OneTree
-one_tree tokens end t u h k = let same : (t, start [] end) ≡ (u, start [] end) = ok_one (sym (whole_reads tokens end t h) ∙ whole_reads tokens end u k) in ap (λ c. c.0) same
+one_tree tokens end t u h k =
+    let n = max (depth_model t) (depth_model u) in
+    let same : (t, start [] end) ≡ (u, start [] end) = ok_one (sym (whole_reads n tokens end t h (omega arith)) ∙ whole_reads n tokens end u k (omega arith)) in
+    ap (λ c. c.0) same
 
 -- tokens that have a tree are stuck nowhere
 not_stuck : (tokens : List Token) (end : ℕ) (t : ModelTree) (at : ℕ) → IsTreeOf t tokens end → (front back : List Token) → tokens ≡ front ++ back → Stops front back end at → ⊥
@@ -77,11 +81,15 @@ one_stop tokens end at other s t = by_length (compared s.front s.back t.front t.
   by_length (inr (inl g)) = absurd (not_past s.front s.back t.front end at g s.stop t.viable)
   by_length (inr (inr g)) = absurd (not_past t.front t.back s.front end other g t.stop s.viable)
 
--- ---- a tree or a stop
+-- ---- a tree, a stop or a level too many
 
-by_outcome : (tokens : List Token) (end : ℕ) (o : Outcome ModelTree) → whole (start tokens end) ≡ o → ((t : ModelTree) × IsTreeOf t tokens end) ⊎ ((at : ℕ) × StopsAt tokens end at)
-by_outcome tokens end (Ok c) e = inl (c.0, whole_tree tokens end c.0 c.1 e)
-by_outcome tokens end (Err at) e = inr (at, whole_stops tokens end at e)
+by_outcome : (tokens : List Token) (end : ℕ) (o : Outcome ModelTree) → gm.whole (start tokens end) ≡ o → ((t : ModelTree) × IsTreeOf t tokens end × (depth_model t ≤ 256)) ⊎ (((at : ℕ) × StopsAt tokens end at) ⊎ ((at : ℕ) × OpensAt 256 tokens at))
+by_outcome tokens end (Ok c) e = let t = whole_ok 256 tokens end c.0 c.1 e in inl (c.0, t.0, t.1)
+by_outcome tokens end (Err (syntax at)) e = inr (inl (at, whole_stops 256 tokens end at e))
+by_outcome tokens end (Err (too_deep at)) e = inr (inr (at, whole_opens 256 tokens end at e))
 
 pub parse_total : ParseTotal
-parse_total tokens end = by_outcome tokens end (whole (start tokens end)) refl
+parse_total tokens end = by_outcome tokens end (gm.whole (start tokens end)) refl
+
+pub deep_or_tree : DeepOrTree
+deep_or_tree tokens end t at h o = o.deeper t (kinds o.back) h.formed (h.spelt ∙ (ap kinds o.parts ∙ (kinds-append o.front (o.opener ∷ o.back) ∙ sym (append_assoc (kinds o.front) (o.opener.kind ∷ []) (kinds o.back)))))

@@ -1,11 +1,9 @@
 -- Laws of trees, stops and tokens.
-use Rattle.std.specs.Prelude.{◌≡◌, ℕ, ◌≤◌, List, All, length, ◌⊎◌}
+use Rattle.std.specs.Prelude.{◌≡◌, ◌<◌, ◌≤◌, ◌⊎◌, ℕ, List}
 use Rattle.opl_token.specs.declared.token.Token.{Token}
-use Rattle.opl_token.specs.Laws.{NumberFits}
+use Rattle.opl_tree.specs.Depth.{depth_model}
+use Rattle.opl_tree.specs.Reading.{IsTreeOf, StopsAt, OpensAt}
 use Rattle.opl_tree.specs.declared.model.ModelTree.{ModelTree}
-use Rattle.opl_tree.specs.Marks.{marks_model}
-use Rattle.opl_tree.specs.Reading.{IsTreeOf, StopsAt}
-use Rattle.opl_tree.specs.Sizes.{NumbersFit, places_of, IsPlaceIn}
 
 -- tokens have at most one tree
 abbrev pub OneTree : Type 0
@@ -19,18 +17,10 @@ TreeOrStop = (tokens : List Token) (end : ℕ) (t : ModelTree) (at : ℕ) → Is
 abbrev pub OneStop : Type 0
 OneStop = (tokens : List Token) (end at other : ℕ) → StopsAt tokens end at → StopsAt tokens end other → at ≡ other
 
--- tokens have a tree, or stop somewhere
+-- tokens have a tree that nests at most 256 levels, or stop somewhere, or open a level too many
 abbrev pub ParseTotal : Type 0
-ParseTotal = (tokens : List Token) (end : ℕ) → ((t : ModelTree) × IsTreeOf t tokens end) ⊎ ((at : ℕ) × StopsAt tokens end at)
+ParseTotal = (tokens : List Token) (end : ℕ) → ((t : ModelTree) × IsTreeOf t tokens end × (depth_model t ≤ 256)) ⊎ (((at : ℕ) × StopsAt tokens end at) ⊎ ((at : ℕ) × OpensAt 256 tokens at))
 
--- there are no more declarations than tokens
-abbrev pub FewDecls : Type 0
-FewDecls = (tokens : List Token) (end : ℕ) (t : ModelTree) → IsTreeOf t tokens end → length t.decls ≤ length tokens
-
--- the tree of a text's tokens holds only numbers that a text can write
-abbrev pub NumbersWithin : Type 0
-NumbersWithin = (tokens : List Token) (end : ℕ) (t : ModelTree) → All (λ token. NumberFits token.kind) tokens → IsTreeOf t tokens end → NumbersFit t
-
--- each place in the tree is the place of a token, or the text's end
-abbrev pub PlacesWithin : Type 0
-PlacesWithin = (tokens : List Token) (end : ℕ) (t : ModelTree) → IsTreeOf t tokens end → All (IsPlaceIn tokens end) (places_of (marks_model t))
+-- the tree of tokens that open a level too many nests deeper
+abbrev pub DeepOrTree : Type 0
+DeepOrTree = (tokens : List Token) (end : ℕ) (t : ModelTree) (at : ℕ) → IsTreeOf t tokens end → OpensAt 256 tokens at → 256 < depth_model t

@@ -1,4 +1,2 @@
 pub mod Answers
-pub mod Input
 pub mod Laws
-pub mod Rules

@@ -1,5 +1,5 @@
 //! Laws of trees and tokens: each function does nothing, and its contract is a theorem about the definitions alone.
-ghost use Rattle.opl_parse.specs.Laws.{OneTree, TreeOrStop, OneStop, ParseTotal, FewDecls, NumbersWithin, PlacesWithin};
+ghost use Rattle.opl_parse.specs.Laws.{OneTree, TreeOrStop, OneStop, ParseTotal, DeepOrTree};
 
 /// Tokens have at most one tree.
 pub fn one_tree()
@@ -16,22 +16,12 @@ pub fn one_stop()
     ensures { OneStop }
 {}
 
-/// Tokens have a tree, or stop somewhere.
+/// Tokens have a tree that nests at most 256 levels, or stop somewhere, or open a level too many.
 pub fn parse_total()
     ensures { ParseTotal }
 {}
 
-/// A tree has no more declarations than its tokens are.
-pub fn few_decls()
-    ensures { FewDecls }
-{}
-
-/// A tree holds only numbers that its text can write.
-pub fn numbers_within()
-    ensures { NumbersWithin }
-{}
-
-/// Each place in a tree is the place of a token, or the text's length.
-pub fn places_within()
-    ensures { PlacesWithin }
+/// The tree of tokens that open a level too many nests deeper than 256 levels.
+pub fn deep_or_tree()
+    ensures { DeepOrTree }
 {}

@@ -1,7 +1,6 @@
-//! The parser of models: from the tokens of a text to their tree.
+//! The parser of whole models: from the tokens of a text to their tree.
 #![tactic(auto)]
 
-mod cursor;
 pub mod laws;
 mod model;
 #[cfg(test)]

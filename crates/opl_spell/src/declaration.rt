@@ -1,13 +1,13 @@
 //! How declarations are spelt.
 ghost use Rattle.std.specs.Prelude.{◌≡◌, ◌++◌, OnOk, map};
 ghost use Rattle.std.specs.Option.{option_map};
-ghost use Rattle.opl_model_tree.specs.Marks as marks;
-ghost use Rattle.opl_model_tree.specs.Spelling.{kinds_of};
+ghost use Rattle.opl_tree.specs.Marks as marks;
+ghost use Rattle.opl_tree.specs.Spelling.{kinds_of};
 
 use crate::expression::{spell_add, spell_more_names, spell_name, spell_set};
 use crate::token::{push_sign, push_word};
 use opl_list::Seq;
-use opl_model_tree::{
+use opl_tree::{
     ActivityTree, AddTree, BoundsTree, DataTree, DeclTree, DimTree, DimsTree, DiscreteTree,
     EnumNamesTree, EnumTree, FieldTree, InitialTree, Keyword, RangeTree, ScheduleEnd, ScheduleTree,
     StructTree, TypeTree, UnaryTree, VariableTree, VariableTypeTree,
@@ -26,7 +26,7 @@ fn schedule_word(end: ScheduleEnd) -> Keyword
 }
 
 /// Adds the tokens of a declaration.
-#[tactic(auto, using(opl_model_tree::proofs::Marks::decl_marks, opl_model_tree::proofs::Spelt::spelt))]
+#[tactic(auto, using(opl_tree::proofs::Marks::decl_marks, opl_tree::proofs::Spelt::spelt))]
 pub(crate) fn spell_decl(alloc: Global, t: &DeclTree, out: &mut Seq<Kind>) -> Result<(), AllocError>
     ensures { OnOk result (out.new ≡ out.old ++ kinds_of (marks.marks_decl t.now)) }
 {
@@ -59,7 +59,7 @@ pub(crate) fn spell_decls(
 }
 
 /// Adds the tokens of a declaration of data.
-#[tactic(auto, using(opl_model_tree::proofs::Marks::data_marks, opl_model_tree::proofs::Spelt::spelt))]
+#[tactic(auto, using(opl_tree::proofs::Marks::data_marks, opl_tree::proofs::Spelt::spelt))]
 fn spell_data(alloc: Global, t: &DataTree, out: &mut Seq<Kind>) -> Result<(), AllocError>
     ensures { OnOk result (out.new ≡ out.old ++ kinds_of (marks.marks_data t.now)) }
 {
@@ -74,7 +74,7 @@ fn spell_data(alloc: Global, t: &DataTree, out: &mut Seq<Kind>) -> Result<(), Al
 }
 
 /// Adds the tokens of an initial value.
-#[tactic(auto, using(opl_model_tree::proofs::Marks::initial_marks, opl_model_tree::proofs::Spelt::spelt))]
+#[tactic(auto, using(opl_tree::proofs::Marks::initial_marks, opl_tree::proofs::Spelt::spelt))]
 fn spell_initial(alloc: Global, t: &InitialTree, out: &mut Seq<Kind>) -> Result<(), AllocError>
     ensures { OnOk result (out.new ≡ out.old ++ kinds_of (marks.marks_initial t.now)) }
 {
@@ -86,7 +86,7 @@ fn spell_initial(alloc: Global, t: &InitialTree, out: &mut Seq<Kind>) -> Result<
 
 /// Adds the tokens of a type.
 #[cycle(types)]
-#[tactic(auto, using(opl_model_tree::proofs::Marks::type_marks, opl_model_tree::proofs::Spelt::spelt))]
+#[tactic(auto, using(opl_tree::proofs::Marks::type_marks, opl_tree::proofs::Spelt::spelt))]
 fn spell_type(alloc: Global, t: &TypeTree, out: &mut Seq<Kind>) -> Result<(), AllocError>
     ensures { OnOk result (out.new ≡ out.old ++ kinds_of (marks.marks_type t.now)) }
 {
@@ -102,7 +102,7 @@ fn spell_type(alloc: Global, t: &TypeTree, out: &mut Seq<Kind>) -> Result<(), Al
 }
 
 /// Adds the tokens of dimensions.
-#[tactic(auto, using(opl_model_tree::proofs::Marks::dims_marks, opl_model_tree::proofs::Spelt::spelt))]
+#[tactic(auto, using(opl_tree::proofs::Marks::dims_marks, opl_tree::proofs::Spelt::spelt))]
 fn spell_dims(alloc: Global, t: &DimsTree, out: &mut Seq<Kind>) -> Result<(), AllocError>
     ensures { OnOk result (out.new ≡ out.old ++ kinds_of (marks.marks_dims t.now)) }
 {
@@ -113,7 +113,7 @@ fn spell_dims(alloc: Global, t: &DimsTree, out: &mut Seq<Kind>) -> Result<(), Al
 }
 
 /// Adds the tokens of a dimension.
-#[tactic(auto, using(opl_model_tree::proofs::Marks::dim_marks, opl_model_tree::proofs::Spelt::spelt))]
+#[tactic(auto, using(opl_tree::proofs::Marks::dim_marks, opl_tree::proofs::Spelt::spelt))]
 fn spell_dim(alloc: Global, t: &DimTree, out: &mut Seq<Kind>) -> Result<(), AllocError>
     ensures { OnOk result (out.new ≡ out.old ++ kinds_of (marks.marks_dim t.now)) }
 {
@@ -137,7 +137,7 @@ fn spell_more_dims(alloc: Global, dims: &[DimTree], out: &mut Seq<Kind>) -> Resu
 }
 
 /// Adds the tokens of a declaration of a range.
-#[tactic(auto, using(opl_model_tree::proofs::Marks::range_marks, opl_model_tree::proofs::Spelt::spelt))]
+#[tactic(auto, using(opl_tree::proofs::Marks::range_marks, opl_tree::proofs::Spelt::spelt))]
 fn spell_range(alloc: Global, t: &RangeTree, out: &mut Seq<Kind>) -> Result<(), AllocError>
     ensures { OnOk result (out.new ≡ out.old ++ kinds_of (marks.marks_range t.now)) }
 {
@@ -150,7 +150,7 @@ fn spell_range(alloc: Global, t: &RangeTree, out: &mut Seq<Kind>) -> Result<(), 
 }
 
 /// Adds the tokens of a declaration of an enumeration.
-#[tactic(auto, using(opl_model_tree::proofs::Marks::enum_marks, opl_model_tree::proofs::Spelt::spelt))]
+#[tactic(auto, using(opl_tree::proofs::Marks::enum_marks, opl_tree::proofs::Spelt::spelt))]
 fn spell_enum(alloc: Global, t: &EnumTree, out: &mut Seq<Kind>) -> Result<(), AllocError>
     ensures { OnOk result (out.new ≡ out.old ++ kinds_of (marks.marks_enum t.now)) }
 {
@@ -161,7 +161,7 @@ fn spell_enum(alloc: Global, t: &EnumTree, out: &mut Seq<Kind>) -> Result<(), Al
 }
 
 /// Adds the tokens of the names of an enumeration.
-#[tactic(auto, using(opl_model_tree::proofs::Marks::enum_names_marks, opl_model_tree::proofs::Spelt::spelt))]
+#[tactic(auto, using(opl_tree::proofs::Marks::enum_names_marks, opl_tree::proofs::Spelt::spelt))]
 fn spell_enum_names(alloc: Global, t: &EnumNamesTree, out: &mut Seq<Kind>) -> Result<(), AllocError>
     ensures { OnOk result (out.new ≡ out.old ++ kinds_of (marks.marks_enum_names t.now)) }
 {
@@ -182,7 +182,7 @@ fn spell_enum_names(alloc: Global, t: &EnumNamesTree, out: &mut Seq<Kind>) -> Re
 }
 
 /// Adds the tokens of a declaration of a record.
-#[tactic(auto, using(opl_model_tree::proofs::Marks::struct_marks, opl_model_tree::proofs::Spelt::spelt))]
+#[tactic(auto, using(opl_tree::proofs::Marks::struct_marks, opl_tree::proofs::Spelt::spelt))]
 fn spell_struct(alloc: Global, t: &StructTree, out: &mut Seq<Kind>) -> Result<(), AllocError>
     ensures { OnOk result (out.new ≡ out.old ++ kinds_of (marks.marks_struct t.now)) }
 {
@@ -196,7 +196,7 @@ fn spell_struct(alloc: Global, t: &StructTree, out: &mut Seq<Kind>) -> Result<()
 }
 
 /// Adds the tokens of a field.
-#[tactic(auto, using(opl_model_tree::proofs::Marks::field_marks, opl_model_tree::proofs::Spelt::spelt))]
+#[tactic(auto, using(opl_tree::proofs::Marks::field_marks, opl_tree::proofs::Spelt::spelt))]
 fn spell_field(alloc: Global, t: &FieldTree, out: &mut Seq<Kind>) -> Result<(), AllocError>
     ensures { OnOk result (out.new ≡ out.old ++ kinds_of (marks.marks_field t.now)) }
 {
@@ -217,7 +217,7 @@ fn spell_fields(alloc: Global, fields: &[FieldTree], out: &mut Seq<Kind>) -> Res
 }
 
 /// Adds the tokens of a declaration of a variable.
-#[tactic(auto, using(opl_model_tree::proofs::Marks::variable_marks, opl_model_tree::proofs::Spelt::spelt))]
+#[tactic(auto, using(opl_tree::proofs::Marks::variable_marks, opl_tree::proofs::Spelt::spelt))]
 fn spell_variable(alloc: Global, t: &VariableTree, out: &mut Seq<Kind>) -> Result<(), AllocError>
     ensures { OnOk result (out.new ≡ out.old ++ kinds_of (marks.marks_variable t.now)) }
 {
@@ -234,7 +234,7 @@ fn spell_variable(alloc: Global, t: &VariableTree, out: &mut Seq<Kind>) -> Resul
 }
 
 /// Adds the tokens of the type of a variable.
-#[tactic(auto, using(opl_model_tree::proofs::Marks::variable_type_marks, opl_model_tree::proofs::Spelt::spelt))]
+#[tactic(auto, using(opl_tree::proofs::Marks::variable_type_marks, opl_tree::proofs::Spelt::spelt))]
 fn spell_variable_type(
     alloc: Global,
     t: &VariableTypeTree,
@@ -249,7 +249,7 @@ fn spell_variable_type(
 }
 
 /// Adds the tokens of the bounds of a variable.
-#[tactic(auto, using(opl_model_tree::proofs::Marks::bounds_marks, opl_model_tree::proofs::Spelt::spelt))]
+#[tactic(auto, using(opl_tree::proofs::Marks::bounds_marks, opl_tree::proofs::Spelt::spelt))]
 fn spell_bounds(alloc: Global, t: &BoundsTree, out: &mut Seq<Kind>) -> Result<(), AllocError>
     ensures { OnOk result (out.new ≡ out.old ++ kinds_of (marks.marks_bounds t.now)) }
 {
@@ -260,7 +260,7 @@ fn spell_bounds(alloc: Global, t: &BoundsTree, out: &mut Seq<Kind>) -> Result<()
 }
 
 /// Adds the tokens of a declaration of an activity.
-#[tactic(auto, using(opl_model_tree::proofs::Marks::activity_marks, opl_model_tree::proofs::Spelt::spelt))]
+#[tactic(auto, using(opl_tree::proofs::Marks::activity_marks, opl_tree::proofs::Spelt::spelt))]
 fn spell_activity(alloc: Global, t: &ActivityTree, out: &mut Seq<Kind>) -> Result<(), AllocError>
     ensures { OnOk result (out.new ≡ out.old ++ kinds_of (marks.marks_activity t.now)) }
 {
@@ -276,7 +276,7 @@ fn spell_activity(alloc: Global, t: &ActivityTree, out: &mut Seq<Kind>) -> Resul
 }
 
 /// Adds the tokens of one value, or of the ends of a range.
-#[tactic(auto, using(opl_model_tree::proofs::Spelt::spelt))]
+#[tactic(auto, using(opl_tree::proofs::Spelt::spelt))]
 fn spell_span(
     alloc: Global,
     low: &AddTree,
@@ -294,7 +294,7 @@ fn spell_span(
 }
 
 /// Adds the tokens of a declaration of a unary resource.
-#[tactic(auto, using(opl_model_tree::proofs::Marks::unary_marks, opl_model_tree::proofs::Spelt::spelt))]
+#[tactic(auto, using(opl_tree::proofs::Marks::unary_marks, opl_tree::proofs::Spelt::spelt))]
 fn spell_unary(alloc: Global, t: &UnaryTree, out: &mut Seq<Kind>) -> Result<(), AllocError>
     ensures { OnOk result (out.new ≡ out.old ++ kinds_of (marks.marks_unary t.now)) }
 {
@@ -307,7 +307,7 @@ fn spell_unary(alloc: Global, t: &UnaryTree, out: &mut Seq<Kind>) -> Result<(), 
 }
 
 /// Adds the tokens of a declaration of a discrete resource.
-#[tactic(auto, using(opl_model_tree::proofs::Marks::discrete_marks, opl_model_tree::proofs::Spelt::spelt))]
+#[tactic(auto, using(opl_tree::proofs::Marks::discrete_marks, opl_tree::proofs::Spelt::spelt))]
 fn spell_discrete(alloc: Global, t: &DiscreteTree, out: &mut Seq<Kind>) -> Result<(), AllocError>
     ensures { OnOk result (out.new ≡ out.old ++ kinds_of (marks.marks_discrete t.now)) }
 {
@@ -323,7 +323,7 @@ fn spell_discrete(alloc: Global, t: &DiscreteTree, out: &mut Seq<Kind>) -> Resul
 }
 
 /// Adds the tokens of a declaration of an end of the schedule.
-#[tactic(auto, using(opl_model_tree::proofs::Marks::schedule_marks, opl_model_tree::proofs::Spelt::spelt))]
+#[tactic(auto, using(opl_tree::proofs::Marks::schedule_marks, opl_tree::proofs::Spelt::spelt))]
 fn spell_schedule(alloc: Global, t: &ScheduleTree, out: &mut Seq<Kind>) -> Result<(), AllocError>
     ensures { OnOk result (out.new ≡ out.old ++ kinds_of (marks.marks_schedule t.now)) }
 {

@@ -1,11 +1,11 @@
 //! How expressions are spelt.
 ghost use Rattle.std.specs.Prelude.{◌≡◌, ◌++◌, ◌∷◌, [], OnOk, map};
-ghost use Rattle.opl_model_tree.specs.Marks as marks;
-ghost use Rattle.opl_model_tree.specs.Spelling.{kind_of, kinds_of};
+ghost use Rattle.opl_tree.specs.Marks as marks;
+ghost use Rattle.opl_tree.specs.Spelling.{kind_of, kinds_of};
 
 use crate::token::{push_between, push_number, push_sign, push_text, push_word};
 use opl_list::Seq;
-use opl_model_tree::{
+use opl_tree::{
     AddOp, AddStep, AddTree, AggregateOp, AndTree, CallOp, CompareTree, ExprTree, GroupSeparator,
     GroupStep, GroupTree, ImpTree, KeyedTree, Keyword, LastStep, MulOp, MulStep, MulTree, NameTree,
     NegTree, OpenTree, OrTree, ParamsTree, PatternTree, PostTree, PrimTree, QuestionOp, Relation,
@@ -94,7 +94,7 @@ fn spell_mul_op(alloc: Global, op: MulOp, out: &mut Seq<Kind>) -> Result<(), All
 }
 
 /// Adds the tokens of a name.
-#[tactic(auto, using(opl_model_tree::proofs::Marks::name_marks, opl_model_tree::proofs::Spelt::spelt))]
+#[tactic(auto, using(opl_tree::proofs::Marks::name_marks, opl_tree::proofs::Spelt::spelt))]
 pub(crate) fn spell_name(alloc: Global, t: &NameTree, out: &mut Seq<Kind>) -> Result<(), AllocError>
     ensures { OnOk result (out.new ≡ out.old ++ kinds_of (marks.marks_name t.now)) }
 {
@@ -119,7 +119,7 @@ pub(crate) fn spell_more_names(
 
 /// Adds the tokens of an expression.
 #[cycle(expressions)]
-#[tactic(auto, using(opl_model_tree::proofs::Marks::expr_marks, opl_model_tree::proofs::Spelt::spelt))]
+#[tactic(auto, using(opl_tree::proofs::Marks::expr_marks, opl_tree::proofs::Spelt::spelt))]
 pub(crate) fn spell_expr(alloc: Global, t: &ExprTree, out: &mut Seq<Kind>) -> Result<(), AllocError>
     ensures { OnOk result (out.new ≡ out.old ++ kinds_of (marks.marks_expr t.now)) }
 {
@@ -129,7 +129,7 @@ pub(crate) fn spell_expr(alloc: Global, t: &ExprTree, out: &mut Seq<Kind>) -> Re
 
 /// Adds the tokens of an implication.
 #[cycle(expressions)]
-#[tactic(auto, using(opl_model_tree::proofs::Marks::imp_marks, opl_model_tree::proofs::Spelt::spelt))]
+#[tactic(auto, using(opl_tree::proofs::Marks::imp_marks, opl_tree::proofs::Spelt::spelt))]
 fn spell_imp(alloc: Global, t: &ImpTree, out: &mut Seq<Kind>) -> Result<(), AllocError>
     ensures { OnOk result (out.new ≡ out.old ++ kinds_of (marks.marks_imp t.now)) }
 {
@@ -156,7 +156,7 @@ fn spell_more_imps(alloc: Global, imps: &[ImpTree], out: &mut Seq<Kind>) -> Resu
 
 /// Adds the tokens of a disjunction.
 #[cycle(expressions)]
-#[tactic(auto, using(opl_model_tree::proofs::Marks::or_marks, opl_model_tree::proofs::Spelt::spelt))]
+#[tactic(auto, using(opl_tree::proofs::Marks::or_marks, opl_tree::proofs::Spelt::spelt))]
 fn spell_or(alloc: Global, t: &OrTree, out: &mut Seq<Kind>) -> Result<(), AllocError>
     ensures { OnOk result (out.new ≡ out.old ++ kinds_of (marks.marks_or t.now)) }
 {
@@ -166,7 +166,7 @@ fn spell_or(alloc: Global, t: &OrTree, out: &mut Seq<Kind>) -> Result<(), AllocE
 
 /// Adds the tokens of a conjunction.
 #[cycle(expressions)]
-#[tactic(auto, using(opl_model_tree::proofs::Marks::and_marks, opl_model_tree::proofs::Spelt::spelt))]
+#[tactic(auto, using(opl_tree::proofs::Marks::and_marks, opl_tree::proofs::Spelt::spelt))]
 fn spell_and(alloc: Global, t: &AndTree, out: &mut Seq<Kind>) -> Result<(), AllocError>
     ensures { OnOk result (out.new ≡ out.old ++ kinds_of (marks.marks_and t.now)) }
 {
@@ -189,7 +189,7 @@ fn spell_more_ands(alloc: Global, ands: &[AndTree], out: &mut Seq<Kind>) -> Resu
 
 /// Adds the tokens of a negation.
 #[cycle(expressions)]
-#[tactic(auto, using(opl_model_tree::proofs::Marks::neg_marks, opl_model_tree::proofs::Spelt::spelt))]
+#[tactic(auto, using(opl_tree::proofs::Marks::neg_marks, opl_tree::proofs::Spelt::spelt))]
 fn spell_neg(alloc: Global, t: &NegTree, out: &mut Seq<Kind>) -> Result<(), AllocError>
     ensures { OnOk result (out.new ≡ out.old ++ kinds_of (marks.marks_neg t.now)) }
 {
@@ -217,7 +217,7 @@ fn spell_more_negs(alloc: Global, negs: &[NegTree], out: &mut Seq<Kind>) -> Resu
 
 /// Adds the tokens of a comparison.
 #[cycle(expressions)]
-#[tactic(auto, using(opl_model_tree::proofs::Marks::compare_marks, opl_model_tree::proofs::Spelt::spelt))]
+#[tactic(auto, using(opl_tree::proofs::Marks::compare_marks, opl_tree::proofs::Spelt::spelt))]
 fn spell_compare(alloc: Global, t: &CompareTree, out: &mut Seq<Kind>) -> Result<(), AllocError>
     ensures { OnOk result (out.new ≡ out.old ++ kinds_of (marks.marks_compare t.now)) }
 {
@@ -238,7 +238,7 @@ fn spell_compare(alloc: Global, t: &CompareTree, out: &mut Seq<Kind>) -> Result<
 
 /// Adds the tokens of a sum.
 #[cycle(expressions)]
-#[tactic(auto, using(opl_model_tree::proofs::Marks::add_marks, opl_model_tree::proofs::Spelt::spelt))]
+#[tactic(auto, using(opl_tree::proofs::Marks::add_marks, opl_tree::proofs::Spelt::spelt))]
 pub(crate) fn spell_add(alloc: Global, t: &AddTree, out: &mut Seq<Kind>) -> Result<(), AllocError>
     ensures { OnOk result (out.new ≡ out.old ++ kinds_of (marks.marks_add t.now)) }
 {
@@ -276,7 +276,7 @@ fn spell_adds(alloc: Global, adds: &[AddTree], out: &mut Seq<Kind>) -> Result<()
 
 /// Adds the tokens of a step of a sum.
 #[cycle(expressions)]
-#[tactic(auto, using(opl_model_tree::proofs::Marks::add_step_marks, opl_model_tree::proofs::Spelt::spelt))]
+#[tactic(auto, using(opl_tree::proofs::Marks::add_step_marks, opl_tree::proofs::Spelt::spelt))]
 fn spell_add_step(alloc: Global, t: &AddStep, out: &mut Seq<Kind>) -> Result<(), AllocError>
     ensures { OnOk result (out.new ≡ out.old ++ kinds_of (marks.marks_add_step t.now)) }
 {
@@ -302,7 +302,7 @@ fn spell_add_steps(
 
 /// Adds the tokens of a product.
 #[cycle(expressions)]
-#[tactic(auto, using(opl_model_tree::proofs::Marks::mul_marks, opl_model_tree::proofs::Spelt::spelt))]
+#[tactic(auto, using(opl_tree::proofs::Marks::mul_marks, opl_tree::proofs::Spelt::spelt))]
 fn spell_mul(alloc: Global, t: &MulTree, out: &mut Seq<Kind>) -> Result<(), AllocError>
     ensures { OnOk result (out.new ≡ out.old ++ kinds_of (marks.marks_mul t.now)) }
 {
@@ -321,7 +321,7 @@ fn spell_mul(alloc: Global, t: &MulTree, out: &mut Seq<Kind>) -> Result<(), Allo
 
 /// Adds the tokens of a step of a product.
 #[cycle(expressions)]
-#[tactic(auto, using(opl_model_tree::proofs::Marks::mul_step_marks, opl_model_tree::proofs::Spelt::spelt))]
+#[tactic(auto, using(opl_tree::proofs::Marks::mul_step_marks, opl_tree::proofs::Spelt::spelt))]
 fn spell_mul_step(alloc: Global, t: &MulStep, out: &mut Seq<Kind>) -> Result<(), AllocError>
     ensures { OnOk result (out.new ≡ out.old ++ kinds_of (marks.marks_mul_step t.now)) }
 {
@@ -347,7 +347,7 @@ fn spell_mul_steps(
 
 /// Adds the tokens of the last step of a product.
 #[cycle(expressions)]
-#[tactic(auto, using(opl_model_tree::proofs::Marks::last_step_marks, opl_model_tree::proofs::Spelt::spelt))]
+#[tactic(auto, using(opl_tree::proofs::Marks::last_step_marks, opl_tree::proofs::Spelt::spelt))]
 fn spell_last_step(alloc: Global, t: &LastStep, out: &mut Seq<Kind>) -> Result<(), AllocError>
     ensures { OnOk result (out.new ≡ out.old ++ kinds_of (marks.marks_last_step t.now)) }
 {
@@ -357,7 +357,7 @@ fn spell_last_step(alloc: Global, t: &LastStep, out: &mut Seq<Kind>) -> Result<(
 
 /// Adds the tokens of an aggregate.
 #[cycle(expressions)]
-#[tactic(auto, using(opl_model_tree::proofs::Marks::open_marks, opl_model_tree::proofs::Spelt::spelt))]
+#[tactic(auto, using(opl_tree::proofs::Marks::open_marks, opl_tree::proofs::Spelt::spelt))]
 fn spell_open(alloc: Global, t: &OpenTree, out: &mut Seq<Kind>) -> Result<(), AllocError>
     ensures { OnOk result (out.new ≡ out.old ++ kinds_of (marks.marks_open t.now)) }
 {
@@ -378,7 +378,7 @@ fn spell_open(alloc: Global, t: &OpenTree, out: &mut Seq<Kind>) -> Result<(), Al
 
 /// Adds the tokens of a signed operand.
 #[cycle(expressions)]
-#[tactic(auto, using(opl_model_tree::proofs::Marks::sign_marks, opl_model_tree::proofs::Spelt::spelt))]
+#[tactic(auto, using(opl_tree::proofs::Marks::sign_marks, opl_tree::proofs::Spelt::spelt))]
 fn spell_sign(alloc: Global, t: &SignTree, out: &mut Seq<Kind>) -> Result<(), AllocError>
     ensures { OnOk result (out.new ≡ out.old ++ kinds_of (marks.marks_sign t.now)) }
 {
@@ -393,7 +393,7 @@ fn spell_sign(alloc: Global, t: &SignTree, out: &mut Seq<Kind>) -> Result<(), Al
 
 /// Adds the tokens of an operand.
 #[cycle(expressions)]
-#[tactic(auto, using(opl_model_tree::proofs::Marks::post_marks, opl_model_tree::proofs::Spelt::spelt))]
+#[tactic(auto, using(opl_tree::proofs::Marks::post_marks, opl_tree::proofs::Spelt::spelt))]
 pub(crate) fn spell_post(alloc: Global, t: &PostTree, out: &mut Seq<Kind>) -> Result<(), AllocError>
     ensures { OnOk result (out.new ≡ out.old ++ kinds_of (marks.marks_post t.now)) }
 {
@@ -403,7 +403,7 @@ pub(crate) fn spell_post(alloc: Global, t: &PostTree, out: &mut Seq<Kind>) -> Re
 
 /// Adds the tokens of a suffix.
 #[cycle(expressions)]
-#[tactic(auto, using(opl_model_tree::proofs::Marks::suffix_marks, opl_model_tree::proofs::Spelt::spelt))]
+#[tactic(auto, using(opl_tree::proofs::Marks::suffix_marks, opl_tree::proofs::Spelt::spelt))]
 fn spell_suffix(alloc: Global, t: &SuffixTree, out: &mut Seq<Kind>) -> Result<(), AllocError>
     ensures { OnOk result (out.new ≡ out.old ++ kinds_of (marks.marks_suffix t.now)) }
 {
@@ -434,7 +434,7 @@ fn spell_suffixes(
 
 /// Adds the tokens of subscripts.
 #[cycle(expressions)]
-#[tactic(auto, using(opl_model_tree::proofs::Marks::subscripts_marks, opl_model_tree::proofs::Spelt::spelt))]
+#[tactic(auto, using(opl_tree::proofs::Marks::subscripts_marks, opl_tree::proofs::Spelt::spelt))]
 pub(crate) fn spell_subscripts(
     alloc: Global,
     t: &SubscriptsTree,
@@ -450,7 +450,7 @@ pub(crate) fn spell_subscripts(
 
 /// Adds the tokens of what an operand begins with.
 #[cycle(expressions)]
-#[tactic(auto, using(opl_model_tree::proofs::Marks::prim_marks, opl_model_tree::proofs::Spelt::spelt))]
+#[tactic(auto, using(opl_tree::proofs::Marks::prim_marks, opl_tree::proofs::Spelt::spelt))]
 fn spell_prim(alloc: Global, t: &PrimTree, out: &mut Seq<Kind>) -> Result<(), AllocError>
     ensures { OnOk result (out.new ≡ out.old ++ kinds_of (marks.marks_prim t.now)) }
 {
@@ -482,7 +482,7 @@ fn spell_prim(alloc: Global, t: &PrimTree, out: &mut Seq<Kind>) -> Result<(), Al
 
 /// Adds the tokens of an expression in parentheses.
 #[cycle(expressions)]
-#[tactic(auto, using(opl_model_tree::proofs::Spelt::spelt))]
+#[tactic(auto, using(opl_tree::proofs::Spelt::spelt))]
 fn spell_bracket(alloc: Global, inner: &ExprTree, out: &mut Seq<Kind>) -> Result<(), AllocError>
     ensures { OnOk result (out.new ≡ out.old ++ kinds_of (marks.token (marks.sign Sign.OpenParenthesis) ∷ (marks.marks_expr inner.now ++ marks.token (marks.sign Sign.CloseParenthesis) ∷ []))) }
 {
@@ -493,7 +493,7 @@ fn spell_bracket(alloc: Global, inner: &ExprTree, out: &mut Seq<Kind>) -> Result
 
 /// Adds the tokens of a set that lists its elements.
 #[cycle(expressions)]
-#[tactic(auto, using(opl_model_tree::proofs::Spelt::spelt))]
+#[tactic(auto, using(opl_tree::proofs::Spelt::spelt))]
 fn spell_listed(alloc: Global, elements: &[AddTree], out: &mut Seq<Kind>) -> Result<(), AllocError>
     ensures { OnOk result (out.new ≡ out.old ++ kinds_of (marks.token (marks.sign Sign.OpenBrace) ∷ (marks.several Sign.Comma (map marks.marks_add elements.now) ++ marks.token (marks.sign Sign.CloseBrace) ∷ []))) }
 {
@@ -504,7 +504,7 @@ fn spell_listed(alloc: Global, elements: &[AddTree], out: &mut Seq<Kind>) -> Res
 
 /// Adds the tokens of an array.
 #[cycle(expressions)]
-#[tactic(auto, using(opl_model_tree::proofs::Spelt::spelt))]
+#[tactic(auto, using(opl_tree::proofs::Spelt::spelt))]
 fn spell_array(alloc: Global, elements: &[AddTree], out: &mut Seq<Kind>) -> Result<(), AllocError>
     ensures { OnOk result (out.new ≡ out.old ++ kinds_of (marks.token (marks.sign Sign.OpenBracket) ∷ (marks.several Sign.Comma (map marks.marks_add elements.now) ++ marks.token (marks.sign Sign.CloseBracket) ∷ []))) }
 {
@@ -515,7 +515,7 @@ fn spell_array(alloc: Global, elements: &[AddTree], out: &mut Seq<Kind>) -> Resu
 
 /// Adds the tokens of an array with keys.
 #[cycle(expressions)]
-#[tactic(auto, using(opl_model_tree::proofs::Spelt::spelt))]
+#[tactic(auto, using(opl_tree::proofs::Spelt::spelt))]
 fn spell_keyed_array(
     alloc: Global,
     elements: &[KeyedTree],
@@ -530,7 +530,7 @@ fn spell_keyed_array(
 
 /// Adds the tokens of a call.
 #[cycle(expressions)]
-#[tactic(auto, using(opl_model_tree::proofs::Spelt::spelt))]
+#[tactic(auto, using(opl_tree::proofs::Spelt::spelt))]
 fn spell_call(
     alloc: Global,
     op: CallOp,
@@ -547,7 +547,7 @@ fn spell_call(
 
 /// Adds the tokens of `alldifferent`.
 #[cycle(expressions)]
-#[tactic(auto, using(opl_model_tree::proofs::Spelt::spelt))]
+#[tactic(auto, using(opl_tree::proofs::Spelt::spelt))]
 fn spell_all_different(
     alloc: Global,
     argument: &AddTree,
@@ -563,7 +563,7 @@ fn spell_all_different(
 
 /// Adds the tokens of a question on a variable.
 #[cycle(expressions)]
-#[tactic(auto, using(opl_model_tree::proofs::Spelt::spelt))]
+#[tactic(auto, using(opl_tree::proofs::Spelt::spelt))]
 fn spell_question(
     alloc: Global,
     op: QuestionOp,
@@ -580,7 +580,7 @@ fn spell_question(
 
 /// Adds the tokens of a key and its value.
 #[cycle(expressions)]
-#[tactic(auto, using(opl_model_tree::proofs::Marks::keyed_marks, opl_model_tree::proofs::Spelt::spelt))]
+#[tactic(auto, using(opl_tree::proofs::Marks::keyed_marks, opl_tree::proofs::Spelt::spelt))]
 fn spell_keyed(alloc: Global, t: &KeyedTree, out: &mut Seq<Kind>) -> Result<(), AllocError>
     ensures { OnOk result (out.new ≡ out.old ++ kinds_of (marks.marks_keyed t.now)) }
 {
@@ -606,7 +606,7 @@ fn spell_pairs(alloc: Global, pairs: &[KeyedTree], out: &mut Seq<Kind>) -> Resul
 
 /// Adds the tokens of a set.
 #[cycle(expressions)]
-#[tactic(auto, using(opl_model_tree::proofs::Marks::set_marks, opl_model_tree::proofs::Spelt::spelt))]
+#[tactic(auto, using(opl_tree::proofs::Marks::set_marks, opl_tree::proofs::Spelt::spelt))]
 pub(crate) fn spell_set(alloc: Global, t: &SetTree, out: &mut Seq<Kind>) -> Result<(), AllocError>
     ensures { OnOk result (out.new ≡ out.old ++ kinds_of (marks.marks_set t.now)) }
 {
@@ -620,7 +620,7 @@ pub(crate) fn spell_set(alloc: Global, t: &SetTree, out: &mut Seq<Kind>) -> Resu
 
 /// Adds the tokens of parameters.
 #[cycle(expressions)]
-#[tactic(auto, using(opl_model_tree::proofs::Marks::params_marks, opl_model_tree::proofs::Spelt::spelt))]
+#[tactic(auto, using(opl_tree::proofs::Marks::params_marks, opl_tree::proofs::Spelt::spelt))]
 pub(crate) fn spell_params(
     alloc: Global,
     t: &ParamsTree,
@@ -639,7 +639,7 @@ pub(crate) fn spell_params(
 
 /// Adds the tokens of a further group of parameters.
 #[cycle(expressions)]
-#[tactic(auto, using(opl_model_tree::proofs::Marks::group_step_marks, opl_model_tree::proofs::Spelt::spelt))]
+#[tactic(auto, using(opl_tree::proofs::Marks::group_step_marks, opl_tree::proofs::Spelt::spelt))]
 fn spell_group_step(alloc: Global, t: &GroupStep, out: &mut Seq<Kind>) -> Result<(), AllocError>
     ensures { OnOk result (out.new ≡ out.old ++ kinds_of (marks.marks_group_step t.now)) }
 {
@@ -665,7 +665,7 @@ fn spell_group_steps(
 
 /// Adds the tokens of a group of parameters.
 #[cycle(expressions)]
-#[tactic(auto, using(opl_model_tree::proofs::Marks::group_marks, opl_model_tree::proofs::Spelt::spelt))]
+#[tactic(auto, using(opl_tree::proofs::Marks::group_marks, opl_tree::proofs::Spelt::spelt))]
 fn spell_group(alloc: Global, t: &GroupTree, out: &mut Seq<Kind>) -> Result<(), AllocError>
     ensures { OnOk result (out.new ≡ out.old ++ kinds_of (marks.marks_group t.now)) }
 {
@@ -679,7 +679,7 @@ fn spell_group(alloc: Global, t: &GroupTree, out: &mut Seq<Kind>) -> Result<(), 
 }
 
 /// Adds the tokens of a pattern.
-#[tactic(auto, using(opl_model_tree::proofs::Marks::pattern_marks, opl_model_tree::proofs::Spelt::spelt))]
+#[tactic(auto, using(opl_tree::proofs::Marks::pattern_marks, opl_tree::proofs::Spelt::spelt))]
 fn spell_pattern(alloc: Global, t: &PatternTree, out: &mut Seq<Kind>) -> Result<(), AllocError>
     ensures { OnOk result (out.new ≡ out.old ++ kinds_of (marks.marks_pattern t.now)) }
 {

@@ -1,14 +1,14 @@
 //! How the instruction, its block and its items are spelt.
 ghost use Rattle.std.specs.Prelude.{◌≡◌, ◌++◌, ◌∷◌, [], OnOk, map};
-ghost use Rattle.opl_model_tree.specs.Marks as marks;
-ghost use Rattle.opl_model_tree.specs.Spelling.{kinds_of};
+ghost use Rattle.opl_tree.specs.Marks as marks;
+ghost use Rattle.opl_tree.specs.Spelling.{kinds_of};
 
 use crate::expression::{
     spell_add, spell_expr, spell_name, spell_params, spell_post, spell_subscripts,
 };
 use crate::token::{push_sign, push_word};
 use opl_list::Seq;
-use opl_model_tree::{
+use opl_tree::{
     BlockTree, ExprTree, InstrTree, ItemTree, ItemsTree, Keyword, Optimum, ParamsTree, PostTree,
     RequiresTree,
 };
@@ -26,7 +26,7 @@ fn optimum_word(optimum: Optimum) -> Keyword
 }
 
 /// Adds the tokens of an instruction.
-#[tactic(auto, using(opl_model_tree::proofs::Marks::instr_marks, opl_model_tree::proofs::Spelt::spelt))]
+#[tactic(auto, using(opl_tree::proofs::Marks::instr_marks, opl_tree::proofs::Spelt::spelt))]
 pub(crate) fn spell_instr(
     alloc: Global,
     t: &InstrTree,
@@ -53,7 +53,7 @@ pub(crate) fn spell_instr(
 
 /// Adds the tokens of a block.
 #[cycle(items)]
-#[tactic(auto, using(opl_model_tree::proofs::Marks::block_marks, opl_model_tree::proofs::Spelt::spelt))]
+#[tactic(auto, using(opl_tree::proofs::Marks::block_marks, opl_tree::proofs::Spelt::spelt))]
 fn spell_block(alloc: Global, t: &BlockTree, out: &mut Seq<Kind>) -> Result<(), AllocError>
     ensures { OnOk result (out.new ≡ out.old ++ kinds_of (marks.marks_block t.now)) }
 {
@@ -64,7 +64,7 @@ fn spell_block(alloc: Global, t: &BlockTree, out: &mut Seq<Kind>) -> Result<(), 
 
 /// Adds the tokens of a list of items.
 #[cycle(items)]
-#[tactic(auto, using(opl_model_tree::proofs::Marks::items_marks, opl_model_tree::proofs::Spelt::spelt))]
+#[tactic(auto, using(opl_tree::proofs::Marks::items_marks, opl_tree::proofs::Spelt::spelt))]
 fn spell_items(alloc: Global, t: &ItemsTree, out: &mut Seq<Kind>) -> Result<(), AllocError>
     ensures { OnOk result (out.new ≡ out.old ++ kinds_of (marks.marks_items t.now)) }
 {
@@ -83,7 +83,7 @@ fn spell_items(alloc: Global, t: &ItemsTree, out: &mut Seq<Kind>) -> Result<(), 
 
 /// Adds the tokens of an item.
 #[cycle(items)]
-#[tactic(auto, using(opl_model_tree::proofs::Marks::item_marks, opl_model_tree::proofs::Spelt::spelt))]
+#[tactic(auto, using(opl_tree::proofs::Marks::item_marks, opl_tree::proofs::Spelt::spelt))]
 fn spell_item(alloc: Global, t: &ItemTree, out: &mut Seq<Kind>) -> Result<(), AllocError>
     ensures { OnOk result (out.new ≡ out.old ++ kinds_of (marks.marks_item t.now)) }
 {
@@ -109,7 +109,7 @@ fn spell_item(alloc: Global, t: &ItemTree, out: &mut Seq<Kind>) -> Result<(), Al
 }
 
 /// Adds the tokens of a precedence.
-#[tactic(auto, using(opl_model_tree::proofs::Spelt::spelt))]
+#[tactic(auto, using(opl_tree::proofs::Spelt::spelt))]
 fn spell_precedence(
     alloc: Global,
     earlier: &PostTree,
@@ -124,7 +124,7 @@ fn spell_precedence(
 }
 
 /// Adds the tokens of `forall (PARAMS)`.
-#[tactic(auto, using(opl_model_tree::proofs::Spelt::spelt))]
+#[tactic(auto, using(opl_tree::proofs::Spelt::spelt))]
 fn spell_for_all(alloc: Global, params: &ParamsTree, out: &mut Seq<Kind>) -> Result<(), AllocError>
     ensures { OnOk result (out.new ≡ out.old ++ kinds_of (marks.token (marks.word Keyword.ForAll) ∷ marks.token (marks.sign Sign.OpenParenthesis) ∷ (marks.marks_params params.now ++ marks.token (marks.sign Sign.CloseParenthesis) ∷ []))) }
 {
@@ -135,7 +135,7 @@ fn spell_for_all(alloc: Global, params: &ParamsTree, out: &mut Seq<Kind>) -> Res
 }
 
 /// Adds the tokens of `if CONDITION then`.
-#[tactic(auto, using(opl_model_tree::proofs::Spelt::spelt))]
+#[tactic(auto, using(opl_tree::proofs::Spelt::spelt))]
 pub(crate) fn spell_if(
     alloc: Global,
     condition: &ExprTree,
@@ -166,7 +166,7 @@ fn spell_more_items(
 }
 
 /// Adds the tokens of a requirement.
-#[tactic(auto, using(opl_model_tree::proofs::Marks::requires_marks, opl_model_tree::proofs::Spelt::spelt))]
+#[tactic(auto, using(opl_tree::proofs::Marks::requires_marks, opl_tree::proofs::Spelt::spelt))]
 fn spell_requires(alloc: Global, t: &RequiresTree, out: &mut Seq<Kind>) -> Result<(), AllocError>
     ensures { OnOk result (out.new ≡ out.old ++ kinds_of (marks.marks_requires t.now)) }
 {

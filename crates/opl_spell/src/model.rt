@@ -1,17 +1,17 @@
 //! How a whole model is spelt.
 ghost use Rattle.std.specs.Prelude.{◌≡◌, IfOk};
-ghost use Rattle.opl_model_tree.specs.Spelling.{spelling};
+ghost use Rattle.opl_tree.specs.Spelling.{spelling};
 
 use crate::declaration::spell_decls;
 use crate::instruction::spell_instr;
 use crate::search::spell_search;
 use opl_list::Seq;
-use opl_model_tree::ModelTree;
+use opl_tree::ModelTree;
 use opl_token::Kind;
 use std::alloc::{AllocError, Global};
 
 /// The tokens of a model's tree.
-#[tactic(auto, using(opl_model_tree::proofs::Marks::model_marks, opl_model_tree::proofs::Spelt::spelt))]
+#[tactic(auto, using(opl_tree::proofs::Marks::model_marks, opl_tree::proofs::Spelt::spelt))]
 pub fn spell_model(alloc: Global, t: &ModelTree) -> Result<Seq<Kind>, AllocError>
     ensures { IfOk result (λ kinds. kinds ≡ spelling t.now) }
 {

@@ -1,13 +1,13 @@
 //! How the search section is spelt.
 ghost use Rattle.std.specs.Prelude.{◌≡◌, ◌++◌, ◌∷◌, [], OnOk, map};
-ghost use Rattle.opl_model_tree.specs.Marks as marks;
-ghost use Rattle.opl_model_tree.specs.Spelling.{kinds_of};
+ghost use Rattle.opl_tree.specs.Marks as marks;
+ghost use Rattle.opl_tree.specs.Spelling.{kinds_of};
 
 use crate::expression::{spell_add, spell_expr, spell_params, spell_post};
 use crate::instruction::spell_if;
 use crate::token::{push_sign, push_word};
 use opl_list::Seq;
-use opl_model_tree::{
+use opl_tree::{
     BranchOp, ExprTree, Keyword, LabelOp, OrderTree, OrderedParamsTree, PostTree, SearchBlockTree,
     SearchTree, StatementTree, StatementsTree,
 };
@@ -47,7 +47,7 @@ fn direction_word(is_increasing: bool) -> Keyword
 }
 
 /// Adds the tokens of a search section.
-#[tactic(auto, using(opl_model_tree::proofs::Marks::search_marks, opl_model_tree::proofs::Spelt::spelt))]
+#[tactic(auto, using(opl_tree::proofs::Marks::search_marks, opl_tree::proofs::Spelt::spelt))]
 pub(crate) fn spell_search(
     alloc: Global,
     t: &SearchTree,
@@ -62,7 +62,7 @@ pub(crate) fn spell_search(
 
 /// Adds the tokens of a block of statements.
 #[cycle(statements)]
-#[tactic(auto, using(opl_model_tree::proofs::Marks::search_block_marks, opl_model_tree::proofs::Spelt::spelt))]
+#[tactic(auto, using(opl_tree::proofs::Marks::search_block_marks, opl_tree::proofs::Spelt::spelt))]
 fn spell_search_block(
     alloc: Global,
     t: &SearchBlockTree,
@@ -77,7 +77,7 @@ fn spell_search_block(
 
 /// Adds the tokens of a list of statements.
 #[cycle(statements)]
-#[tactic(auto, using(opl_model_tree::proofs::Marks::statements_marks, opl_model_tree::proofs::Spelt::spelt))]
+#[tactic(auto, using(opl_tree::proofs::Marks::statements_marks, opl_tree::proofs::Spelt::spelt))]
 fn spell_statements(
     alloc: Global,
     t: &StatementsTree,
@@ -117,7 +117,7 @@ fn spell_more_alternatives(
 
 /// Adds the tokens of a statement.
 #[cycle(statements)]
-#[tactic(auto, using(opl_model_tree::proofs::Marks::statement_marks, opl_model_tree::proofs::Spelt::spelt))]
+#[tactic(auto, using(opl_tree::proofs::Marks::statement_marks, opl_tree::proofs::Spelt::spelt))]
 fn spell_statement(alloc: Global, t: &StatementTree, out: &mut Seq<Kind>) -> Result<(), AllocError>
     ensures { OnOk result (out.new ≡ out.old ++ kinds_of (marks.marks_statement t.now)) }
 {
@@ -161,7 +161,7 @@ fn spell_statement(alloc: Global, t: &StatementTree, out: &mut Seq<Kind>) -> Res
 }
 
 /// Adds the tokens of a statement that decides an item.
-#[tactic(auto, using(opl_model_tree::proofs::Spelt::spelt))]
+#[tactic(auto, using(opl_tree::proofs::Spelt::spelt))]
 fn spell_label(
     alloc: Global,
     op: LabelOp,
@@ -177,7 +177,7 @@ fn spell_label(
 }
 
 /// Adds the tokens of a precedence as a statement.
-#[tactic(auto, using(opl_model_tree::proofs::Spelt::spelt))]
+#[tactic(auto, using(opl_tree::proofs::Spelt::spelt))]
 fn spell_precedence_statement(
     alloc: Global,
     earlier: &PostTree,
@@ -192,7 +192,7 @@ fn spell_precedence_statement(
 }
 
 /// Adds the tokens of a word and the parameters behind it.
-#[tactic(auto, using(opl_model_tree::proofs::Spelt::spelt))]
+#[tactic(auto, using(opl_tree::proofs::Spelt::spelt))]
 fn spell_branch(
     alloc: Global,
     op: BranchOp,
@@ -208,7 +208,7 @@ fn spell_branch(
 }
 
 /// Adds the tokens of `while CONDITION do`.
-#[tactic(auto, using(opl_model_tree::proofs::Spelt::spelt))]
+#[tactic(auto, using(opl_tree::proofs::Spelt::spelt))]
 fn spell_while(alloc: Global, condition: &ExprTree, out: &mut Seq<Kind>) -> Result<(), AllocError>
     ensures { OnOk result (out.new ≡ out.old ++ kinds_of (marks.token (marks.word Keyword.While) ∷ (marks.marks_expr condition.now ++ marks.token (marks.word Keyword.Do) ∷ []))) }
 {
@@ -235,7 +235,7 @@ fn spell_more_statements(
 }
 
 /// Adds the tokens of parameters with an order.
-#[tactic(auto, using(opl_model_tree::proofs::Marks::ordered_params_marks, opl_model_tree::proofs::Spelt::spelt))]
+#[tactic(auto, using(opl_tree::proofs::Marks::ordered_params_marks, opl_tree::proofs::Spelt::spelt))]
 fn spell_ordered_params(
     alloc: Global,
     t: &OrderedParamsTree,
@@ -251,7 +251,7 @@ fn spell_ordered_params(
 }
 
 /// Adds the tokens of an order.
-#[tactic(auto, using(opl_model_tree::proofs::Marks::order_marks, opl_model_tree::proofs::Spelt::spelt))]
+#[tactic(auto, using(opl_tree::proofs::Marks::order_marks, opl_tree::proofs::Spelt::spelt))]
 fn spell_order(alloc: Global, t: &OrderTree, out: &mut Seq<Kind>) -> Result<(), AllocError>
     ensures { OnOk result (out.new ≡ out.old ++ kinds_of (marks.marks_order t.now)) }
 {

@@ -1,11 +1,11 @@
 //! How one token is spelt.
 ghost use Rattle.std.specs.Prelude.{◌≡◌, ◌++◌, ◌∷◌, [], OnOk, not};
-ghost use Rattle.opl_model_tree.specs.Keywords.{keyword_text};
-ghost use Rattle.opl_model_tree.specs.Marks as marks;
-ghost use Rattle.opl_model_tree.specs.Spelling.{kinds_of};
+ghost use Rattle.opl_tree.specs.Keywords.{keyword_text};
+ghost use Rattle.opl_tree.specs.Marks as marks;
+ghost use Rattle.opl_tree.specs.Spelling.{kinds_of};
 
 use opl_list::Seq;
-use opl_model_tree::Keyword;
+use opl_tree::Keyword;
 use opl_token::{Kind, Sign};
 use std::alloc::{AllocError, Global};
 

@@ -3,7 +3,7 @@ use Rattle.std.proofs.Common.{◌≡◌, ◌≢◌, ◌⊎◌, ◌<◌, refl, sy
 use Rattle.std.proofs.lemmas.List.{append-nil}
 use Rattle.opl_outside.specs.Becomes.{Becomes}
 use Rattle.opl_outside.specs.Files.{Files}
-use Rattle.opl_tree.specs.declared.model.ModelTree.{ModelTree}
+use Rattle.opl_plain.specs.declared.model.PlainModel.{PlainModel}
 use Rattle.opl_tool.specs.declared.answer.Answer.{Answer}
 use Rattle.opl_tool.specs.declared.answer.Answer.TheVariants as answer
 use Rattle.opl_tool.specs.declared.refusal.Refusal.{Refusal}
@@ -16,7 +16,8 @@ use Rattle.opl_tool.specs.Lines.{refusal_text, stop_text}
 use Rattle.opl_tool.specs.Meaning.{solutions}
 use Rattle.opl_tool.specs.Printing.{GainsFront}
 use Rattle.opl_tool.specs.Text.{counted, count_from, text_of}
-use Rattle.opl_tool.proofs.JudgedLemmas.{judged_one}
+use Rattle.opl_tool.specs.Laws.{SameOutcome}
+use Rattle.opl_tool.proofs.JudgedLemmas.{judged_one, ok_no_err}
 use Rattle.opl_tool.proofs.PrintingLemmas.{becomes_same}
 
 counted_some : (n : ℕ) → 0 < counted n
@@ -57,11 +58,14 @@ module _ (c : Call) (files : Files) where
       memory (inl same) = inl same
       memory (inr stopped) = inr (subst (λ o. IfSome o (Stopped c)) told stopped)
 
-  not_both : (m : ModelTree) (e : Refusal) → Judged c.words files (Ok m) → Judged c.words files (Err e) → ⊥
-  not_both m e p q = let no : Ok m ≡ Err e = judged_one c.words files _ _ p q in cc
+  not_both : (m : PlainModel) (e : Refusal) → Judged c.words files (Ok m) → Judged c.words files (Err e) → ⊥
+  not_both m e p q = ok_no_err m e (judged_one c.words files _ _ p q)
 
-  one_model : (m n : ModelTree) → Judged c.words files (Ok m) → Judged c.words files (Ok n) → m ≡ n
-  one_model m n p q = let same : ◌≡◌ {A = Result ModelTree Refusal} (Ok m) (Ok n) = judged_one c.words files _ _ p q in cc
+  one_model : (m n : PlainModel) → Judged c.words files (Ok m) → Judged c.words files (Ok n) → m ≡ n
+  one_model m n p q = same_model (judged_one c.words files _ _ p q) where
+    same_model : SameOutcome {PlainModel} (Ok m) (Ok n) → m ≡ n
+    same_model (inl e) = cc
+    same_model (inr x) = absurd x
 
   refused_at : (r : Result ℕ Stop) (a : Answer) → EndsAt r → Answers r a → Exactly answer.Refused (IsRefused c.words files) a
   refused_at (Ok zero) a s is = record { only = λ e. absurd (cc); always = λ h. absurd (not_both s.model h.0 s.judged h.1) }
@@ -106,7 +110,7 @@ module _ (c : Call) (files : Files) where
   unsolved_at (Err OutOfMemory) a s (inr is) = record { only = λ e. absurd (cc); always = λ h. inr (inl is) }
 
   -- what is written where a model's text stands in place of the one it came with
-  same_text : (m n : ModelTree) (P : List ℕ → List ℕ → List ℕ → Type 0) → m ≡ n →
+  same_text : (m n : PlainModel) (P : List ℕ → List ℕ → List ℕ → Type 0) → m ≡ n →
       Becomes c.old c.new (λ x y. P x y (text_of m)) → Becomes c.old c.new (λ x y. P x y (text_of n))
   same_text m n P same h = subst (λ t. Becomes c.old c.new (λ x y. P x y (text_of t))) same h
 
@@ -122,10 +126,10 @@ module _ (c : Call) (files : Files) where
   as_stopped OutOfMemory a text (inl is) h = rw is h
   as_stopped r a text (inr is) h = rw is h
 
-  stopped_text : (m : ModelTree) → Stopped c files → Judged c.words files (Ok m) → Becomes c.old c.new (λ x y. GainsFront x y (text_of m))
+  stopped_text : (m : PlainModel) → Stopped c files → Judged c.words files (Ok m) → Becomes c.old c.new (λ x y. GainsFront x y (text_of m))
   stopped_text m s j = same_text s.model m (λ x y t. GainsFront x y t) (one_model s.model m s.judged j) s.written
 
-  shown_at : (r : Result ℕ Stop) (a : Answer) → EndsAt r → Answers r a → (m : ModelTree) → Judged c.words files (Ok m) → Shows c.old c.new (text_of m) a
+  shown_at : (r : Result ℕ Stop) (a : Answer) → EndsAt r → Answers r a → (m : PlainModel) → Judged c.words files (Ok m) → Shows c.old c.new (text_of m) a
   shown_at (Ok zero) a s is m j = rw is (same_text s.model m (λ x y t. y ≡ x ++ t) (one_model s.model m s.judged j) s.written)
   shown_at (Ok (suc n)) a s is m j = rw is (same_text s.model m (λ x y t. y ≡ x ++ t) (one_model s.model m s.judged j) s.written)
   shown_at (Err (Refused e)) a s is m j = absurd (not_both m e j s.1)
@@ -142,19 +146,21 @@ module _ (c : Call) (files : Files) where
   silent_at (Err OutOfMemory) (inl s) e j = s
   silent_at (Err OutOfMemory) (inr s) e j = absurd (not_both s.model e s.judged j)
 
+  -- a refusal of the call, told by its line
+  abbrev Told : List ℕ → (List ℕ → Type 0) → Type 0
+  Told file T = (e : Refusal) × Judged c.words files (Err e) × T (refusal_text e file)
+
   line_at : (r : Result ℕ Stop) (a : Answer) (file : List ℕ) (T : List ℕ → Type 0) → EndsAt r → Answers r a → IfErr r (λ stop. T (stop_text stop file)) →
-      (e : Refusal) → Judged c.words files (Err e) → a ≡ answer.Refused → T (refusal_text e file)
-  line_at (Ok n) a file T s is told e j refused = absurd (not_both s.model e s.judged j)
-  line_at (Err (Refused f)) a file T s is told e j refused =
-      let same : ◌≡◌ {A = Result ModelTree Refusal} (Err f) (Err e) = judged_one c.words files _ _ s.1 j in
-      let both : f ≡ e = cc in
-      subst (λ x. T (refusal_text x file)) both told
-  line_at (Err ReadFault) a file T s (inl is) told e j refused = absurd (cc)
-  line_at (Err ReadFault) a file T s (inr is) told e j refused = absurd (cc)
-  line_at (Err WriteFault) a file T s (inl is) told e j refused = absurd (cc)
-  line_at (Err WriteFault) a file T s (inr is) told e j refused = absurd (cc)
-  line_at (Err OutOfMemory) a file T s (inl is) told e j refused = absurd (cc)
-  line_at (Err OutOfMemory) a file T s (inr is) told e j refused = absurd (cc)
+      a ≡ answer.Refused → Told file T
+  line_at (Ok zero) a file T s is told refused = absurd (cc)
+  line_at (Ok (suc n)) a file T s is told refused = absurd (cc)
+  line_at (Err (Refused f)) a file T s is told refused = (f, s.1, told)
+  line_at (Err ReadFault) a file T s (inl is) told refused = absurd (cc)
+  line_at (Err ReadFault) a file T s (inr is) told refused = absurd (cc)
+  line_at (Err WriteFault) a file T s (inl is) told refused = absurd (cc)
+  line_at (Err WriteFault) a file T s (inr is) told refused = absurd (cc)
+  line_at (Err OutOfMemory) a file T s (inl is) told refused = absurd (cc)
+  line_at (Err OutOfMemory) a file T s (inr is) told refused = absurd (cc)
 
 -- a fact for the files, if they are told
 with_told : (o : Option Files) (P : Files → Type 0) → ((files : Files) → o ≡ Some files → P files) → IfSome o P
@@ -171,12 +177,12 @@ module _ (c : Call) (r : Result ℕ Stop) (a : Answer) (ends : Ends c r) (is : A
   pub unsolved-exactly : IfSome c.files (λ files. Exactly answer.NoSolution (HasNone c.words files) a)
   unsolved-exactly = with_told c.files _ (λ files told. unsolved_at c files r a (told_at c files r told ends) is)
 
-  pub shows-text : IfSome c.files (λ files. (m : ModelTree) → Judged c.words files (Ok m) → Shows c.old c.new (text_of m) a)
+  pub shows-text : IfSome c.files (λ files. (m : PlainModel) → Judged c.words files (Ok m) → Shows c.old c.new (text_of m) a)
   shows-text = with_told c.files _ (λ files told. shown_at c files r a (told_at c files r told ends) is)
 
   pub shows-nothing : IfSome c.files (λ files. (e : Refusal) → Judged c.words files (Err e) → c.new ≡ c.old)
   shows-nothing = with_told c.files _ (λ files told. silent_at c files r (told_at c files r told ends))
 
   pub tells-refusal : (file : List ℕ) (T : List ℕ → Type 0) → IfErr r (λ stop. T (stop_text stop file)) →
-      IfSome c.files (λ files. (e : Refusal) → Judged c.words files (Err e) → a ≡ answer.Refused → T (refusal_text e file))
+      IfSome c.files (λ files. a ≡ answer.Refused → (e : Refusal) × Judged c.words files (Err e) × T (refusal_text e file))
   tells-refusal file T told_line = with_told c.files _ (λ files told. line_at c files r a file T (told_at c files r told ends) is told_line)

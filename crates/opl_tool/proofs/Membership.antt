@@ -1,9 +1,9 @@
 -- An assignment stands in the list of solutions exactly where it is one.
 use Rattle.std.proofs.Common.{◌≡◌, ◌⊎◌, refl, sym, ap, ◌∙◌, subst, ℕ, zero, suc, ◌+◌, Bool, true, false, cond, List, [], ◌∷◌, ◌++◌, map, filter, ℤ, pos, ◌+ℤ◌, ◌-ℤ◌, ◌≤ℤ◌, ◌<ℤ◌, int_lt, unsigned_abs, if◌then◌else◌, inl, inr, arith}
 use Rattle.std.proofs.lemmas.Int.{ints}
-use Rattle.opl_tree.specs.declared.declaration.VariableTree.{VariableTree}
+use Rattle.opl_plain.specs.declared.model.PlainVariable.{PlainVariable}
 use Rattle.opl_tool.specs.Laws.{IsAmong, IsAssignment, SolutionsAre}
-use Rattle.opl_tool.specs.Meaning.{whole_numbers, declared_set, number_value, size_between, product, satisfies, solutions, variables}
+use Rattle.opl_tool.specs.Meaning.{whole_numbers, declared_set, size_between, product, satisfies, solutions, variables}
 use Rattle.opl_tool.proofs.Order.{with_values}
 
 module _ {A : Type 0} (x : A) where
@@ -116,22 +116,22 @@ above_low : (low high v : ℤ) (b : Bool) → int_lt high low ≡ b → low ≤�
 above_low low high v true e a h = grind (arith, ints)
 above_low low high v false e a h = grind (arith, ints)
 
-among_product : (vs : List VariableTree) (values : List ℤ) → IsAmong values (product (map declared_set vs)) → IsAssignment vs values
+among_product : (vs : List PlainVariable) (values : List ℤ) → IsAmong values (product (map declared_set vs)) → IsAssignment vs values
 unfolding product
 among_product [] values (inl e) = subst (IsAssignment []) (sym e) tt
 among_product [] values (inr h) = elim h [ ]
 among_product (v ∷ vs) values h =
-    let w = among_values _ (number_value v.low) (size_between (number_value v.low) (number_value v.high)) values h in
+    let w = among_values _ v.low.value (size_between v.low.value v.high.value) values h in
     subst (IsAssignment (v ∷ vs)) (sym w.begins.whole)
-    (w.least, below_high (number_value v.low) (number_value v.high) w.v _ refl w.least w.most, among_product vs w.begins.others w.begins.among)
+    (w.least, below_high v.low.value v.high.value w.v _ refl w.least w.most, among_product vs w.begins.others w.begins.among)
 
-product_among : (vs : List VariableTree) (values : List ℤ) → IsAssignment vs values → IsAmong values (product (map declared_set vs))
+product_among : (vs : List PlainVariable) (values : List ℤ) → IsAssignment vs values → IsAmong values (product (map declared_set vs))
 unfolding product
 product_among [] [] h = inl refl
 product_among [] (value ∷ values) h = elim h [ ]
 product_among (v ∷ vs) [] h = elim h [ ]
 product_among (v ∷ vs) (value ∷ values) h =
-    values_among _ (number_value v.low) _ value values h.0 (above_low (number_value v.low) (number_value v.high) value _ refl h.0 h.1) (product_among vs values h.2)
+    values_among _ v.low.value _ value values h.0 (above_low v.low.value v.high.value value _ refl h.0 h.1) (product_among vs values h.2)
 
 pub solutions_are : SolutionsAre
 unfolding solutions

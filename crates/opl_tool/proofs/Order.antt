@@ -4,9 +4,9 @@ use Rattle.std.specs.List.{All, AllPairs, flat_map}
 use Rattle.std.proofs.lemmas.List.Elements.{All-nil, All-append, All-map}
 use Rattle.std.proofs.lemmas.List.Kept.{AllPairs-cons, AllPairs-filter}
 use Rattle.std.proofs.lemmas.Int.{ints}
-use Rattle.opl_tree.specs.declared.declaration.VariableTree.{VariableTree}
+use Rattle.opl_plain.specs.declared.model.PlainVariable.{PlainVariable}
 use Rattle.opl_tool.specs.Laws.{Precedes, InOrder}
-use Rattle.opl_tool.specs.Meaning.{whole_numbers, declared_set, number_value, size_between, product, satisfies, solutions, variables}
+use Rattle.opl_tool.specs.Meaning.{whole_numbers, declared_set, size_between, product, satisfies, solutions, variables}
 
 no_pairs : {X : Type 0} (R : X → X → Type 0) → AllPairs R []
 no_pairs R i j d low high = absurd (omega arith)
@@ -52,10 +52,10 @@ values_in_order rest low (suc n) p =
 no_two : AllPairs Precedes ([] ∷ [])
 no_two i j d low high = absurd (omega arith)
 
-product_in_order : (vs : List VariableTree) → AllPairs Precedes (product (map declared_set vs))
+product_in_order : (vs : List PlainVariable) → AllPairs Precedes (product (map declared_set vs))
 unfolding product
 product_in_order [] = no_two
-product_in_order (v ∷ vs) = values_in_order _ (number_value v.low) (size_between (number_value v.low) (number_value v.high)) (product_in_order vs)
+product_in_order (v ∷ vs) = values_in_order _ v.low.value (size_between v.low.value v.high.value) (product_in_order vs)
 
 pub in_order : InOrder
 unfolding solutions

@@ -5,17 +5,20 @@ use Rattle.std.proofs.lemmas.Slice.Eq.{bytes_eq-Decides}
 use Rattle.std.proofs.lemmas.Bool.Decides.{nat_tests}
 use Rattle.opl_outside.specs.Files.{Files, max_bytes}
 use Rattle.opl_parse.proofs.TreeLaws.{parse_total}
+use Rattle.opl_tree.specs.declared.model.ModelTree.{ModelTree}
+use Rattle.opl_tree.specs.Depth.{depth_model, OpensAt}
+use Rattle.opl_plain.specs.Plain.{plain_of}
 use Rattle.opl_token.proofs.Unique.{total}
 use Rattle.opl_token.specs.declared.fault.ScanFault.{ScanFault}
 use Rattle.opl_token.specs.declared.fault.ScanFault.TheVariants as scan
 use Rattle.opl_token.specs.declared.token.Token.{Token}
 use Rattle.opl_token.specs.Scan.{Scans, Faults}
-use Rattle.opl_tree.specs.declared.model.ModelTree.{ModelTree}
+use Rattle.opl_plain.specs.declared.model.PlainModel.{PlainModel}
 use Rattle.opl_tree.specs.Reading.{IsTreeOf, StopsAt}
 use Rattle.opl_tool.specs.declared.refusal.Refusal.{Refusal}
-use Rattle.opl_tool.specs.declared.refusal.Refusal.TheVariants.{Words, Absent, TooLong, BadByte, OpenComment, OpenString, NumberTooLarge, NotYet}
+use Rattle.opl_tool.specs.declared.refusal.Refusal.TheVariants.{Words, Absent, TooLong, BadByte, OpenComment, OpenString, NumberTooLarge, Syntax, TooDeep, NotYet}
 use Rattle.opl_tool.specs.Faults.{model_fault}
-use Rattle.opl_tool.specs.Judged.{IsSolve, Named, Held, Scanned, Parsed, Resolved, Fetched, Judged}
+use Rattle.opl_tool.specs.Judged.{IsSolve, Named, Held, Scanned, Parsed, Plain, Resolved, Fetched, Judged}
 use Rattle.opl_tool.specs.Laws.{OneOutcome}
 use Rattle.opl_tool.specs.Stage.{Stage, Then}
 use Rattle.opl_tool.proofs.JudgedLemmas.{judged_one}
@@ -72,20 +75,25 @@ scanned_by : (bytes : List ℕ) → ((ts : List Token) × Scans bytes ts) ⊎ ((
 scanned_by bytes (inl s) = (Ok s.0, s.1)
 scanned_by bytes (inr f) = refusal_at bytes f.0 f.1 f.2
 
-parsed_by : (tokens : List Token) (end : ℕ) → ((t : ModelTree) × IsTreeOf t tokens end) ⊎ ((at : ℕ) × StopsAt tokens end at) → Comes (Parsed tokens end)
-parsed_by tokens end (inl t) = (Ok t.0, t.1)
-parsed_by tokens end (inr s) = (Err (NotYet s.0), (s.0, refl, s.1))
+parsed_by : (tokens : List Token) (end : ℕ) → ((t : ModelTree) × IsTreeOf t tokens end × (depth_model t ≤ 256)) ⊎ (((at : ℕ) × StopsAt tokens end at) ⊎ ((at : ℕ) × OpensAt 256 tokens at)) → Comes (Parsed tokens end)
+parsed_by tokens end (inl t) = (Ok t.0, (t.1, t.2))
+parsed_by tokens end (inr (inl s)) = (Err (Syntax s.0), inl (s.0, refl, s.1))
+parsed_by tokens end (inr (inr o)) = (Err (TooDeep o.0), inr (o.0, refl, o.1))
 
-resolved_by : (tree : ModelTree) (o : Option Refusal) → model_fault tree ≡ o → Comes (Resolved tree)
-resolved_by tree None e = (Ok tree, (refl, e))
-resolved_by tree (Some refusal) e = (Err refusal, e)
+plain_by : (tree : ModelTree) (r : Result PlainModel ℕ) → plain_of tree ≡ r → Comes (Plain tree)
+plain_by tree (Ok m) e = (Ok m, e)
+plain_by tree (Err at) e = (Err (NotYet at), (at, refl, e))
+
+resolved_by : (model : PlainModel) (o : Option Refusal) → model_fault model ≡ o → Comes (Resolved model)
+resolved_by model None e = (Ok model, (refl, e))
+resolved_by model (Some refusal) e = (Err refusal, e)
 
 judged_comes : (words : List (List ℕ)) (files : Files) → Comes (Judged words files)
 judged_comes words files =
     then_comes (Fetched words files) Resolved
     (then_comes (Named words) _ (named_comes words) (λ name. then_comes (Held files name) _ (held_at files name (files name) refl)
-    (λ bytes. then_comes (Scanned bytes) _ (scanned_by bytes (total bytes)) (λ tokens. parsed_by tokens (length bytes) (parse_total tokens (length bytes))))))
-    (λ tree. resolved_by tree (model_fault tree) refl)
+    (λ bytes. then_comes (Scanned bytes) _ (scanned_by bytes (total bytes)) (λ tokens. then_comes (Parsed tokens (length bytes)) Plain (parsed_by tokens (length bytes) (parse_total tokens (length bytes))) (λ tree. plain_by tree (plain_of tree) refl)))))
+    (λ model. resolved_by model (model_fault model) refl)
 
 pub one_outcome : OneOutcome
 one_outcome words files =

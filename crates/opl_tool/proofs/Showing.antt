@@ -3,7 +3,7 @@ use Rattle.std.proofs.Common.{◌≡◌, refl, sym, ap, ◌∙◌, ℕ, ◌<◌,
 use Rattle.std.proofs.lemmas.List.{append-nil}
 use Rattle.std.proofs.lemmas.List.Elements.{filter-append}
 use Rattle.opl_outside.specs.Becomes.{Becomes}
-use Rattle.opl_tree.specs.declared.declaration.VariableTree.{VariableTree}
+use Rattle.opl_plain.specs.declared.model.PlainVariable.{PlainVariable}
 use Rattle.opl_tool.specs.declared.place.Place.{Place}
 use Rattle.opl_tool.specs.declared.stop.Stop.{Stop}
 use Rattle.opl_tool.specs.declared.stop.Stop.TheVariants.{Refused, ReadFault, WriteFault, OutOfMemory}
@@ -13,7 +13,7 @@ use Rattle.opl_tool.specs.Text.{solution_texts, count_from, solution_text, count
 use Rattle.opl_tool.proofs.Enumeration.{left_after, remaining-next}
 use Rattle.opl_tool.proofs.PrintingLemmas.{becomes_then, becomes_so, becomes_same}
 
-texts-append : (vs : List VariableTree) (shown : ℕ) (xs ys : List (List ℤ)) →
+texts-append : (vs : List PlainVariable) (shown : ℕ) (xs ys : List (List ℤ)) →
     solution_texts vs shown (xs ++ ys) ≡ solution_texts vs shown xs ++ solution_texts vs (count_from shown xs) ys
 unfolding solution_texts count_from
 texts-append vs shown [] ys = refl
@@ -26,25 +26,25 @@ count-append shown [] ys = refl
 count-append shown (x ∷ xs) ys = count-append (counted shown) xs ys
 
 -- bytes that have gained the texts of the solutions shown so far
-pub record Shown (vs : List VariableTree) (all left : List (List ℤ)) (shown : ℕ) (before now : List ℕ) : Type 0 where
+pub record Shown (vs : List PlainVariable) (all left : List (List ℤ)) (shown : ℕ) (before now : List ℕ) : Type 0 where
   pub done : List ℕ
   pub gained : now ≡ before ++ done
   pub whole : done ++ solution_texts vs shown left ≡ solution_texts vs 0 all
 
 -- so many are shown of all solutions, and these are left
-pub record SoFar (vs : List VariableTree) (all left : List (List ℤ)) (shown : ℕ) (old new : Option (List ℕ)) (before now : ℕ) : Type 0 where
+pub record SoFar (vs : List PlainVariable) (all left : List (List ℤ)) (shown : ℕ) (old new : Option (List ℕ)) (before now : ℕ) : Type 0 where
   pub written : Becomes old new (Shown vs all left shown)
   pub count : count_from shown left ≡ count_from 0 all
   pub faults : now ≡ before
 
-pub sofar-start : (vs : List VariableTree) (all : List (List ℤ)) (o : Option (List ℕ)) (f : ℕ) → SoFar vs all all 0 o o f f
+pub sofar-start : (vs : List PlainVariable) (all : List (List ℤ)) (o : Option (List ℕ)) (f : ℕ) → SoFar vs all all 0 o o f f
 sofar-start vs all o f = record {
   written = becomes_same o _ (λ x. record { done = []; gained = sym (append-nil x); whole = refl });
   count = refl;
   faults = refl;
 }
 
-shown_then : (vs : List VariableTree) (all left here rest : List (List ℤ)) (shown n : ℕ) (x y z : List ℕ) → left ≡ here ++ rest → n ≡ count_from shown here →
+shown_then : (vs : List PlainVariable) (all left here rest : List (List ℤ)) (shown n : ℕ) (x y z : List ℕ) → left ≡ here ++ rest → n ≡ count_from shown here →
     Shown vs all left shown x y → z ≡ y ++ solution_texts vs shown here → Shown vs all rest n x z
 shown_then vs all left here rest shown n x y z e k s g = record {
   done = s.done ++ solution_texts vs shown here;
@@ -55,7 +55,7 @@ shown_then vs all left here rest shown n x y z e k s g = record {
 }
 
 -- one step: the solutions `here` are shown, and `rest` is left
-pub sofar-step : (vs : List VariableTree) (all left here rest : List (List ℤ)) (shown n : ℕ) (old mid new : Option (List ℕ)) (before between now : ℕ) →
+pub sofar-step : (vs : List PlainVariable) (all left here rest : List (List ℤ)) (shown n : ℕ) (old mid new : Option (List ℕ)) (before between now : ℕ) →
     SoFar vs all left shown old mid before between → left ≡ here ++ rest → n ≡ count_from shown here →
     Prints {A = ℕ} (solution_texts vs shown here) mid new between now (Ok n) → SoFar vs all rest n old new before now
 sofar-step vs all left here rest shown n old mid new before between now s e k p = record {
@@ -64,7 +64,7 @@ sofar-step vs all left here rest shown n old mid new before between now s e k p 
   faults = p.faults ∙ s.faults;
 }
 
-shown_front : (vs : List VariableTree) (all left here rest : List (List ℤ)) (shown : ℕ) (x y z : List ℕ) → left ≡ here ++ rest →
+shown_front : (vs : List PlainVariable) (all left here rest : List (List ℤ)) (shown : ℕ) (x y z : List ℕ) → left ≡ here ++ rest →
     Shown vs all left shown x y → GainsFront y z (solution_texts vs shown here) → GainsFront x z (solution_texts vs 0 all)
 shown_front vs all left here rest shown x y z e s g = record {
   front = s.done ++ g.front;
@@ -86,7 +86,7 @@ same_count WriteFault before now c = c
 same_count OutOfMemory before now c = c
 
 -- printing stopped at a step
-pub sofar-stop : (vs : List VariableTree) (all left here rest : List (List ℤ)) (shown : ℕ) (old mid new : Option (List ℕ)) (before between now : ℕ) (stop : Stop) →
+pub sofar-stop : (vs : List PlainVariable) (all left here rest : List (List ℤ)) (shown : ℕ) (old mid new : Option (List ℕ)) (before between now : ℕ) (stop : Stop) →
     SoFar vs all left shown old mid before between → left ≡ here ++ rest →
     Prints {A = ℕ} (solution_texts vs shown here) mid new between now (Err stop) → Prints {A = ℕ} (solution_texts vs 0 all) old new before now (Err stop)
 sofar-stop vs all left here rest shown old mid new before between now stop s e p = record {
@@ -94,12 +94,12 @@ sofar-stop vs all left here rest shown old mid new before between now stop s e p
   faults = counts_after stop before between now s.faults p.faults;
 }
 
-shown_all : (vs : List VariableTree) (all : List (List ℤ)) (shown : ℕ) (x y : List ℕ) → Shown vs all [] shown x y → y ≡ x ++ solution_texts vs 0 all
+shown_all : (vs : List PlainVariable) (all : List (List ℤ)) (shown : ℕ) (x y : List ℕ) → Shown vs all [] shown x y → y ≡ x ++ solution_texts vs 0 all
 unfolding solution_texts
 shown_all vs all shown x y s = s.gained ∙ ap (λ t. x ++ t) (sym (append-nil s.done) ∙ s.whole)
 
 -- nothing is left
-pub sofar-end : (vs : List VariableTree) (all : List (List ℤ)) (shown : ℕ) (old new : Option (List ℕ)) (before now : ℕ) →
+pub sofar-end : (vs : List PlainVariable) (all : List (List ℤ)) (shown : ℕ) (old new : Option (List ℕ)) (before now : ℕ) →
     SoFar vs all [] shown old new before now → Prints {A = ℕ} (solution_texts vs 0 all) old new before now (Ok shown) × (shown ≡ count_from 0 all)
 unfolding count_from
 sofar-end vs all shown old new before now s =
@@ -129,13 +129,13 @@ filter_true p x e = rw e refl
 filter_false : (p : List ℤ → Bool) (x : List ℤ) → p x ≡ false → filter p (x ∷ []) ≡ []
 filter_false p x e = rw e refl
 
-one_text : (vs : List VariableTree) (shown : ℕ) (p : List ℤ → Bool) (x : List ℤ) → p x ≡ true →
+one_text : (vs : List PlainVariable) (shown : ℕ) (p : List ℤ → Bool) (x : List ℤ) → p x ≡ true →
     solution_texts vs shown (filter p (x ∷ [])) ≡ solution_text vs (counted shown) x
 unfolding solution_texts
 one_text vs shown p x e = ap (solution_texts vs shown) (filter_true p x e) ∙ append-nil _
 
 -- nothing is shown where the assignment is no solution
-pub here-none : (vs : List VariableTree) (shown : ℕ) (p : List ℤ → Bool) (x : List ℤ) (o : Option (List ℕ)) (f : ℕ) → p x ≡ false →
+pub here-none : (vs : List PlainVariable) (shown : ℕ) (p : List ℤ → Bool) (x : List ℤ) (o : Option (List ℕ)) (f : ℕ) → p x ≡ false →
     Prints {A = ℕ} (solution_texts vs shown (filter p (x ∷ []))) o o f f (Ok shown)
 unfolding solution_texts
 here-none vs shown p x o f e = rw (filter_false p x e)
@@ -146,7 +146,7 @@ unfolding count_from
 count-none shown p x e = rw (filter_false p x e) refl
 
 -- it is shown where it is one
-pub here-shown : (vs : List VariableTree) (shown n : ℕ) (p : List ℤ → Bool) (x : List ℤ) (u : Unit {0}) (o new : Option (List ℕ)) (f g : ℕ) → p x ≡ true → n ≡ counted shown →
+pub here-shown : (vs : List PlainVariable) (shown n : ℕ) (p : List ℤ → Bool) (x : List ℤ) (u : Unit {0}) (o new : Option (List ℕ)) (f g : ℕ) → p x ≡ true → n ≡ counted shown →
     Prints {A = Unit {0}} (solution_text vs n x) o new f g (Ok u) → Prints {A = ℕ} (solution_texts vs shown (filter p (x ∷ []))) o new f g (Ok n)
 here-shown vs shown n p x u o new f g e k h =
     rw (one_text vs shown p x e, ← k) (record { written = h.written; faults = h.faults })
@@ -155,13 +155,13 @@ pub count-shown : (shown n : ℕ) (p : List ℤ → Bool) (x : List ℤ) → p x
 unfolding count_from
 count-shown shown n p x e k = rw (filter_true p x e, k) refl
 
-pub here-stopped : (vs : List VariableTree) (shown n : ℕ) (p : List ℤ → Bool) (x : List ℤ) (stop : Stop) (o new : Option (List ℕ)) (f g : ℕ) → p x ≡ true → n ≡ counted shown →
+pub here-stopped : (vs : List PlainVariable) (shown n : ℕ) (p : List ℤ → Bool) (x : List ℤ) (stop : Stop) (o new : Option (List ℕ)) (f g : ℕ) → p x ≡ true → n ≡ counted shown →
     Prints {A = Unit {0}} (solution_text vs n x) o new f g (Err stop) → Prints {A = ℕ} (solution_texts vs shown (filter p (x ∷ []))) o new f g (Err stop)
 here-stopped vs shown n p x stop o new f g e k h =
     rw (one_text vs shown p x e, ← k) (record { written = h.written; faults = same_count stop f g h.faults })
 
 -- The same at the loop over all assignments, which goes on while `is_left`.
-module _ (vs : List VariableTree) (p : List ℤ → Bool) (all : List (List ℤ)) (is_left : Bool) (ps : List Place) (shown : ℕ) where
+module _ (vs : List PlainVariable) (p : List ℤ → Bool) (all : List (List ℤ)) (is_left : Bool) (ps : List Place) (shown : ℕ) where
   left_here : is_left ≡ true → left_if p is_left ps ≡ filter p (map value_of ps ∷ []) ++ filter p (left_after (next ps))
   left_here goes = rw (goes, remaining-next ps) (filter_first p _ _)
 

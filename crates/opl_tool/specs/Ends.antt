@@ -3,7 +3,7 @@ use Rattle.std.specs.Prelude.{◌≡◌, ◌⊎◌, ℕ, List, ◌++◌, Option,
 use Rattle.opl_outside.specs.Becomes.{Becomes}
 use Rattle.opl_outside.specs.Counts.{Rose}
 use Rattle.opl_outside.specs.Files.{Files}
-use Rattle.opl_tree.specs.declared.model.ModelTree.{ModelTree}
+use Rattle.opl_plain.specs.declared.model.PlainModel.{PlainModel}
 use Rattle.opl_tool.specs.declared.stop.Stop.{Stop}
 use Rattle.opl_tool.specs.declared.stop.Stop.TheVariants.{Refused, ReadFault, WriteFault, OutOfMemory}
 use Rattle.opl_tool.specs.Judged.{Judged}
@@ -24,14 +24,14 @@ pub record Call : Type 0 where
 
 -- the model's whole text is written, with so many solutions
 pub record Solved (c : Call) (shown : ℕ) (files : Files) : Type 0 where
-  pub model : ModelTree
+  pub model : PlainModel
   pub judged : Judged c.words files (Ok model)
   pub count : shown ≡ count_from 0 (solutions model)
   pub written : Becomes c.old c.new (λ before now. now ≡ before ++ text_of model)
 
 -- a front of the model's text is written
 pub record Stopped (c : Call) (files : Files) : Type 0 where
-  pub model : ModelTree
+  pub model : PlainModel
   pub judged : Judged c.words files (Ok model)
   pub written : Becomes c.old c.new (λ before now. GainsFront before now (text_of model))
 

@@ -2,7 +2,7 @@
 use Rattle.std.specs.Prelude.{◌≡◌, ◌≢◌, ◌⊎◌, ℕ, zero, suc, List, [], ◌++◌, Option, Result, Ok, Err}
 use Rattle.opl_outside.specs.Becomes.{Becomes}
 use Rattle.opl_outside.specs.Files.{Files}
-use Rattle.opl_tree.specs.declared.model.ModelTree.{ModelTree}
+use Rattle.opl_plain.specs.declared.model.PlainModel.{PlainModel}
 use Rattle.opl_tool.specs.declared.answer.Answer.{Answer}
 use Rattle.opl_tool.specs.declared.answer.Answer.TheVariants.{Done, NoSolution, Refused, Spent, ReadFault, WriteFault, OutOfMemory, Rejected}
 use Rattle.opl_tool.specs.declared.refusal.Refusal.{Refusal}
@@ -24,11 +24,11 @@ IsRefused words files = (refusal : Refusal) × Judged words files (Err refusal)
 
 -- the model is accepted and has a solution
 abbrev pub HasSolution : List (List ℕ) → Files → Type 0
-HasSolution words files = (model : ModelTree) × Judged words files (Ok model) × (solutions model ≢ [])
+HasSolution words files = (model : PlainModel) × Judged words files (Ok model) × (solutions model ≢ [])
 
 -- the model is accepted and has no solution
 abbrev pub HasNone : List (List ℕ) → Files → Type 0
-HasNone words files = (model : ModelTree) × Judged words files (Ok model) × (solutions model ≡ [])
+HasNone words files = (model : PlainModel) × Judged words files (Ok model) × (solutions model ≡ [])
 
 -- the answers whose causes are counts of faults, and want of memory
 abbrev pub IsFree : Answer → Type 0

@@ -5,10 +5,13 @@ use Rattle.opl_token.specs.declared.fault.ScanFault.{ScanFault}
 use Rattle.opl_token.specs.declared.fault.ScanFault.TheVariants as scan
 use Rattle.opl_token.specs.declared.token.Token.{Token}
 use Rattle.opl_token.specs.Scan.{Scans, Faults}
+use Rattle.opl_plain.specs.declared.model.PlainModel.{PlainModel}
 use Rattle.opl_tree.specs.declared.model.ModelTree.{ModelTree}
+use Rattle.opl_tree.specs.Depth.{depth_model, OpensAt}
 use Rattle.opl_tree.specs.Reading.{IsTreeOf, StopsAt}
+use Rattle.opl_plain.specs.Plain.{plain_of}
 use Rattle.opl_tool.specs.declared.refusal.Refusal.{Refusal}
-use Rattle.opl_tool.specs.declared.refusal.Refusal.TheVariants.{Words, Absent, TooLong, BadByte, OpenComment, OpenString, NumberTooLarge, NotYet}
+use Rattle.opl_tool.specs.declared.refusal.Refusal.TheVariants.{Words, Absent, TooLong, BadByte, OpenComment, OpenString, NumberTooLarge, Syntax, TooDeep, NotYet}
 use Rattle.opl_tool.specs.Faults.{model_fault}
 use Rattle.opl_tool.specs.Stage.{Stage, Then}
 
@@ -40,24 +43,33 @@ abbrev pub Scanned : List ℕ → Stage (List Token)
 Scanned bytes (Ok tokens) = Scans bytes tokens
 Scanned bytes (Err e) = (fault : ScanFault) × (refusal_of_scan fault ≡ Some e) × Faults bytes fault
 
--- the tree of the tokens of a file with `end` bytes
+-- where the tokens of a file with `end` bytes stop being the beginning of a model, or open a level of nesting too many
+abbrev pub IsSyntaxFault : List Token → (end : ℕ) → Refusal → Type 0
+IsSyntaxFault tokens end e = ((at : ℕ) × (e ≡ Syntax at) × StopsAt tokens end at) ⊎ ((at : ℕ) × (e ≡ TooDeep at) × OpensAt 256 tokens at)
+
+-- the tree of the tokens, which nests at most 256 levels
 abbrev pub Parsed : List Token → (end : ℕ) → Stage ModelTree
-Parsed tokens end (Ok tree) = IsTreeOf tree tokens end
-Parsed tokens end (Err e) = (at : ℕ) × (e ≡ NotYet at) × StopsAt tokens end at
+Parsed tokens end (Ok tree) = IsTreeOf tree tokens end × (depth_model tree ≤ 256)
+Parsed tokens end (Err e) = IsSyntaxFault tokens end e
 
--- the tree itself, where nothing in it is refused
-abbrev pub Resolved : ModelTree → Stage ModelTree
-Resolved tree (Ok m) = (m ≡ tree) × (model_fault tree ≡ None)
-Resolved tree (Err e) = model_fault tree ≡ Some e
+-- the plain form of the tree, where all of it runs today
+abbrev pub Plain : ModelTree → Stage PlainModel
+Plain tree (Ok m) = plain_of tree ≡ Ok m
+Plain tree (Err e) = (at : ℕ) × (e ≡ NotYet at) × (plain_of tree ≡ Err at)
 
--- the tree of a file
-abbrev pub Read : List ℕ → Stage ModelTree
-Read bytes = Then (Scanned bytes) (λ tokens. Parsed tokens (length bytes))
+-- the model itself, where nothing in it is refused
+abbrev pub Resolved : PlainModel → Stage PlainModel
+Resolved model (Ok m) = (m ≡ model) × (model_fault model ≡ None)
+Resolved model (Err e) = model_fault model ≡ Some e
 
--- the tree of the model's file: the words come first, then the file, its scan and its syntax
-abbrev pub Fetched : List (List ℕ) → Files → Stage ModelTree
+-- the model of a file
+abbrev pub Read : List ℕ → Stage PlainModel
+Read bytes = Then (Scanned bytes) (λ tokens. Then (Parsed tokens (length bytes)) Plain)
+
+-- the model of the model's file: the words come first, then the file, its scan, its syntax and what does not run yet
+abbrev pub Fetched : List (List ℕ) → Files → Stage PlainModel
 Fetched words files = Then (Named words) (λ name. Then (Held files name) Read)
 
--- the model of a call: after its syntax ends that are too far and names
-abbrev pub Judged : List (List ℕ) → Files → Stage ModelTree
+-- the model of a call: its names come last
+abbrev pub Judged : List (List ℕ) → Files → Stage PlainModel
 Judged words files = Then (Fetched words files) Resolved

@@ -1,12 +1,13 @@
 -- What the list of solutions is, in other words: which assignments stand in it, and in which order.
-use Rattle.std.specs.Prelude.{◌≡◌, ◌⊎◌, ◌↔◌, ℕ, true, List, [], ◌∷◌, ℤ, ◌≤ℤ◌, ◌<ℤ◌, Result}
+use Rattle.std.specs.Prelude.{◌≡◌, ◌⊎◌, ◌↔◌, ℕ, true, List, [], ◌∷◌, ℤ, ◌≤ℤ◌, ◌<ℤ◌, Result, Ok, Err}
 use Rattle.opl_outside.specs.Files.{Files}
 use Rattle.opl_tool.specs.declared.refusal.Refusal.{Refusal}
+use Rattle.opl_tool.specs.declared.refusal.Refusal.TheVariants.{Syntax, TooDeep}
 use Rattle.opl_tool.specs.Judged.{Judged}
 use Rattle.std.specs.List.{AllPairs}
-use Rattle.opl_tree.specs.declared.model.ModelTree.{ModelTree}
-use Rattle.opl_tree.specs.declared.declaration.VariableTree.{VariableTree}
-use Rattle.opl_tool.specs.Meaning.{number_value, variables, satisfies, solutions}
+use Rattle.opl_plain.specs.declared.model.PlainModel.{PlainModel}
+use Rattle.opl_plain.specs.declared.model.PlainVariable.{PlainVariable}
+use Rattle.opl_tool.specs.Meaning.{variables, satisfies, solutions}
 
 -- one of a list
 abbrev pub IsAmong : {A : Type 0} → A → List A → Type 0
@@ -14,11 +15,11 @@ IsAmong x [] = ⊥
 IsAmong x (y ∷ ys) = (x ≡ y) ⊎ IsAmong x ys
 
 -- one value for each variable, none below its low end or above its high end
-abbrev pub IsAssignment : List VariableTree → List ℤ → Type 0
+abbrev pub IsAssignment : List PlainVariable → List ℤ → Type 0
 IsAssignment [] [] = Unit {0}
 IsAssignment [] (value ∷ values) = ⊥
 IsAssignment (v ∷ vs) [] = ⊥
-IsAssignment (v ∷ vs) (value ∷ values) = (number_value v.low ≤ℤ value) × (value ≤ℤ number_value v.high) × IsAssignment vs values
+IsAssignment (v ∷ vs) (value ∷ values) = (v.low.value ≤ℤ value) × (value ≤ℤ v.high.value) × IsAssignment vs values
 
 -- an assignment stands before another in lexicographic order: at the first place where they differ it has the lesser value
 abbrev pub Precedes : List ℤ → List ℤ → Type 0
@@ -28,13 +29,29 @@ Precedes (x ∷ xs) (y ∷ ys) = (x <ℤ y) ⊎ ((x ≡ y) × Precedes xs ys)
 
 -- no solution is lost, and each one is a solution
 abbrev pub SolutionsAre : Type 0
-SolutionsAre = (m : ModelTree) (values : List ℤ) → IsAmong values (solutions m) ↔ (IsAssignment (variables m) values × (satisfies m values ≡ true))
+SolutionsAre = (m : PlainModel) (values : List ℤ) → IsAmong values (solutions m) ↔ (IsAssignment (variables m) values × (satisfies m values ≡ true))
 
 -- each solution stands there once, and they stand in lexicographic order
 abbrev pub InOrder : Type 0
-InOrder = (m : ModelTree) → AllPairs Precedes (solutions m)
+InOrder = (m : PlainModel) → AllPairs Precedes (solutions m)
+
+-- the tokens of the file are no model that nests at most 256 levels
+abbrev pub IsSyntax : Refusal → Type 0
+IsSyntax (Syntax at) = Unit {0}
+IsSyntax (TooDeep at) = Unit {0}
+IsSyntax _ = ⊥
+
+-- both outcomes are refusals at the file's syntax
+abbrev pub AreSyntax : {A : Type 0} → Result A Refusal → Result A Refusal → Type 0
+AreSyntax (Err e) (Err f) = IsSyntax e × IsSyntax f
+AreSyntax _ _ = ⊥
+
+-- The outcomes are the same; but where tokens both stop being the beginning of a model and open a level too many, it is
+-- left open which of the two is told.
+abbrev pub SameOutcome : {A : Type 0} → Result A Refusal → Result A Refusal → Type 0
+SameOutcome r s = (r ≡ s) ⊎ AreSyntax r s
 
 -- whatever the words and the files are, they come to one outcome and to no other: a model, or a refusal
 abbrev pub OneOutcome : Type 0
 OneOutcome = (words : List (List ℕ)) (files : Files) →
-    (outcome : Result ModelTree Refusal) × Judged words files outcome × ((other : Result ModelTree Refusal) → Judged words files other → other ≡ outcome)
+    (outcome : Result PlainModel Refusal) × Judged words files outcome × ((other : Result PlainModel Refusal) → Judged words files other → SameOutcome other outcome)

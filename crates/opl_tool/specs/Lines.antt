@@ -5,7 +5,7 @@ use Rattle.opl_outside.specs.Counts.{Rose}
 use Rattle.opl_tool.specs.declared.answer.Answer.{Answer}
 use Rattle.opl_tool.specs.declared.answer.Answer.TheVariants as answer
 use Rattle.opl_tool.specs.declared.refusal.Refusal.{Refusal}
-use Rattle.opl_tool.specs.declared.refusal.Refusal.TheVariants.{Words, Absent, TooLong, BadByte, OpenComment, OpenString, NumberTooLarge, NotYet, Duplicate, Unknown}
+use Rattle.opl_tool.specs.declared.refusal.Refusal.TheVariants.{Words, Absent, TooLong, BadByte, OpenComment, OpenString, NumberTooLarge, Syntax, TooDeep, NotYet, Duplicate, Unknown}
 use Rattle.opl_tool.specs.declared.stop.Stop.{Stop}
 use Rattle.opl_tool.specs.declared.stop.Stop.TheVariants.{Refused, ReadFault, WriteFault, OutOfMemory}
 use Rattle.opl_tool.specs.Printing.{GainsFront}
@@ -33,6 +33,8 @@ refusal_text (BadByte at) file = placed_text (codes "BadByte") file at
 refusal_text (OpenComment at) file = placed_text (codes "OpenComment") file at
 refusal_text (OpenString at) file = placed_text (codes "OpenString") file at
 refusal_text (NumberTooLarge at) file = placed_text (codes "NumberTooLarge") file at
+refusal_text (Syntax at) file = placed_text (codes "Syntax") file at
+refusal_text (TooDeep at) file = placed_text (codes "TooDeep") file at
 refusal_text (NotYet at) file = placed_text (codes "NotYet") file at
 refusal_text (Duplicate at) file = placed_text (codes "Duplicate") file at
 refusal_text (Unknown at) file = placed_text (codes "Unknown") file at

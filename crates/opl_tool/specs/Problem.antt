@@ -1,7 +1,7 @@
 -- A model made ready for the enumeration.
 use Rattle.std.specs.Prelude.{◌≡◌, List, [], filter, length, ℤ, Option, Some, None, Ok, Err, Vec}
 use Rattle.std.specs.declared.alloc.Global.{Global}
-use Rattle.opl_tree.specs.declared.model.ModelTree.{ModelTree}
+use Rattle.opl_plain.specs.declared.model.PlainModel.{PlainModel}
 use Rattle.opl_tool.specs.declared.place.Place.{Place}
 use Rattle.opl_tool.specs.declared.problem.Problem.{Problem}
 use Rattle.opl_tool.specs.Constraints.{all_hold}
@@ -16,20 +16,20 @@ assignments None = []
 assignments (Some ps) = remaining ps.items
 
 -- one place for each variable, where there is an assignment
-abbrev pub FitsModel : ModelTree → Option (Vec Place Global) → Type 0
+abbrev pub FitsModel : PlainModel → Option (Vec Place Global) → Type 0
 FitsModel m None = Unit {0}
-FitsModel m (Some ps) = length ps.items ≡ length m.decls
+FitsModel m (Some ps) = length ps.items ≡ length m.variables
 
 -- the problem's solutions are the model's
-pub record Poses (m : ModelTree) (p : Problem) : Type 0 where
-  pub solutions_are : filter (all_hold p.constraints.items) (assignments p.places) ≡ solutions m
+pub record Poses (m : PlainModel) (p : Problem) : Type 0 where
+  pub solutions_are : filter (all_hold p.constraints) (assignments p.places) ≡ solutions m
   pub places_fit : FitsModel m p.places
 
 -- the problem of a model, or why the model is refused
-pub record Accepts (m : ModelTree) (p : Problem) : Type 0 where
+pub record Accepts (m : PlainModel) (p : Problem) : Type 0 where
   pub accepted : model_fault m ≡ None
   pub poses : Poses m p
 
-abbrev pub Posed : ModelTree → Stage Problem
+abbrev pub Posed : PlainModel → Stage Problem
 Posed m (Ok p) = Accepts m p
 Posed m (Err refusal) = model_fault m ≡ Some refusal

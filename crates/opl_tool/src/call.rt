@@ -6,7 +6,7 @@ ghost use Rattle.opl_tool.specs.Headline.{Answers, IsRefused, HasSolution, HasNo
 ghost use Rattle.opl_tool.specs.Judged.{Judged};
 ghost use Rattle.opl_tool.specs.Lines.{file_in, refusal_text, stop_text, Tells};
 ghost use Rattle.opl_tool.specs.Text.{text_of};
-ghost use Rattle.opl_tree.specs.declared.model.ModelTree.{ModelTree};
+ghost use Rattle.opl_plain.specs.declared.model.PlainModel.{PlainModel};
 ghost use Rattle.opl_tool.specs.declared.refusal.Refusal.{Refusal};
 
 use crate::answer::Answer;
@@ -52,13 +52,13 @@ pub fn run<F: Shelf, O: Sink, E: Sink>(
 
     // What is printed.
     ensures shown { let given = map (λ word. string_bytes word) words.now in
-        IfSome (F.files shelf.old) (λ files. (model : ModelTree) → Judged given files (Ok model) →
+        IfSome (F.files shelf.old) (λ files. (model : PlainModel) → Judged given files (Ok model) →
         Shows (O.written out.old) (O.written out.new) (text_of model) result) }
     ensures silent { let given = map (λ word. string_bytes word) words.now in
         IfSome (F.files shelf.old) (λ files. (refusal : Refusal) → Judged given files (Err refusal) →
         O.written out.new ≡ O.written out.old) }
     ensures line { let given = map (λ word. string_bytes word) words.now in
-        IfSome (F.files shelf.old) (λ files. (refusal : Refusal) → Judged given files (Err refusal) → result ≡ Answer.Refused →
+        IfSome (F.files shelf.old) (λ files. result ≡ Answer.Refused → (refusal : Refusal) × Judged given files (Err refusal) ×
         Tells (E.written err.old) (E.written err.new) (E.faults err.old) (E.faults err.new) (refusal_text refusal (file_in given)) result) }
 
     // The causes of the other answers, and their lines.

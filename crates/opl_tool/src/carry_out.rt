@@ -1,5 +1,6 @@
 //! Carrying out a call: reading its model and printing the text.
-ghost use Rattle.std.specs.Prelude.{◌≡◌, map, string_bytes, IfSome};
+ghost use Rattle.std.specs.Prelude.{◌≡◌, All, map, string_bytes, IfOk, IfSome};
+ghost use Rattle.opl_plain.specs.Plain.{AreNear};
 ghost use Rattle.opl_tool.specs.Ends.{Ends};
 ghost use Rattle.opl_tool.specs.Judged.{Fetched};
 ghost use Rattle.opl_tool.specs.Stage.{GivesRead, CountsRead};
@@ -11,13 +12,14 @@ use crate::solve::solve;
 use crate::stop::Stop;
 use crate::words::model_name;
 use opl_outside::{Shelf, Sink};
-use opl_tree::ModelTree;
+use opl_plain::PlainModel;
 use std::alloc::Global;
 
-/// The tree of the model's file.
-fn fetch<F: Shelf>(alloc: Global, words: &[String], shelf: &mut F) -> Result<ModelTree, Stop>
+/// The model of the model's file, in its plain form.
+fn fetch<F: Shelf>(alloc: Global, words: &[String], shelf: &mut F) -> Result<PlainModel, Stop>
     ensures fetched { let given = map (λ word. string_bytes word) words.now in
         IfSome (F.files shelf.old) (λ files. GivesRead (Fetched given files) result) }
+    ensures near { IfOk result (λ model. All AreNear model.variables) }
     ensures cause { CountsRead result (F.read_faults shelf.old) (F.read_faults shelf.new) }
     ensures no_write { F.write_faults shelf.new ≡ F.write_faults shelf.old }
 {
@@ -49,7 +51,7 @@ pub fn carry_out<F: Shelf, O: Sink>(
     }) result }
     ensures no_write { F.write_faults shelf.new ≡ F.write_faults shelf.old }
 {
-    let tree = fetch(alloc, words, shelf)?;
-    let problem = Problem::new(alloc, &tree)?;
-    solve(alloc, out, &tree, problem)
+    let model = fetch(alloc, words, shelf)?;
+    let problem = Problem::new(alloc, &model)?;
+    solve(alloc, out, &model, problem)
 }

@@ -1,13 +1,11 @@
 //! The names of a model's variables.
-ghost use Rattle.std.specs.Prelude.{◌≡◌, map, OnOk};
-ghost use Rattle.opl_tool.specs.Meaning.{variable_of};
+ghost use Rattle.std.specs.Prelude.{◌≡◌, OnOk};
 ghost use Rattle.opl_tool.specs.Names.{number_in, Adds, Numbered};
 ghost use Rattle.opl_tool.specs.Stage.{Gives};
 
 use crate::refusal::Refusal;
 use crate::stop::Stop;
-use crate::variables::variable_of;
-use opl_tree::DeclTree;
+use opl_plain::PlainVariable;
 use std::alloc::{AllocError, Global};
 use std::collections::HashMap;
 
@@ -30,12 +28,12 @@ fn add<'a>(numbers: &mut Numbers<'a>, name: &'a [u8], x: usize) -> Result<(), Al
 }
 
 /// The numbers of the variables by their names, or the refusal at the first name that is declared twice.
-pub fn numbers(alloc: Global, decls: &[DeclTree]) -> Result<Numbers<'_>, Stop>
-    ensures { Gives (Numbered (map variable_of decls.now)) result }
+pub fn numbers(alloc: Global, variables: &[PlainVariable]) -> Result<Numbers<'_>, Stop>
+    ensures { Gives (Numbered variables.now) result }
 {
     let mut numbers = HashMap::new(alloc);
-    for (x, decl) in decls.iter().enumerate() {
-        let name = &variable_of(decl).name;
+    for (x, variable) in variables.iter().enumerate() {
+        let name = &variable.name;
         match number_in(&numbers, name.text.as_slice()) {
             Some(_) => return Err(Stop::Refused(Refusal::Duplicate(name.at))),
             None => add(&mut numbers, name.text.as_slice(), x)?,

@@ -1,16 +1,18 @@
-//! Reading a model: from the name of its file to its tree.
-ghost use Rattle.std.specs.Prelude.{◌≡◌, ◌≤◌, ◌<◌, ◌^◌, length, IfSome, IfOk};
+//! Reading a model: from the name of its file to its plain form.
+ghost use Rattle.std.specs.Prelude.{◌≡◌, ◌≤◌, ◌<◌, ◌^◌, All, length, IfSome, IfOk};
 ghost use Rattle.opl_outside.specs.Becomes.{Becomes};
 ghost use Rattle.opl_outside.specs.Files.{max_bytes};
-ghost use Rattle.opl_tool.specs.Judged.{Held, Scanned, Parsed, Read};
+ghost use Rattle.opl_plain.specs.Plain.{AreNear};
+ghost use Rattle.opl_tool.specs.Judged.{Held, Scanned, Parsed, Plain, Read};
 ghost use Rattle.opl_tool.specs.Stage.{Gives, GivesRead, CountsRead};
 
 use crate::refusal::Refusal;
 use crate::stop::Stop;
 use opl_outside::{Found, OutsideError, Shelf};
+use opl_plain::{PlainFault, PlainModel, plain_model};
 use opl_parse::parse_model;
-use opl_token::{ScanFault, Seq, Token, scan};
 use opl_tree::{ModelTree, SyntaxFault};
+use opl_token::{ScanFault, Seq, Token, scan};
 use std::alloc::Global;
 
 /// The bytes of the file of this name.
@@ -51,16 +53,31 @@ fn tree(alloc: Global, tokens: &[Token], end: u32) -> Result<ModelTree, Stop>
 {
     match parse_model(alloc, tokens, end) {
         Ok(tree) => Ok(tree),
-        Err(SyntaxFault::NotYet(at)) => Err(Stop::Refused(Refusal::NotYet(at))),
+        Err(SyntaxFault::Syntax(at)) => Err(Stop::Refused(Refusal::Syntax(at))),
+        Err(SyntaxFault::TooDeep(at)) => Err(Stop::Refused(Refusal::TooDeep(at))),
         Err(SyntaxFault::OutOfMemory) => Err(Stop::OutOfMemory),
     }
 }
 
-/// The tree of a text.
-pub fn read(alloc: Global, bytes: &[u8]) -> Result<ModelTree, Stop>
+/// The plain form of a tree.
+fn plain(alloc: Global, tree: &ModelTree) -> Result<PlainModel, Stop>
+    ensures gives { Gives (Plain tree.now) result }
+    ensures near { IfOk result (λ model. All AreNear model.variables) }
+{
+    match plain_model(alloc, tree) {
+        Ok(model) => Ok(model),
+        Err(PlainFault::NotYet(at)) => Err(Stop::Refused(Refusal::NotYet(at))),
+        Err(PlainFault::OutOfMemory) => Err(Stop::OutOfMemory),
+    }
+}
+
+/// The model of a text, in its plain form.
+pub fn read(alloc: Global, bytes: &[u8]) -> Result<PlainModel, Stop>
     requires { length bytes.now < 2 ^ 32 }
-    ensures { Gives (Read bytes.now) result }
+    ensures gives { Gives (Read bytes.now) result }
+    ensures near { IfOk result (λ model. All AreNear model.variables) }
 {
     let tokens = tokens(alloc, bytes)?;
-    tree(alloc, tokens.as_slice(), bytes.len() as u32)
+    let tree = tree(alloc, tokens.as_slice(), bytes.len() as u32)?;
+    plain(alloc, &tree)
 }

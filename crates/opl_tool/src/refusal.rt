@@ -17,7 +17,11 @@ pub enum Refusal {
     OpenString(u32),
     /// A number past the greatest one.
     NumberTooLarge(u32),
-    /// The model is none that runs today.
+    /// The tokens are no model: the first that does not fit, or the text's length.
+    Syntax(u32),
+    /// A token that opens a level of nesting too many.
+    TooDeep(u32),
+    /// A form that does not run today.
     NotYet(u32),
     /// A name is declared a second time.
     Duplicate(u32),

@@ -1,79 +1,98 @@
-//! The comparisons of a model with the numbers of variables in place of names.
-ghost use Rattle.std.specs.Prelude.{◌≡◌, []};
-ghost use Rattle.opl_tool.specs.Meaning.{items_in};
-ghost use Rattle.opl_tool.specs.Names.{number_in as the_number_in};
-ghost use Rattle.opl_tool.specs.Resolve.{found_operand, found_constraint, Pushes, Found};
-ghost use Rattle.opl_tool.specs.Stage.{Gives};
+//! The conditions of a model with the numbers of variables in place of names.
+ghost use Rattle.std.specs.Prelude.{◌≡◌, List};
+ghost use Rattle.opl_plain.specs.declared.model.PlainVariable.{PlainVariable};
+ghost use Rattle.opl_tool.specs.Names.{number_in as the_number_in, AreNumbers};
+ghost use Rattle.opl_tool.specs.Resolve.{found_operand, found_comparison, Resolves, ResolveAll};
 
-use crate::constraint::{Constraint, Operand};
+use crate::constraint::{Constraint, Formula, Operand};
 use crate::names::{Numbers, number_in};
 use crate::refusal::Refusal;
 use crate::stop::Stop;
-use crate::variables::number_value;
-use opl_tree::{ItemTree, ItemsTree, OperandTree};
+use opl_list::{Boxed, Seq};
+use opl_plain::{Comparison, Condition, Operand as NamedOperand};
 use std::alloc::Global;
 
 /// The operand with the number of its variable, or a refusal at a name that no variable has.
-fn operand(numbers: &Numbers<'_>, tree: &OperandTree) -> Result<Operand, Refusal>
-    ensures { result ≡ found_operand (the_number_in numbers.now) tree.now }
+fn operand(numbers: &Numbers<'_>, found: &NamedOperand) -> Result<Operand, Refusal>
+    ensures { result ≡ found_operand (the_number_in numbers.now) found.now }
 {
-    match tree {
-        OperandTree::Name(name) => match number_in(numbers, name.text.as_slice()) {
+    match found {
+        NamedOperand::Variable(name) => match number_in(numbers, name.text.as_slice()) {
             Some(x) => Ok(Operand::Variable(x)),
             None => Err(Refusal::Unknown(name.at)),
         },
-        OperandTree::Number(number) => Ok(Operand::Number(number_value(number))),
+        NamedOperand::Number(number) => Ok(Operand::Number(number.value)),
     }
 }
 
-/// The comparison that an item is, or a refusal at its first name that no variable has.
-fn constraint(numbers: &Numbers<'_>, item: &ItemTree) -> Result<Constraint, Refusal>
-    ensures { result ≡ found_constraint (the_number_in numbers.now) item.now }
+/// The comparison with numbers of variables, or a refusal at its first name that no variable has.
+fn comparison(numbers: &Numbers<'_>, found: &Comparison) -> Result<Constraint, Refusal>
+    ensures { result ≡ found_comparison (the_number_in numbers.now) found.now }
 {
-    match item {
-        ItemTree::Comparison(compare) => {
-            let left = operand(numbers, &compare.left)?;
-            let right = operand(numbers, &compare.right)?;
-            Ok(Constraint {
-                left,
-                relation: compare.relation,
-                right,
-            })
-        }
-    }
+    let left = operand(numbers, &found.left)?;
+    let right = operand(numbers, &found.right)?;
+    Ok(Constraint {
+        left,
+        relation: found.relation,
+        right,
+    })
 }
 
-/// Adds the comparison that an item is.
-fn push(
-    constraints: &mut Vec<Constraint>,
-    numbers: &Numbers<'_>,
-    item: &ItemTree,
-) -> Result<(), Stop>
-    ensures { Pushes (found_constraint (the_number_in numbers.now) item.now) constraints.old.items constraints.new.items result }
+/// The formula of a comparison.
+fn compare(numbers: &Numbers<'_>, found: &Comparison) -> Result<Formula, Stop>
+    ensures { (vs : List PlainVariable) → AreNumbers vs numbers.now → Resolves vs (Rattle.opl_plain.specs.declared.model.Condition.TheVariants.Compare found.now) result }
 {
-    match constraint(numbers, item) {
-        Ok(found) => {
-            constraints.push(found)?;
-            Ok(())
-        }
+    match comparison(numbers, found) {
+        Ok(constraint) => Ok(Formula::Compare(constraint)),
         Err(refusal) => Err(Stop::Refused(refusal)),
     }
 }
 
-/// The comparisons of a model's items, or the refusal at the first name that no variable has.
-pub fn constraints(
+/// The formula of a condition, or the refusal at its first name that no variable has.
+#[cycle(resolved)]
+fn formula(
     alloc: Global,
     numbers: &Numbers<'_>,
-    items: &ItemsTree,
-) -> Result<Vec<Constraint>, Stop>
-    ensures { Gives (Found (the_number_in numbers.now) (items_in items.now)) result }
+    condition: &Condition,
+) -> Result<Formula, Stop>
+    ensures { (vs : List PlainVariable) → AreNumbers vs numbers.now → Resolves vs condition.now result }
 {
-    let mut constraints = Vec::new(alloc);
-    if let ItemsTree::Several { first, rest, .. } = items {
-        push(&mut constraints, numbers, first)?;
-        for item in rest.as_slice() {
-            push(&mut constraints, numbers, item)?;
+    match condition {
+        Condition::Compare(found) => compare(numbers, found),
+        Condition::Not(inner) => {
+            let inner = formula(alloc, numbers, inner.get())?;
+            Ok(Formula::Not(Boxed::new(alloc, inner)?))
+        }
+        Condition::All(parts) => Ok(Formula::All(formulas(alloc, numbers, parts.as_slice())?)),
+        Condition::Any(parts) => Ok(Formula::Any(formulas(alloc, numbers, parts.as_slice())?)),
+        Condition::Implies(premise, conclusion) => {
+            let premise = formula(alloc, numbers, premise.get())?;
+            let conclusion = formula(alloc, numbers, conclusion.get())?;
+            Ok(Formula::Implies(
+                Boxed::new(alloc, premise)?,
+                Boxed::new(alloc, conclusion)?,
+            ))
+        }
+        Condition::Same(first, rest) => {
+            let first = formula(alloc, numbers, first.get())?;
+            let rest = formulas(alloc, numbers, rest.as_slice())?;
+            Ok(Formula::Same(Boxed::new(alloc, first)?, rest))
         }
     }
-    Ok(constraints)
+}
+
+/// The formulas of conditions, or the refusal at the first name that no variable has.
+#[cycle(resolved)]
+pub fn formulas(
+    alloc: Global,
+    numbers: &Numbers<'_>,
+    conditions: &[Condition],
+) -> Result<Seq<Formula>, Stop>
+    ensures { (vs : List PlainVariable) → AreNumbers vs numbers.now → ResolveAll vs conditions.now result }
+{
+    let mut found = Seq::new(alloc);
+    for condition in conditions {
+        found.push(formula(alloc, numbers, condition)?)?;
+    }
+    Ok(found)
 }

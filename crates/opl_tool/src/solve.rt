@@ -11,19 +11,19 @@ use crate::show::show_all;
 use crate::stop::Stop;
 use crate::text::closing;
 use opl_outside::Sink;
-use opl_tree::ModelTree;
+use opl_plain::PlainModel;
 use std::alloc::Global;
 
 /// Shows a model's solutions, and answers how many there are.
 fn show_solutions<O: Sink>(
     alloc: Global,
     out: &mut O,
-    tree: &ModelTree,
+    model: &PlainModel,
     problem: Problem,
 ) -> Result<u64, Stop>
-    requires { Poses tree.now problem }
-    ensures prints { Prints (solution_texts (variables tree.now) 0 (solutions tree.now)) (O.written out.old) (O.written out.new) (O.faults out.old) (O.faults out.new) result }
-    ensures count { IfOk result (λ shown. shown ≡ count_from 0 (solutions tree.now)) }
+    requires { Poses model.now problem }
+    ensures prints { Prints (solution_texts (variables model.now) 0 (solutions model.now)) (O.written out.old) (O.written out.new) (O.faults out.old) (O.faults out.new) result }
+    ensures count { IfOk result (λ shown. shown ≡ count_from 0 (solutions model.now)) }
 {
     let Problem {
         places,
@@ -33,7 +33,7 @@ fn show_solutions<O: Sink>(
         Some(mut places) => show_all(
             alloc,
             out,
-            tree.decls.as_slice(),
+            model.variables.as_slice(),
             constraints.as_slice(),
             places.as_mut_slice(),
         ),
@@ -53,14 +53,14 @@ fn close<O: Sink>(alloc: Global, out: &mut O, shown: u64) -> Result<(), Stop>
 pub fn solve<O: Sink>(
     alloc: Global,
     out: &mut O,
-    tree: &ModelTree,
+    model: &PlainModel,
     problem: Problem,
 ) -> Result<u64, Stop>
-    requires { Poses tree.now problem }
-    ensures prints { Prints (text_of tree.now) (O.written out.old) (O.written out.new) (O.faults out.old) (O.faults out.new) result }
-    ensures count { IfOk result (λ shown. shown ≡ count_from 0 (solutions tree.now)) }
+    requires { Poses model.now problem }
+    ensures prints { Prints (text_of model.now) (O.written out.old) (O.written out.new) (O.faults out.old) (O.faults out.new) result }
+    ensures count { IfOk result (λ shown. shown ≡ count_from 0 (solutions model.now)) }
 {
-    let shown = show_solutions(alloc, out, tree, problem)?;
+    let shown = show_solutions(alloc, out, model, problem)?;
     close(alloc, out, shown)?;
     Ok(shown)
 }

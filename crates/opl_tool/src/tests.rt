@@ -101,8 +101,11 @@ fn names_the_first_fault(rt: HostRuntime) -> Result<(), Fail> {
     let table = [
         (
             "var int x in 1..2;\nsolve { x + 1 = 2; };",
-            "refused: NotYet m.mod 29\n",
+            "refused: NotYet m.mod 27\n",
         ),
+        ("var int x in 1..2;\nsolve { x = = 2; };", "refused: Syntax m.mod 31\n"),
+        ("minimize 1 subject to { };", "refused: NotYet m.mod 0\n"),
+        ("solve { }; search { };", "refused: NotYet m.mod 11\n"),
         ("solve { x # 1; };", "refused: BadByte m.mod 10\n"),
         ("solve { x = 1; };", "refused: Unknown m.mod 8\n"),
         (
@@ -121,7 +124,7 @@ fn names_the_first_fault(rt: HostRuntime) -> Result<(), Fail> {
             "solve { 1 = 170141183460469231731687303715884105728; };",
             "refused: NumberTooLarge m.mod 12\n",
         ),
-        ("", "refused: NotYet m.mod 0\n"),
+        ("", "refused: Syntax m.mod 0\n"),
     ];
     for (text, line) in table {
         let called = call(rt.alloc(), &SOLVE, text.as_bytes(), NONE)?;
@@ -204,11 +207,11 @@ fn tells_faults_by_their_counts(rt: HostRuntime) -> Result<(), Fail> {
 /// The line of a file of one byte: a blank, the beginning of a word, a number or a sign, or none of these.
 fn line_of_byte(byte: u8) -> &'static str {
     match byte {
-        b' ' | b'\t' | b'\r' | b'\n' => "refused: NotYet m.mod 1\n",
-        b'a'..=b'z' | b'A'..=b'Z' | b'_' | b'0'..=b'9' => "refused: NotYet m.mod 0\n",
-        b'.' | b',' | b';' | b':' | b'(' | b')' | b'[' | b']' | b'{' | b'}' =>
-            "refused: NotYet m.mod 0\n",
-        b'<' | b'>' | b'=' | b'+' | b'-' | b'*' | b'&' | b'|' => "refused: NotYet m.mod 0\n",
+        b' ' | b'\t' | b'\r' | b'\n' => "refused: Syntax m.mod 1\n",
+        b'a'..=b'z' | b'A'..=b'Z' | b'_' | b'{' => "refused: Syntax m.mod 1\n",
+        b'0'..=b'9' => "refused: Syntax m.mod 0\n",
+        b'.' | b',' | b';' | b':' | b'(' | b')' | b'[' | b']' | b'}' => "refused: Syntax m.mod 0\n",
+        b'<' | b'>' | b'=' | b'+' | b'-' | b'*' | b'&' | b'|' => "refused: Syntax m.mod 0\n",
         b'"' => "refused: OpenString m.mod 0\n",
         _ => "refused: BadByte m.mod 0\n",
     }
@@ -255,7 +258,7 @@ fn many_declarations(alloc: Global, count: u32) -> Result<(String, String), Fail
 
 #[test]
 fn bears_hostile_files(rt: HostRuntime) -> Result<(), Fail> {
-    is_refused(&rt, rt.alloc(), b"", "refused: NotYet m.mod 0\n")?;
+    is_refused(&rt, rt.alloc(), b"", "refused: Syntax m.mod 0\n")?;
     for byte in 0..=255u8 {
         is_refused(&rt, rt.alloc(), &[byte], line_of_byte(byte))?;
     }

@@ -1,17 +1,15 @@
 //! The texts that a call prints.
 ghost use Rattle.std.specs.Prelude.{◌≡◌, ◌++◌, length, map, IfOk, OnOk};
-ghost use Rattle.opl_tool.specs.Meaning.{variable_of as the_variable_of};
 ghost use Rattle.opl_tool.specs.Places.{value_of};
 ghost use Rattle.opl_tool.specs.Text.{value_line, solution_text, closing};
 
 use crate::place::Place;
-use crate::variables::variable_of;
 use itoa::Buffer;
-use opl_tree::{DeclTree, VariableTree};
+use opl_plain::PlainVariable;
 use std::alloc::{AllocError, Global};
 
 /// Adds the line of a variable and its value.
-fn push_line(text: &mut Vec<u8>, variable: &VariableTree, place: Place) -> Result<(), AllocError>
+fn push_line(text: &mut Vec<u8>, variable: &PlainVariable, place: Place) -> Result<(), AllocError>
     ensures { OnOk result (text.new.items ≡ text.old.items ++ value_line variable.now (value_of place)) }
 {
     text.extend_from_slice(variable.name.text.as_slice())?;
@@ -25,17 +23,17 @@ fn push_line(text: &mut Vec<u8>, variable: &VariableTree, place: Place) -> Resul
 pub fn solution_text(
     alloc: Global,
     number: u64,
-    decls: &[DeclTree],
+    variables: &[PlainVariable],
     places: &[Place],
 ) -> Result<Vec<u8>, AllocError>
-    requires { length places.now ≡ length decls.now }
-    ensures { IfOk result (λ text. text.items ≡ solution_text (map the_variable_of decls.now) number (map value_of places.now)) }
+    requires { length places.now ≡ length variables.now }
+    ensures { IfOk result (λ text. text.items ≡ solution_text variables.now number (map value_of places.now)) }
 {
     let mut text = Vec::from_slice(alloc, b"Solution ")?;
     text.extend_from_slice(Buffer::new().format(number).as_bytes())?;
     text.extend_from_slice(b"\n")?;
-    for (x, decl) in decls.iter().enumerate() {
-        push_line(&mut text, variable_of(decl), places[x])?;
+    for (x, variable) in variables.iter().enumerate() {
+        push_line(&mut text, variable, places[x])?;
     }
     Ok(text)
 }

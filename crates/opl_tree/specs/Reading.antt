@@ -1,9 +1,10 @@
--- The tree of a list of tokens, and where a list of tokens stops being the beginning of a model.
-use Rattle.std.specs.Prelude.{◌≡◌, ℕ, List, [], ◌∷◌, ◌++◌, map}
+-- The tree of a list of tokens, where a list of tokens stops being the beginning of a model, and where it nests too deep.
+use Rattle.std.specs.Prelude.{◌≡◌, ◌<◌, ℕ, List, [], ◌∷◌, ◌++◌, map}
 use Rattle.opl_token.specs.declared.token.Kind.{Kind}
 use Rattle.opl_token.specs.declared.token.Token.{Token}
 use Rattle.opl_tree.specs.declared.model.ModelTree.{ModelTree}
-use Rattle.opl_tree.specs.Marks.{Mark, place, token, marks_model}
+use Rattle.opl_tree.specs.Depth.{depth_model}
+use Rattle.opl_tree.specs.Marks.{place, token, unbraced, Marks, marks_model}
 use Rattle.opl_tree.specs.Spelling.{spelling, IsWellFormed}
 
 -- what the tokens are, without their places
@@ -16,11 +17,12 @@ place_of [] end = end
 place_of (t ∷ ts) end = t.at
 
 -- each node's place is that of the token that comes next
-abbrev pub AtPlaces : List Mark → List Token → ℕ → Type 0
+abbrev pub AtPlaces : Marks → List Token → ℕ → Type 0
 AtPlaces [] ts end = Unit {0}
 AtPlaces (place at ∷ ms) ts end = (at ≡ place_of ts end) × AtPlaces ms ts end
 AtPlaces (token p ∷ ms) [] end = AtPlaces ms [] end
 AtPlaces (token p ∷ ms) (t ∷ ts) end = AtPlaces ms ts end
+AtPlaces (unbraced ∷ ms) ts end = AtPlaces ms ts end
 
 -- The tree of the tokens of a text whose length is `end`: it is well formed, it is spelt so, and each node has the
 -- place of its first token; a node without tokens has the place of the token after it, or `end`.
@@ -58,3 +60,18 @@ pub record StopsAt (tokens : List Token) (end at : ℕ) : Type 0 where
   pub parts : tokens ≡ front ++ back
   pub viable : IsViable (kinds front)
   pub stop : Stops front back end at
+
+-- every well-formed tree whose spelling begins so nests deeper than so many levels
+abbrev pub NestsDeeper : List Kind → ℕ → Type 0
+NestsDeeper front levels = (t : ModelTree) (rest : List Kind) → IsWellFormed t → spelling t ≡ front ++ rest → levels < depth_model t
+
+-- The tokens up to the one at `at` are the beginning of a model, but of none that nests no deeper than `levels`: that
+-- token opens a level too many.
+pub record OpensAt (levels : ℕ) (tokens : List Token) (at : ℕ) : Type 0 where
+  pub front : List Token
+  pub opener : Token
+  pub back : List Token
+  pub parts : tokens ≡ front ++ opener ∷ back
+  pub placed : at ≡ opener.at
+  pub viable : IsViable (kinds front ++ opener.kind ∷ [])
+  pub deeper : NestsDeeper (kinds front ++ opener.kind ∷ []) levels

@@ -8,9 +8,12 @@ use thiserror::Error;
 /// Why a parser gives no tree.
 #[derive(Debug, Drop, Error)]
 pub enum SyntaxFault {
-    /// The tokens are no model that runs today; the byte offset tells where they stop being the beginning of one.
-    #[error("not run yet")]
-    NotYet(u32),
+    /// The tokens are no model; the byte offset tells where they stop being the beginning of one.
+    #[error("syntax")]
+    Syntax(u32),
+    /// The tokens nest too many levels; the byte offset is that of the token that opens one too many.
+    #[error("too deep")]
+    TooDeep(u32),
     #[error("out of memory")]
     OutOfMemory,
 }

@@ -1,22 +1,33 @@
-//! The trees of the language's texts: one type per rule of the grammar, with the place of each node.
+//! The trees of models: one type per rule of the grammar, with the place of each node.
 #![tactic(auto)]
 
 mod declaration;
 mod expression;
 mod fault;
 mod instruction;
+mod keyword;
+pub mod laws;
 mod model;
-mod spell;
-#[cfg(test)]
-mod tests;
-mod word;
+mod search;
 
-pub use declaration::{DeclTree, VariableTree};
-pub use expression::{CompareTree, NameTree, NumberTree, OperandTree, Relation};
+pub use declaration::{
+    ActivityTree, BoundsTree, DataTree, DeclTree, DimTree, DimsTree, DiscreteTree, EnumNamesTree,
+    EnumTree, FieldTree, InitialTree, RangeTree, ScheduleEnd, ScheduleTree, StructTree, TypeTree,
+    UnaryTree, VariableTree, VariableTypeTree,
+};
+pub use expression::{
+    AddOp, AddStep, AddTree, AggregateOp, AndTree, CallOp, CompareTree, ExprTree, GroupSeparator,
+    GroupStep, GroupTree, ImpTree, KeyedTree, LastStep, MulOp, MulStep, MulTree, NameTree, NegTree,
+    OpenTree, OrTree, ParamsTree, PatternTree, PostTree, PrimTree, QuestionOp, Relation, SetTree,
+    SignTree, SubscriptsTree, SuffixTree,
+};
 pub use fault::SyntaxFault;
-pub use instruction::{BlockTree, InstrTree, ItemTree, ItemsTree};
+pub use instruction::{BlockTree, InstrTree, ItemTree, ItemsTree, Optimum, RequiresTree};
+pub use keyword::{KEYWORDS, Keyword, keyword_of};
 pub use model::ModelTree;
-pub use opl_list::Seq;
+pub use opl_list::{Boxed, Seq};
 pub use opl_token::Name;
-pub use spell::spell_model;
-pub use word::is_reserved;
+pub use search::{
+    BranchOp, LabelOp, OrderTree, OrderedParamsTree, SearchBlockTree, SearchTree, StatementTree,
+    StatementsTree,
+};

@@ -1,5 +1,5 @@
 use Rattle.std.proofs.Common.{◌≡◌, max, map, drop}
-use Rattle.opl_model_tree.specs.Depth.{greatest, depth_decl}
+use Rattle.opl_tree.specs.Depth.{greatest, depth_decl}
 use Rattle.opl_depth.specs.Capped.{capped}
 use Rattle.opl_depth.proofs.declaration.deepest_decls.Given as goal
 

@@ -1,5 +1,5 @@
 use Rattle.std.proofs.Common.{◌≡◌, max, map, drop}
-use Rattle.opl_model_tree.specs.Depth.{greatest, depth_add, depth_add_step, depth_and, depth_group_step, depth_imp, depth_keyed, depth_mul_step, depth_neg, depth_suffix}
+use Rattle.opl_tree.specs.Depth.{greatest, depth_add, depth_add_step, depth_and, depth_group_step, depth_imp, depth_keyed, depth_mul_step, depth_neg, depth_suffix}
 use Rattle.opl_depth.specs.Capped.{capped}
 use Rattle.opl_depth.proofs.expression.+expressions.Given as goal
 

@@ -1,5 +1,5 @@
 use Rattle.std.proofs.Common.{◌≡◌, max, map, drop}
-use Rattle.opl_model_tree.specs.Depth.{greatest, depth_item}
+use Rattle.opl_tree.specs.Depth.{greatest, depth_item}
 use Rattle.opl_depth.specs.Capped.{capped}
 use Rattle.opl_depth.proofs.instruction.+items.Given as goal
 

@@ -1,5 +1,5 @@
 use Rattle.std.proofs.Common.{◌≡◌, max, map, drop}
-use Rattle.opl_model_tree.specs.Depth.{greatest, depth_statement, depth_statements}
+use Rattle.opl_tree.specs.Depth.{greatest, depth_statement, depth_statements}
 use Rattle.opl_depth.specs.Capped.{capped}
 use Rattle.opl_depth.proofs.search.+statements.Given as goal
 

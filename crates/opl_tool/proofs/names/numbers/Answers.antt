@@ -5,7 +5,7 @@ use Rattle.opl_tool.proofs.names.numbers.Goals as goal
 
 pub loop-x-preserved : goal.loop-x-preserved
 loop-x-preserved c =
-    let d = declared-next c.args.decls.now c.loop-x.x c.index-decls-x.result c.variable_of.result.now (number_in c.loop-x.numbers) (number_in c.add.new.numbers)
-    c.as_slice.result.now c.as_slice-in-None.result.now (omega arith) c.index-decls-x.is c.variable_of.ensures c.as_slice.ensures c.as_slice-in-None.ensures
+    let d = declared-next c.args.variables.now c.loop-x.x c.index-variables-x.result (number_in c.loop-x.numbers) (number_in c.add.new.numbers)
+    c.as_slice.result.now c.as_slice-in-None.result.now (omega arith) c.index-variables-x.is c.as_slice.ensures c.as_slice-in-None.ensures
     c.in-None.ensures c.loop-x.invariant.twice c.loop-x.invariant.numbers c.in_ok-add-in-None.ensures in
     record { twice = d.twice; numbers = d.numbers }

@@ -1,11 +1,10 @@
-use Rattle.std.proofs.Common.{◌≡◌, [], map, take, drop}
-use Rattle.opl_tool.specs.Meaning.{variable_of}
+use Rattle.std.proofs.Common.{◌≡◌, [], take, drop}
 use Rattle.opl_tool.specs.Faults.{first_twice}
 use Rattle.opl_tool.specs.Names.{AreNumbers}
 use Rattle.opl_tool.proofs.names.numbers.Given as goal
 
 abbrev pub invariant-loop-x : goal.invariant-loop-x
 invariant-loop-x l = record {
-  twice : first_twice [] (map variable_of l.decls) ≡ first_twice (map variable_of (take l.x l.decls)) (map variable_of (drop l.x l.decls));
-  numbers : AreNumbers (map variable_of (take l.x l.decls)) l.numbers;
+  twice : first_twice [] l.variables ≡ first_twice (take l.x l.variables) (drop l.x l.variables);
+  numbers : AreNumbers (take l.x l.variables) l.numbers;
 }

@@ -1,13 +1,12 @@
-use Rattle.std.proofs.Common.{map, length, filter, if◌then◌else◌}
+use Rattle.std.proofs.Common.{length, filter, if◌then◌else◌}
 use Rattle.opl_tool.specs.Constraints.{all_hold}
-use Rattle.opl_tool.specs.Meaning.{variable_of}
 use Rattle.opl_tool.specs.Places.{remaining}
 use Rattle.opl_tool.proofs.Showing.{SoFar, left_if}
 use Rattle.opl_tool.proofs.show.show_all.Given as goal
 
 abbrev pub invariant-loop-is_left : goal.invariant-loop-is_left
 invariant-loop-is_left g l =
-    SoFar (map variable_of l.decls) (filter (all_hold l.constraints) (remaining l.fn.places)) (left_if (all_hold l.constraints) l.is_left l.places) l.shown
+    SoFar l.variables (filter (all_hold l.constraints) (remaining l.fn.places)) (left_if (all_hold l.constraints) l.is_left l.places) l.shown
     (g.O.Sink.written l.fn.out) (g.O.Sink.written l.out) (g.O.Sink.faults l.fn.out) (g.O.Sink.faults l.out)
 
 abbrev pub decreases-loop-is_left : goal.decreases-loop-is_left

@@ -5,6 +5,6 @@ use Rattle.opl_tool.proofs.variables.place_of.Goals as goal
 
 pub returns : goal.returns
 returns c =
-    let low : FitsSigned w128 c.number_value.result = search rules in
-    let high : FitsSigned w128 c.number_value-2.result = search rules in
-    place_between-passed c.args.variable.now _ _ _ low high c.number_value.ensures c.number_value-2.ensures c.place_between.ensures
+    let low : FitsSigned w128 c.args.variable.now.low.value = search rules in
+    let high : FitsSigned w128 c.args.variable.now.high.value = search rules in
+    place_between-passed c.args.variable.now _ low high c.place_between.ensures

@@ -1,0 +1,2 @@
+pub mod ItemNests
+pub mod StatementNests

@@ -1,5 +1,0 @@
-use Rattle.opl_model_parse.proofs.TreeLaws.{tree_or_stop}
-use Rattle.opl_model_parse.proofs.laws.tree_or_stop.Goals as goal
-
-pub returns : goal.returns
-returns c = tree_or_stop

@@ -1,5 +1,0 @@
-use Rattle.opl_model_tree.proofs.Keywords.{text_of-keyword}
-use Rattle.opl_model_tree.proofs.laws.found_by_text.Goals as goal
-
-pub returns : goal.returns
-returns c = text_of-keyword

@@ -1,0 +1,296 @@
+//! What stands in brackets.
+ghost use Rattle.std.specs.Prelude.{◌≡◌, ◌∷◌, IfOk};
+ghost use Rattle.opl_grammar.specs.Input.{Reads};
+ghost use Rattle.opl_grammar.specs.Rules as rules;
+ghost use Rattle.opl_grammar.specs.Tables as tables;
+
+use crate::below::{Below, Level};
+use crate::just::into_name;
+use crate::word::name;
+use opl_grammar::list::{Part, Phrase, after_each, many};
+use opl_grammar::tables::{starts_add, starts_type};
+use opl_grammar::{Braced, Cursor};
+use opl_list::{Boxed, Seq};
+use opl_tree::{
+    AddTree, DimTree, FieldTree, KeyedTree, Keyword, MulTree, ParamsTree, SetTree, SyntaxFault,
+    TypeTree,
+};
+use opl_token::Sign;
+use std::alloc::{AllocError, Global};
+
+/// A list of one part, then the others.
+fn with_first<T: Drop>(alloc: Global, first: T, rest: Seq<T>) -> Result<Seq<T>, AllocError>
+    ensures { IfOk result (λ all. all ≡ first ∷ rest) }
+{
+    let mut all = Vec::new(alloc);
+    all.push(first)?;
+    all.append(&mut rest.into_vec())?;
+    Ok(Seq::from_vec(all))
+}
+
+impl<B: Below> Level<B> {
+    /// `(PARAMS) MUL`
+    #[tactic(auto, unfolding(opl_grammar::specs::Rules::aggregated))]
+    pub fn aggregated(&self, cursor: &mut Cursor<'_>) -> Result<(Boxed<ParamsTree>, Boxed<MulTree>), SyntaxFault>
+        requires { B.is_ready self.now.below }
+        ensures { Reads (rules.aggregated (B.rules self.now.below) cursor.old) result cursor.new }
+    {
+        let params = Boxed::new(self.alloc, self.chosen(cursor)?)?;
+        let body = Boxed::new(self.alloc, self.mul(cursor)?)?;
+        Ok((params, body))
+    }
+
+    /// `ADD, ADD, ..` or nothing
+    #[tactic(auto, unfolding(opl_grammar::specs::Rules::listed))]
+    pub fn listed(&self, cursor: &mut Cursor<'_>) -> Result<Seq<AddTree>, SyntaxFault>
+        requires { B.is_ready self.now.below }
+        ensures { Reads (rules.listed (B.rules self.now.below) cursor.old) result cursor.new }
+    {
+        if !starts_add(cursor.look()) {
+            return Ok(Seq::new(self.alloc));
+        }
+        let (first, rest) = self.adds(cursor)?;
+        Ok(with_first(self.alloc, first, rest)?)
+    }
+
+    /// `| PARAMS`
+    #[tactic(auto, unfolding(opl_grammar::specs::Rules::described))]
+    fn described(&self, cursor: &mut Cursor<'_>, first: Boxed<AddTree>) -> Result<Braced, SyntaxFault>
+        requires { B.is_ready self.now.below }
+        ensures { Reads (rules.described (B.rules self.now.below) first cursor.old) result cursor.new }
+    {
+        cursor.expect_sign(Sign::Bar)?;
+        let params = Boxed::new(self.alloc, self.params(cursor)?)?;
+        Ok(Braced::Described(first, params))
+    }
+
+    /// `, ADD, ..`
+    #[tactic(auto, unfolding(opl_grammar::specs::Rules::listed_behind))]
+    fn listed_behind(&self, cursor: &mut Cursor<'_>, first: AddTree) -> Result<Braced, SyntaxFault>
+        requires { B.is_ready self.now.below }
+        ensures { Reads (rules.listed_behind (B.rules self.now.below) first cursor.old) result cursor.new }
+    {
+        let rest = after_each(self.alloc, cursor, Sign::Comma, self)?;
+        Ok(Braced::Listed(with_first(self.alloc, first, rest)?))
+    }
+
+    /// `ADD, ADD, ..` or `ADD | PARAMS`
+    #[tactic(auto, unfolding(opl_grammar::specs::Rules::braced_parts))]
+    fn braced_parts(&self, cursor: &mut Cursor<'_>) -> Result<Braced, SyntaxFault>
+        requires { B.is_ready self.now.below }
+        ensures { Reads (rules.braced_parts (B.rules self.now.below) cursor.old) result cursor.new }
+    {
+        let first = self.add(cursor)?;
+        if cursor.sees_sign(Sign::Bar) {
+            self.described(cursor, Boxed::new(self.alloc, first)?)
+        } else {
+            self.listed_behind(cursor, first)
+        }
+    }
+
+    /// What stands in the braces of a set.
+    #[tactic(auto, unfolding(opl_grammar::specs::Rules::braced))]
+    pub fn braced(&self, cursor: &mut Cursor<'_>) -> Result<Braced, SyntaxFault>
+        requires { B.is_ready self.now.below }
+        ensures { Reads (rules.braced (B.rules self.now.below) cursor.old) result cursor.new }
+    {
+        if starts_add(cursor.look()) {
+            self.braced_parts(cursor)
+        } else {
+            Ok(Braced::Listed(Seq::new(self.alloc)))
+        }
+    }
+
+    /// `ADD:ADD`
+    #[tactic(auto, unfolding(opl_grammar::specs::Rules::keyed_part))]
+    fn keyed_part(&self, cursor: &mut Cursor<'_>) -> Result<KeyedTree, SyntaxFault>
+        requires { B.is_ready self.now.below }
+        ensures { Reads (rules.keyed_part (B.rules self.now.below) cursor.old) result cursor.new }
+    {
+        let key = self.add(cursor)?;
+        cursor.expect_sign(Sign::Colon)?;
+        let value = self.add(cursor)?;
+        Ok(KeyedTree { key, value })
+    }
+
+    /// `ADD:ADD, ADD:ADD, ..`
+    #[tactic(auto, unfolding(opl_grammar::specs::Rules::keyed_parts))]
+    fn keyed_parts(&self, cursor: &mut Cursor<'_>) -> Result<Seq<KeyedTree>, SyntaxFault>
+        requires { B.is_ready self.now.below }
+        ensures { Reads (rules.keyed_parts (B.rules self.now.below) cursor.old) result cursor.new }
+    {
+        let first = self.keyed_part(cursor)?;
+        let rest = after_each(self.alloc, cursor, Sign::Comma, self)?;
+        Ok(with_first(self.alloc, first, rest)?)
+    }
+
+    /// `ADD:ADD, ADD:ADD, ..` or nothing
+    #[tactic(auto, unfolding(opl_grammar::specs::Rules::keyed))]
+    pub fn keyed(&self, cursor: &mut Cursor<'_>) -> Result<Seq<KeyedTree>, SyntaxFault>
+        requires { B.is_ready self.now.below }
+        ensures { Reads (rules.keyed (B.rules self.now.below) cursor.old) result cursor.new }
+    {
+        if starts_add(cursor.look()) {
+            self.keyed_parts(cursor)
+        } else {
+            Ok(Seq::new(self.alloc))
+        }
+    }
+
+    /// `ADD` or `ADD..ADD`, as two ends
+    #[tactic(auto, unfolding(opl_grammar::specs::Rules::ends))]
+    pub fn ends(&self, cursor: &mut Cursor<'_>) -> Result<(AddTree, Option<AddTree>), SyntaxFault>
+        requires { B.is_ready self.now.below }
+        ensures { Reads (rules.ends (B.rules self.now.below) cursor.old) result cursor.new }
+    {
+        let low = self.add(cursor)?;
+        let high = if cursor.sees_sign(Sign::Range) {
+            Some(self.upper(cursor)?)
+        } else {
+            None
+        };
+        Ok((low, high))
+    }
+
+    /// `int`
+    #[tactic(auto, unfolding(opl_grammar::specs::Rules::int_type))]
+    fn int_type(&self, cursor: &mut Cursor<'_>) -> Result<TypeTree, SyntaxFault>
+        requires { B.is_ready self.now.below }
+        ensures { Reads (rules.int_type (B.rules self.now.below) cursor.old) result cursor.new }
+    {
+        let at = cursor.place();
+        cursor.expect_word(Keyword::Int)?;
+        Ok(TypeTree::Int(at))
+    }
+
+    /// `{TYPE}`
+    #[tactic(auto, unfolding(opl_grammar::specs::Rules::set_type))]
+    fn set_type(&self, cursor: &mut Cursor<'_>) -> Result<TypeTree, SyntaxFault>
+        requires { B.is_ready self.now.below }
+        ensures { Reads (rules.set_type (B.rules self.now.below) cursor.old) result cursor.new }
+    {
+        let at = cursor.place();
+        cursor.expect_sign(Sign::OpenBrace)?;
+        let inner = self.below.type_tree(cursor, at)?;
+        cursor.expect_sign(Sign::CloseBrace)?;
+        Ok(TypeTree::Set(at, Boxed::new(self.alloc, inner)?))
+    }
+
+    /// `int`, `{TYPE}` or `NAME`
+    #[tactic(auto, unfolding(opl_grammar::specs::Rules::type_tree))]
+    pub fn type_tree(&self, cursor: &mut Cursor<'_>) -> Result<TypeTree, SyntaxFault>
+        requires { B.is_ready self.now.below }
+        ensures { Reads (rules.type_tree (B.rules self.now.below) cursor.old) result cursor.new }
+    {
+        if cursor.sees_word(Keyword::Int) {
+            self.int_type(cursor)
+        } else if cursor.sees_sign(Sign::OpenBrace) {
+            self.set_type(cursor)
+        } else {
+            Ok(TypeTree::Named(name(self.alloc, cursor)?))
+        }
+    }
+
+    /// `TYPE NAME;`
+    #[tactic(auto, unfolding(opl_grammar::specs::Rules::field))]
+    fn field(&self, cursor: &mut Cursor<'_>) -> Result<FieldTree, SyntaxFault>
+        requires { B.is_ready self.now.below }
+        ensures { Reads (rules.field (B.rules self.now.below) cursor.old) result cursor.new }
+    {
+        let at = cursor.place();
+        let kind = self.type_tree(cursor)?;
+        let name = name(self.alloc, cursor)?;
+        cursor.expect_sign(Sign::Semicolon)?;
+        Ok(FieldTree { at, kind, name })
+    }
+
+    /// `FIELD FIELD ..`
+    #[tactic(auto, unfolding(opl_grammar::specs::Rules::fields))]
+    pub fn fields(&self, cursor: &mut Cursor<'_>) -> Result<(FieldTree, Seq<FieldTree>), SyntaxFault>
+        requires { B.is_ready self.now.below }
+        ensures { Reads (rules.fields (B.rules self.now.below) cursor.old) result cursor.new }
+    {
+        let first = self.field(cursor)?;
+        let rest = many(self.alloc, cursor, self)?;
+        Ok((first, rest))
+    }
+
+    /// What a dimension that begins with this set at this place is.
+    #[tactic(auto, unfolding(opl_grammar::specs::Rules::dim_of))]
+    fn dim_of(&self, cursor: &mut Cursor<'_>, at: u32, set: SetTree) -> Result<DimTree, SyntaxFault>
+        requires { B.is_ready self.now.below }
+        ensures { Reads (rules.dim_of (B.rules self.now.below) at set cursor.old) result cursor.new }
+    {
+        if !cursor.sees_word(Keyword::In) {
+            return Ok(DimTree {
+                at,
+                name: None,
+                set,
+            });
+        }
+        let Some(name) = into_name(set) else {
+            return Err(cursor.refuse());
+        };
+        cursor.expect_word(Keyword::In)?;
+        let set = self.set(cursor)?;
+        Ok(DimTree {
+            at,
+            name: Some(name),
+            set,
+        })
+    }
+
+    /// `SET` or `NAME in SET`
+    #[tactic(auto, unfolding(opl_grammar::specs::Rules::dim))]
+    fn dim(&self, cursor: &mut Cursor<'_>) -> Result<DimTree, SyntaxFault>
+        requires { B.is_ready self.now.below }
+        ensures { Reads (rules.dim (B.rules self.now.below) cursor.old) result cursor.new }
+    {
+        let at = cursor.place();
+        let set = self.set(cursor)?;
+        self.dim_of(cursor, at, set)
+    }
+
+    /// `DIM, DIM, ..`
+    #[tactic(auto, unfolding(opl_grammar::specs::Rules::dims))]
+    pub fn dims(&self, cursor: &mut Cursor<'_>) -> Result<(DimTree, Seq<DimTree>), SyntaxFault>
+        requires { B.is_ready self.now.below }
+        ensures { Reads (rules.dims (B.rules self.now.below) cursor.old) result cursor.new }
+    {
+        let first = self.dim(cursor)?;
+        let rest = after_each(self.alloc, cursor, Sign::Comma, self)?;
+        Ok((first, rest))
+    }
+}
+
+impl<B: Below> Phrase<KeyedTree> for Level<B> {
+    ghost phrase = { λ l. rules.keyed_part (B.rules l.below) };
+    ghost is_ready = { λ l. B.is_ready l.below };
+
+    fn phrase(&self, cursor: &mut Cursor<'_>) -> Result<KeyedTree, SyntaxFault> {
+        self.keyed_part(cursor)
+    }
+}
+
+impl<B: Below> Phrase<DimTree> for Level<B> {
+    ghost phrase = { λ l. rules.dim (B.rules l.below) };
+    ghost is_ready = { λ l. B.is_ready l.below };
+
+    fn phrase(&self, cursor: &mut Cursor<'_>) -> Result<DimTree, SyntaxFault> {
+        self.dim(cursor)
+    }
+}
+
+impl<B: Below> Part<FieldTree> for Level<B> {
+    ghost begins = { λ _. tables.starts_type };
+    ghost part = { λ l. rules.field (B.rules l.below) };
+    ghost is_ready = { λ l. B.is_ready l.below };
+
+    fn starts(&self, cursor: &Cursor<'_>) -> bool {
+        starts_type(cursor.look())
+    }
+
+    fn read(&self, cursor: &mut Cursor<'_>) -> Result<FieldTree, SyntaxFault> {
+        self.field(cursor)
+    }
+}

@@ -1,0 +1,155 @@
+//! Phrases that are just a name, or just a prim with its suffixes.
+ghost use Rattle.std.specs.Prelude.{◌≡◌};
+ghost use Rattle.opl_grammar.specs.Just as just;
+
+use opl_tree::{
+    AddTree, AndTree, CompareTree, ExprTree, ImpTree, MulTree, NameTree, NegTree, OrTree, PostTree,
+    PrimTree, SetTree, SignTree,
+};
+
+/// A factor without a sign.
+#[tactic(auto, unfolding(opl_grammar::specs::Just::post_of_sign))]
+fn post_of_sign(t: SignTree) -> Option<PostTree>
+    ensures { result ≡ just.post_of_sign t }
+{
+    match t {
+        SignTree::Postfix(inner) => Some(inner),
+        SignTree::Negative(..) => None,
+    }
+}
+
+/// A product of one factor.
+#[tactic(auto, unfolding(opl_grammar::specs::Just::post_of_mul))]
+fn post_of_mul(t: MulTree) -> Option<PostTree>
+    ensures { result ≡ just.post_of_mul t }
+{
+    match t {
+        MulTree::Product(_, first, steps, last) => {
+            if steps.is_empty() && last.is_none() {
+                post_of_sign(first)
+            } else {
+                None
+            }
+        }
+        MulTree::Opened(_) => None,
+    }
+}
+
+/// A sum of one product.
+#[tactic(auto, unfolding(opl_grammar::specs::Just::post_of_add))]
+fn post_of_add(t: AddTree) -> Option<PostTree>
+    ensures { result ≡ just.post_of_add t }
+{
+    if t.rest.is_empty() {
+        post_of_mul(t.first)
+    } else {
+        None
+    }
+}
+
+/// A comparison of nothing.
+#[tactic(auto, unfolding(opl_grammar::specs::Just::post_of_compare))]
+fn post_of_compare(t: CompareTree) -> Option<PostTree>
+    ensures { result ≡ just.post_of_compare t }
+{
+    match t {
+        CompareTree::Single(_, inner) => post_of_add(inner.into_inner()),
+        _ => None,
+    }
+}
+
+/// What is not negated.
+#[tactic(auto, unfolding(opl_grammar::specs::Just::post_of_neg))]
+fn post_of_neg(t: NegTree) -> Option<PostTree>
+    ensures { result ≡ just.post_of_neg t }
+{
+    match t {
+        NegTree::Compare(inner) => post_of_compare(inner),
+        NegTree::Not(..) => None,
+    }
+}
+
+/// What stands without `&`.
+#[tactic(auto, unfolding(opl_grammar::specs::Just::post_of_and))]
+fn post_of_and(t: AndTree) -> Option<PostTree>
+    ensures { result ≡ just.post_of_and t }
+{
+    if t.rest.is_empty() {
+        post_of_neg(t.first)
+    } else {
+        None
+    }
+}
+
+/// What stands without `\/`.
+#[tactic(auto, unfolding(opl_grammar::specs::Just::post_of_or))]
+fn post_of_or(t: OrTree) -> Option<PostTree>
+    ensures { result ≡ just.post_of_or t }
+{
+    if t.rest.is_empty() {
+        post_of_and(t.first)
+    } else {
+        None
+    }
+}
+
+/// What stands without `=>`.
+#[tactic(auto, unfolding(opl_grammar::specs::Just::post_of_imp))]
+fn post_of_imp(t: ImpTree) -> Option<PostTree>
+    ensures { result ≡ just.post_of_imp t }
+{
+    if t.conclusion.is_none() {
+        post_of_or(t.premise)
+    } else {
+        None
+    }
+}
+
+/// The prim with its suffixes that an expression is, if it is no more.
+#[tactic(auto, unfolding(opl_grammar::specs::Just::post_of))]
+pub fn into_post(t: ExprTree) -> Option<PostTree>
+    ensures { result ≡ just.post_of t }
+{
+    if t.rest.is_empty() {
+        post_of_imp(t.first)
+    } else {
+        None
+    }
+}
+
+/// The name that a prim is.
+#[tactic(auto, unfolding(opl_grammar::specs::Just::name_of_prim))]
+fn name_of_prim(t: PrimTree) -> Option<NameTree>
+    ensures { result ≡ just.name_of_prim t }
+{
+    match t {
+        PrimTree::Named(inner) => Some(inner),
+        _ => None,
+    }
+}
+
+/// A prim without suffixes.
+#[tactic(auto, unfolding(opl_grammar::specs::Just::name_of_post))]
+fn name_of_post(t: PostTree) -> Option<NameTree>
+    ensures { result ≡ just.name_of_post t }
+{
+    if t.suffixes.is_empty() {
+        name_of_prim(t.prim)
+    } else {
+        None
+    }
+}
+
+/// The name that a set is, if it is no more.
+#[tactic(auto, unfolding(opl_grammar::specs::Just::name_of))]
+pub fn into_name(t: SetTree) -> Option<NameTree>
+    ensures { result ≡ just.name_of t }
+{
+    if t.high.is_some() {
+        return None;
+    }
+    match post_of_add(t.low) {
+        Some(inner) => name_of_post(inner),
+        None => None,
+    }
+}

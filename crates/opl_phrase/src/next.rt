@@ -1,0 +1,363 @@
+//! The rules closed: one function that is passed to itself reads every level.
+ghost use Rattle.std.specs.Prelude.{◌≡◌, true, IfOk};
+ghost use Rattle.opl_grammar.specs.Input.{Reads};
+ghost use Rattle.opl_grammar.specs.Rules as rules;
+ghost use Rattle.opl_phrase.specs.Nests as spec;
+ghost use Rattle.opl_phrase.specs.Nests.{Nests};
+
+use crate::below::{Below, Level};
+use crate::wanted::{Found, Wanted};
+use crate::word::names;
+use opl_grammar::{Braced, Cursor, Operand};
+use opl_list::{Boxed, Seq};
+use opl_tree::{
+    AddTree, DimTree, ExprTree, FieldTree, ImpTree, KeyedTree, MulTree, NameTree, NegTree,
+    OrderedParamsTree, ParamsTree, PostTree, SyntaxFault, TypeTree,
+};
+use std::alloc::{AllocError, Global};
+
+/// A tree without its box.
+fn unboxed(t: Option<Boxed<AddTree>>) -> Option<AddTree>
+    ensures { result ≡ t }
+{
+    match t {
+        Some(inner) => Some(inner.into_inner()),
+        None => None,
+    }
+}
+
+/// A tree in a box.
+fn boxed(alloc: Global, t: Option<AddTree>) -> Result<Option<Boxed<AddTree>>, AllocError>
+    ensures { IfOk result (λ inner. inner ≡ t) }
+{
+    match t {
+        Some(inner) => Ok(Some(Boxed::new(alloc, inner)?)),
+        None => Ok(None),
+    }
+}
+
+/// What is read with so many levels left, by a function that reads one level.
+#[derive(Drop)]
+pub struct Next<F> {
+    pub alloc: Global,
+    pub levels: u32,
+    pub read: F,
+}
+
+impl<F: Fn(Global, &mut Cursor<'_>, u32, u32, Wanted) -> Result<Found, SyntaxFault>> Next<F> {
+    /// What is wanted behind the token at this place.
+    fn ask(&self, cursor: &mut Cursor<'_>, at: u32, wanted: Wanted) -> Result<Found, SyntaxFault>
+        requires { Nests self.now.levels (F.pre self.now.read) (F.post self.now.read) }
+        ensures { Reads (spec.read self.now.levels at wanted cursor.old) result cursor.new }
+    {
+        (self.read)(self.alloc, cursor, self.levels, at, wanted)
+    }
+}
+
+impl<F: Fn(Global, &mut Cursor<'_>, u32, u32, Wanted) -> Result<Found, SyntaxFault>> Below
+    for Next<F>
+{
+    ghost rules = { λ n. rules.rules n.levels };
+    ghost is_ready = { λ n. Nests n.levels (F.pre n.read) (F.post n.read) };
+
+    #[tactic(auto, unfolding(crate::specs::Nests::read))]
+    fn expr(&self, cursor: &mut Cursor<'_>, at: u32) -> Result<ExprTree, SyntaxFault> {
+        match self.ask(cursor, at, Wanted::Expr)? {
+            Found::Expr(found) => Ok(found),
+            _ => unreachable!(),
+        }
+    }
+
+    #[tactic(auto, unfolding(crate::specs::Nests::read))]
+    fn add(&self, cursor: &mut Cursor<'_>, at: u32) -> Result<AddTree, SyntaxFault> {
+        match self.ask(cursor, at, Wanted::Add)? {
+            Found::Add(found) => Ok(found),
+            _ => unreachable!(),
+        }
+    }
+
+    #[tactic(auto, unfolding(crate::specs::Nests::read))]
+    fn post(&self, cursor: &mut Cursor<'_>, at: u32) -> Result<PostTree, SyntaxFault> {
+        match self.ask(cursor, at, Wanted::Post)? {
+            Found::Post(found) => Ok(found),
+            _ => unreachable!(),
+        }
+    }
+
+    #[tactic(auto, unfolding(crate::specs::Nests::read))]
+    fn params(&self, cursor: &mut Cursor<'_>, at: u32) -> Result<ParamsTree, SyntaxFault> {
+        match self.ask(cursor, at, Wanted::Params)? {
+            Found::Params(found) => Ok(found.into_inner()),
+            _ => unreachable!(),
+        }
+    }
+
+    #[tactic(auto, unfolding(crate::specs::Nests::read))]
+    fn ordered(&self, cursor: &mut Cursor<'_>, at: u32) -> Result<OrderedParamsTree, SyntaxFault> {
+        match self.ask(cursor, at, Wanted::Ordered)? {
+            Found::Ordered(found) => Ok(found.into_inner()),
+            _ => unreachable!(),
+        }
+    }
+
+    #[tactic(auto, unfolding(crate::specs::Nests::read))]
+    fn ends(&self, cursor: &mut Cursor<'_>, at: u32) -> Result<(AddTree, Option<AddTree>), SyntaxFault> {
+        match self.ask(cursor, at, Wanted::Ends)? {
+            Found::Ends(low, high) => Ok((low.into_inner(), unboxed(high))),
+            _ => unreachable!(),
+        }
+    }
+
+    #[tactic(auto, unfolding(crate::specs::Nests::read))]
+    fn imp(&self, cursor: &mut Cursor<'_>, at: u32) -> Result<ImpTree, SyntaxFault> {
+        match self.ask(cursor, at, Wanted::Imp)? {
+            Found::Imp(found) => Ok(found),
+            _ => unreachable!(),
+        }
+    }
+
+    #[tactic(auto, unfolding(crate::specs::Nests::read))]
+    fn neg(&self, cursor: &mut Cursor<'_>, at: u32) -> Result<NegTree, SyntaxFault> {
+        match self.ask(cursor, at, Wanted::Neg)? {
+            Found::Neg(found) => Ok(found),
+            _ => unreachable!(),
+        }
+    }
+
+    #[tactic(auto, unfolding(crate::specs::Nests::read))]
+    fn operand(&self, cursor: &mut Cursor<'_>, at: u32) -> Result<Operand, SyntaxFault> {
+        match self.ask(cursor, at, Wanted::Operand)? {
+            Found::Operand(found) => Ok(found),
+            _ => unreachable!(),
+        }
+    }
+
+    #[tactic(auto, unfolding(crate::specs::Nests::read))]
+    fn aggregate(&self, cursor: &mut Cursor<'_>, at: u32) -> Result<(Boxed<ParamsTree>, Boxed<MulTree>), SyntaxFault> {
+        match self.ask(cursor, at, Wanted::Aggregate)? {
+            Found::Aggregate(first, second) => Ok((first, second)),
+            _ => unreachable!(),
+        }
+    }
+
+    #[tactic(auto, unfolding(crate::specs::Nests::read))]
+    fn adds(&self, cursor: &mut Cursor<'_>, at: u32) -> Result<(AddTree, Seq<AddTree>), SyntaxFault> {
+        match self.ask(cursor, at, Wanted::Adds)? {
+            Found::Adds(first, second) => Ok((first, second)),
+            _ => unreachable!(),
+        }
+    }
+
+    #[tactic(auto, unfolding(crate::specs::Nests::read))]
+    fn listed(&self, cursor: &mut Cursor<'_>, at: u32) -> Result<Seq<AddTree>, SyntaxFault> {
+        match self.ask(cursor, at, Wanted::Listed)? {
+            Found::Listed(found) => Ok(found),
+            _ => unreachable!(),
+        }
+    }
+
+    #[tactic(auto, unfolding(crate::specs::Nests::read))]
+    fn keyed(&self, cursor: &mut Cursor<'_>, at: u32) -> Result<Seq<KeyedTree>, SyntaxFault> {
+        match self.ask(cursor, at, Wanted::Keyed)? {
+            Found::Keyed(found) => Ok(found),
+            _ => unreachable!(),
+        }
+    }
+
+    #[tactic(auto, unfolding(crate::specs::Nests::read))]
+    fn braced(&self, cursor: &mut Cursor<'_>, at: u32) -> Result<Braced, SyntaxFault> {
+        match self.ask(cursor, at, Wanted::Braced)? {
+            Found::Braced(found) => Ok(found),
+            _ => unreachable!(),
+        }
+    }
+
+    #[tactic(auto, unfolding(crate::specs::Nests::read))]
+    fn names(&self, cursor: &mut Cursor<'_>, at: u32) -> Result<(NameTree, Seq<NameTree>), SyntaxFault> {
+        match self.ask(cursor, at, Wanted::Names)? {
+            Found::Names(first, second) => Ok((first, second)),
+            _ => unreachable!(),
+        }
+    }
+
+    #[tactic(auto, unfolding(crate::specs::Nests::read))]
+    fn type_tree(&self, cursor: &mut Cursor<'_>, at: u32) -> Result<TypeTree, SyntaxFault> {
+        match self.ask(cursor, at, Wanted::Type)? {
+            Found::Type(found) => Ok(found),
+            _ => unreachable!(),
+        }
+    }
+
+    #[tactic(auto, unfolding(crate::specs::Nests::read))]
+    fn fields(&self, cursor: &mut Cursor<'_>, at: u32) -> Result<(FieldTree, Seq<FieldTree>), SyntaxFault> {
+        match self.ask(cursor, at, Wanted::Fields)? {
+            Found::Fields(first, second) => Ok((first, second)),
+            _ => unreachable!(),
+        }
+    }
+
+    #[tactic(auto, unfolding(crate::specs::Nests::read))]
+    fn dims(&self, cursor: &mut Cursor<'_>, at: u32) -> Result<(DimTree, Seq<DimTree>), SyntaxFault> {
+        match self.ask(cursor, at, Wanted::Dims)? {
+            Found::Dims(first, rest) => Ok((first.into_inner(), rest)),
+            _ => unreachable!(),
+        }
+    }
+}
+
+impl<B: Below> Level<B> {
+    /// What stands behind `(`. Nothing else is asked of it.
+    #[tactic(auto, unfolding(opl_grammar::specs::Rules::level))]
+    fn parenthesized(&self, cursor: &mut Cursor<'_>, at: u32, wanted: Wanted) -> Result<Found, SyntaxFault>
+        requires ready { B.is_ready self.now.below }
+        requires asked { spec.asks_parenthesized wanted ≡ true }
+        ensures { Reads (spec.one_of (rules.level (B.rules self.now.below)) at wanted cursor.old) result cursor.new }
+    {
+        match wanted {
+            Wanted::Expr => Ok(Found::Expr(self.expr(cursor)?)),
+            Wanted::Add => Ok(Found::Add(self.add(cursor)?)),
+            Wanted::Post => Ok(Found::Post(self.post(cursor)?)),
+            Wanted::Params => {
+                let found = self.params(cursor)?;
+                Ok(Found::Params(Boxed::new(self.alloc, found)?))
+            }
+            Wanted::Ordered => {
+                let found = self.ordered_params(cursor)?;
+                Ok(Found::Ordered(Boxed::new(self.alloc, found)?))
+            }
+            Wanted::Ends => {
+                let (low, high) = self.ends(cursor)?;
+                let low = Boxed::new(self.alloc, low)?;
+                Ok(Found::Ends(low, boxed(self.alloc, high)?))
+            }
+            _ => unreachable!(),
+        }
+    }
+
+    /// What stands behind an operator or the word of an aggregate. Nothing else is asked of it.
+    #[tactic(auto, unfolding(opl_grammar::specs::Rules::level))]
+    fn operated(&self, cursor: &mut Cursor<'_>, at: u32, wanted: Wanted) -> Result<Found, SyntaxFault>
+        requires ready { B.is_ready self.now.below }
+        requires asked { spec.asks_operated wanted ≡ true }
+        ensures { Reads (spec.one_of (rules.level (B.rules self.now.below)) at wanted cursor.old) result cursor.new }
+    {
+        match wanted {
+            Wanted::Imp => Ok(Found::Imp(self.imp(cursor)?)),
+            Wanted::Neg => Ok(Found::Neg(self.neg(cursor)?)),
+            Wanted::Operand => Ok(Found::Operand(self.operand(cursor)?)),
+            Wanted::Aggregate => {
+                let (first, second) = self.aggregated(cursor)?;
+                Ok(Found::Aggregate(first, second))
+            }
+            _ => unreachable!(),
+        }
+    }
+
+    /// A list of expressions. Nothing else is asked of it.
+    #[tactic(auto, unfolding(opl_grammar::specs::Rules::level))]
+    fn listed_in(&self, cursor: &mut Cursor<'_>, at: u32, wanted: Wanted) -> Result<Found, SyntaxFault>
+        requires ready { B.is_ready self.now.below }
+        requires asked { spec.asks_listed_in wanted ≡ true }
+        ensures { Reads (spec.one_of (rules.level (B.rules self.now.below)) at wanted cursor.old) result cursor.new }
+    {
+        match wanted {
+            Wanted::Adds => {
+                let (first, second) = self.adds(cursor)?;
+                Ok(Found::Adds(first, second))
+            }
+            Wanted::Listed => Ok(Found::Listed(self.listed(cursor)?)),
+            Wanted::Keyed => Ok(Found::Keyed(self.keyed(cursor)?)),
+            Wanted::Braced => Ok(Found::Braced(self.braced(cursor)?)),
+            _ => unreachable!(),
+        }
+    }
+
+    /// What stands in the brackets of declarations. Nothing else is asked of it.
+    #[tactic(auto, unfolding(opl_grammar::specs::Rules::level))]
+    fn declared(&self, cursor: &mut Cursor<'_>, at: u32, wanted: Wanted) -> Result<Found, SyntaxFault>
+        requires ready { B.is_ready self.now.below }
+        requires asked { spec.asks_declared wanted ≡ true }
+        ensures { Reads (spec.one_of (rules.level (B.rules self.now.below)) at wanted cursor.old) result cursor.new }
+    {
+        match wanted {
+            Wanted::Names => {
+                let (first, rest) = names(self.alloc, cursor)?;
+                Ok(Found::Names(first, rest))
+            }
+            Wanted::Type => Ok(Found::Type(self.type_tree(cursor)?)),
+            Wanted::Fields => {
+                let (first, second) = self.fields(cursor)?;
+                Ok(Found::Fields(first, second))
+            }
+            Wanted::Dims => {
+                let (first, rest) = self.dims(cursor)?;
+                Ok(Found::Dims(Boxed::new(self.alloc, first)?, rest))
+            }
+            _ => unreachable!(),
+        }
+    }
+
+    /// What is wanted behind the token at this place.
+    pub fn one_of(
+        &self,
+        cursor: &mut Cursor<'_>,
+        at: u32,
+        wanted: Wanted,
+    ) -> Result<Found, SyntaxFault>
+        requires { B.is_ready self.now.below }
+        ensures { Reads (spec.one_of (rules.level (B.rules self.now.below)) at wanted cursor.old) result cursor.new }
+    {
+        match wanted {
+            Wanted::Expr
+            | Wanted::Add
+            | Wanted::Post
+            | Wanted::Params
+            | Wanted::Ordered
+            | Wanted::Ends => self.parenthesized(cursor, at, wanted),
+            Wanted::Imp
+            | Wanted::Neg
+            | Wanted::Operand
+            | Wanted::Aggregate => self.operated(cursor, at, wanted),
+            Wanted::Adds
+            | Wanted::Listed
+            | Wanted::Keyed
+            | Wanted::Braced => self.listed_in(cursor, at, wanted),
+            _ => self.declared(cursor, at, wanted),
+        }
+    }
+}
+
+/// What is wanted behind the token at this place, with so many levels left.
+#[tactic(auto, using(crate::proofs::Levels::no_level_refuses, crate::proofs::Levels::one_level), unfolding(crate::specs::Nests::read))]
+fn read(
+    alloc: Global,
+    cursor: &mut Cursor<'_>,
+    levels: u32,
+    at: u32,
+    wanted: Wanted,
+) -> Result<Found, SyntaxFault>
+    ensures { Reads (spec.read levels at wanted cursor.old) result cursor.new }
+{
+    if levels == 0 {
+        return Err(SyntaxFault::TooDeep(at));
+    }
+    let below = Next {
+        alloc,
+        levels: levels - 1,
+        read,
+    };
+    Level { alloc, below }.one_of(cursor, at, wanted)
+}
+
+/// What is wanted behind the token at this place, with so many levels left.
+pub fn read_phrase(
+    alloc: Global,
+    cursor: &mut Cursor<'_>,
+    levels: u32,
+    at: u32,
+    wanted: Wanted,
+) -> Result<Found, SyntaxFault>
+    ensures { Reads (spec.read levels at wanted cursor.old) result cursor.new }
+{
+    read(alloc, cursor, levels, at, wanted)
+}

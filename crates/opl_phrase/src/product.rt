@@ -1,0 +1,192 @@
+//! Products and sums.
+ghost use Rattle.std.specs.Prelude.{◌≡◌, IfOk};
+ghost use Rattle.opl_grammar.specs.Input.{Reads};
+ghost use Rattle.opl_grammar.specs.Rules as rules;
+ghost use Rattle.opl_grammar.specs.Tables as tables;
+
+use crate::below::{Below, Level};
+use opl_grammar::list::{Part, Phrase, after_each, many};
+use opl_grammar::tables::{add_op, aggregate_op, mul_op};
+use opl_grammar::{Cursor, Operand};
+use opl_list::{Boxed, Seq};
+use opl_tree::{
+    AddStep, AddTree, LastStep, MulStep, MulTree, OpenTree, SetTree, SignTree, SyntaxFault,
+};
+use opl_token::Sign;
+use std::alloc::{AllocError, Global};
+
+/// A sign before an operand, whichever it is.
+fn negative(alloc: Global, at: u32, operand: Operand) -> Result<Operand, AllocError>
+    ensures { IfOk result (λ t. t ≡ rules.negative at operand) }
+{
+    match operand {
+        Operand::Open(inner) => Ok(Operand::Open(OpenTree::NegativeOpen(
+            at,
+            Boxed::new(alloc, inner)?,
+        ))),
+        Operand::Sign(inner) => Ok(Operand::Sign(SignTree::Negative(
+            at,
+            Boxed::new(alloc, inner)?,
+        ))),
+    }
+}
+
+impl<B: Below> Level<B> {
+    /// `- OPERAND`
+    #[tactic(auto, unfolding(opl_grammar::specs::Rules::negated))]
+    fn negated(&self, cursor: &mut Cursor<'_>) -> Result<Operand, SyntaxFault>
+        requires { B.is_ready self.now.below }
+        ensures { Reads (rules.negated (B.rules self.now.below) cursor.old) result cursor.new }
+    {
+        let at = cursor.place();
+        cursor.expect_sign(Sign::Minus)?;
+        let inner = self.below.operand(cursor, at)?;
+        Ok(negative(self.alloc, at, inner)?)
+    }
+
+    /// `sum (PARAMS) MUL` and the like
+    #[tactic(auto, unfolding(opl_grammar::specs::Rules::aggregate))]
+    fn aggregate(&self, cursor: &mut Cursor<'_>) -> Result<Operand, SyntaxFault>
+        requires { B.is_ready self.now.below }
+        ensures { Reads (rules.aggregate (B.rules self.now.below) cursor.old) result cursor.new }
+    {
+        let at = cursor.place();
+        let op = cursor.take_found(aggregate_op(cursor.look()))?;
+        let (params, body) = self.below.aggregate(cursor, at)?;
+        Ok(Operand::Open(OpenTree::Aggregate(at, op, params, body)))
+    }
+
+    /// An aggregate or a factor, with signs before it.
+    #[tactic(auto, unfolding(opl_grammar::specs::Rules::operand))]
+    pub fn operand(&self, cursor: &mut Cursor<'_>) -> Result<Operand, SyntaxFault>
+        requires { B.is_ready self.now.below }
+        ensures { Reads (rules.operand (B.rules self.now.below) cursor.old) result cursor.new }
+    {
+        if cursor.sees_sign(Sign::Minus) {
+            self.negated(cursor)
+        } else if aggregate_op(cursor.look()).is_some() {
+            self.aggregate(cursor)
+        } else {
+            Ok(Operand::Sign(SignTree::Postfix(self.post(cursor)?)))
+        }
+    }
+
+    /// The steps of a product.
+    #[tactic(auto, unfolding(opl_grammar::specs::Rules::steps, opl_grammar::specs::Rules::steps_from))]
+    fn steps(&self, cursor: &mut Cursor<'_>) -> Result<(Seq<MulStep>, Option<LastStep>), SyntaxFault>
+        requires { B.is_ready self.now.below }
+        ensures { Reads (rules.steps (B.rules self.now.below) cursor.old) result cursor.new }
+    {
+        let mut found = Seq::new(self.alloc);
+        for _turn in 0..cursor.turns() {
+            let Some(op) = mul_op(cursor.look()) else {
+                return Ok((found, None));
+            };
+            cursor.take_found(Some(op))?;
+            match self.operand(cursor)? {
+                Operand::Open(factor) => return Ok((found, Some(LastStep { op, factor }))),
+                Operand::Sign(factor) => found.push(MulStep { op, factor })?,
+            }
+        }
+        Err(cursor.refuse())
+    }
+
+    /// `OPERAND`, or `FACTOR * FACTOR div .. OPERAND`
+    #[tactic(auto, unfolding(opl_grammar::specs::Rules::mul))]
+    pub fn mul(&self, cursor: &mut Cursor<'_>) -> Result<MulTree, SyntaxFault>
+        requires { B.is_ready self.now.below }
+        ensures { Reads (rules.mul (B.rules self.now.below) cursor.old) result cursor.new }
+    {
+        let at = cursor.place();
+        match self.operand(cursor)? {
+            Operand::Open(inner) => Ok(MulTree::Opened(inner)),
+            Operand::Sign(first) => {
+                let (steps, last) = self.steps(cursor)?;
+                Ok(MulTree::Product(at, first, steps, last))
+            }
+        }
+    }
+
+    /// `+ MUL` or `- MUL`
+    #[tactic(auto, unfolding(opl_grammar::specs::Rules::add_step))]
+    fn add_step(&self, cursor: &mut Cursor<'_>) -> Result<AddStep, SyntaxFault>
+        requires { B.is_ready self.now.below }
+        ensures { Reads (rules.add_step (B.rules self.now.below) cursor.old) result cursor.new }
+    {
+        let op = cursor.take_found(add_op(cursor.look()))?;
+        let term = self.mul(cursor)?;
+        Ok(AddStep { op, term })
+    }
+
+    /// `MUL + MUL - ..`
+    #[tactic(auto, unfolding(opl_grammar::specs::Rules::add))]
+    pub fn add(&self, cursor: &mut Cursor<'_>) -> Result<AddTree, SyntaxFault>
+        requires { B.is_ready self.now.below }
+        ensures { Reads (rules.add (B.rules self.now.below) cursor.old) result cursor.new }
+    {
+        let at = cursor.place();
+        let first = self.mul(cursor)?;
+        let rest = many(self.alloc, cursor, self)?;
+        Ok(AddTree { at, first, rest })
+    }
+
+    /// `ADD, ADD, ..`
+    #[tactic(auto, unfolding(opl_grammar::specs::Rules::adds))]
+    pub fn adds(&self, cursor: &mut Cursor<'_>) -> Result<(AddTree, Seq<AddTree>), SyntaxFault>
+        requires { B.is_ready self.now.below }
+        ensures { Reads (rules.adds (B.rules self.now.below) cursor.old) result cursor.new }
+    {
+        let first = self.add(cursor)?;
+        let rest = after_each(self.alloc, cursor, Sign::Comma, self)?;
+        Ok((first, rest))
+    }
+
+    /// `..ADD`
+    #[tactic(auto, unfolding(opl_grammar::specs::Rules::upper))]
+    pub fn upper(&self, cursor: &mut Cursor<'_>) -> Result<AddTree, SyntaxFault>
+        requires { B.is_ready self.now.below }
+        ensures { Reads (rules.upper (B.rules self.now.below) cursor.old) result cursor.new }
+    {
+        cursor.expect_sign(Sign::Range)?;
+        self.add(cursor)
+    }
+
+    /// `ADD` or `ADD..ADD`
+    #[tactic(auto, unfolding(opl_grammar::specs::Rules::set))]
+    pub fn set(&self, cursor: &mut Cursor<'_>) -> Result<SetTree, SyntaxFault>
+        requires { B.is_ready self.now.below }
+        ensures { Reads (rules.set (B.rules self.now.below) cursor.old) result cursor.new }
+    {
+        let at = cursor.place();
+        let low = self.add(cursor)?;
+        let high = if cursor.sees_sign(Sign::Range) {
+            Some(Boxed::new(self.alloc, self.upper(cursor)?)?)
+        } else {
+            None
+        };
+        Ok(SetTree { at, low, high })
+    }
+}
+
+impl<B: Below> Part<AddStep> for Level<B> {
+    ghost begins = { λ _. tables.is_add_op };
+    ghost part = { λ l. rules.add_step (B.rules l.below) };
+    ghost is_ready = { λ l. B.is_ready l.below };
+
+    fn starts(&self, cursor: &Cursor<'_>) -> bool {
+        add_op(cursor.look()).is_some()
+    }
+
+    fn read(&self, cursor: &mut Cursor<'_>) -> Result<AddStep, SyntaxFault> {
+        self.add_step(cursor)
+    }
+}
+
+impl<B: Below> Phrase<AddTree> for Level<B> {
+    ghost phrase = { λ l. rules.add (B.rules l.below) };
+    ghost is_ready = { λ l. B.is_ready l.below };
+
+    fn phrase(&self, cursor: &mut Cursor<'_>) -> Result<AddTree, SyntaxFault> {
+        self.add(cursor)
+    }
+}

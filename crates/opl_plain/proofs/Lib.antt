@@ -1,0 +1,4 @@
+pub mod Added
+pub mod Chains
+pub mod Items
+pub mod Readings

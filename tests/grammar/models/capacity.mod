@@ -1,0 +1,1 @@
+scheduleHorizon = 10; DiscreteResource r(2); Activity a(2); Activity b(2); Activity c(2); var int last in 0..10; minimize last subject to { a requires(1) r; b requires(1) r; c requires(1) r; a.end <= last; b.end <= last; c.end <= last; };

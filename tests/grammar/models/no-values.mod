@@ -1,0 +1,1 @@
+var int x in 2..1; solve { };

@@ -1,0 +1,1 @@
+enum L {S,E,N,D,M,O,R,Y}; var int v[L] in 0..9; solve { v[S] <> 0; v[M] <> 0; alldifferent(v); 1000*v[S] + 100*v[E] + 10*v[N] + v[D] + 1000*v[M] + 100*v[O] + 10*v[R] + v[E] = 10000*v[M] + 1000*v[O] + 100*v[N] + 10*v[E] + v[Y]; };

@@ -1,0 +1,1 @@
+scheduleHorizon = 20; UnaryResource m1; UnaryResource m2; Activity a1(3); Activity a2(2); Activity b1(2); Activity b2(4); var int last in 0..20; minimize last subject to { a1 requires m1; a2 requires m2; b1 requires m2; b2 requires m1; a1 precedes a2; b1 precedes b2; a2.end <= last; b2.end <= last; };
