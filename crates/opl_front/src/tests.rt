@@ -1,0 +1,79 @@
+//! Texts with their tree, spelt again, and texts that have none, worked out by hand.
+use crate::{depth_model, parse_model, scan, spell_model};
+use opl_tree::{ModelTree, SyntaxFault};
+use opl_token::{Kind, Seq, Token};
+use std::alloc::Global;
+use std::process::Abort;
+use std::test::Fail;
+
+/// The tokens of a text that has some.
+fn tokens_of(rt: &impl Abort, alloc: Global, text: &[u8]) -> Seq<Token> {
+    assert!(rt; text.len() < 1000);
+    match scan(alloc, text) {
+        Ok(tokens) => tokens,
+        Err(_) => panic!(rt; "no tokens"),
+    }
+}
+
+fn same_kind(kind: &Kind, other: &Kind) -> bool {
+    match other {
+        Kind::Word(word) => kind.is_word(word.as_slice()),
+        Kind::Sign(sign) => kind.is_sign(*sign),
+        Kind::Number(value) => matches!(kind, Kind::Number(found) if found == value),
+        Kind::Text(_) => false,
+    }
+}
+
+/// Models with the levels that they nest. Each rule of the grammar stands in one of them.
+const MODELS: [(&[u8], u32); 9] = [
+    (b"var int x in 1..2;\nsolve { x <> 1; };", 1),
+    (b"solve { };", 1),
+    (b"int n = ...; range R 1..n; enum E {a,b}; enum F = ...; struct S { int f; {int} g; }; {S} s = {<1,{}>}; solve { };", 3),
+    (b"var R q[i in R, 1..2] in -1..i * 2 mod 3; Activity a[R](1..3); UnaryResource u; DiscreteResource d(2); scheduleHorizon = 9; solve { };", 1),
+    (b"minimize - sum(i in R, <j,k> in s & ordered m,n in t : i in R) x[i].to * - y subject to { a requires(2) d[1]; a.b precedes c; };", 4),
+    (b"solve { forall(i in 1..3) if i = 1 then not x = 2 => y < 3 <=> (z) >= 1 else { x <= 1 \\/ y > 2 & z = 0 }; endif };", 4),
+    (b"solve { }; search { try x = 1 | y = 2; | endtry; once while not bound(x) do { tryall(v in 1..3 ordered by increasing dsize(x)) x = v }; };", 7),
+    (b"solve { }; search { select(i in R) generate(x); if card({i | i in R}) = abs(-1) then rank(u) else a precedes b endif; alldifferent(x); };", 4),
+    (b"int a[1..2] = [1,2]; int b[E] = #[p:1,q:2]#; solve { prod(i in 1..2) a[i] div 2 = min(i in 1..2) max(j in 1..2) 3; };", 4),
+];
+
+/// A tree is spelt as its text is, and nests as deep.
+#[test]
+fn spellings(rt: HostRuntime) -> Result<(), Fail> {
+    for (text, depth) in &MODELS {
+        let tokens = tokens_of(&rt, rt.alloc(), text);
+        let Ok(tree) = parse_model(rt.alloc(), tokens.as_slice(), text.len() as u32) else {
+            panic!(rt; "no tree")
+        };
+        assert_eq!(rt; depth_model(&tree), *depth);
+        let kinds = spell_model(rt.alloc(), &tree)?;
+        assert_eq!(rt; kinds.len(), tokens.len());
+        for (kind, token) in kinds.as_slice().iter().zip(tokens.as_slice()) {
+            assert!(rt; same_kind(kind, &token.kind));
+        }
+    }
+    Ok(())
+}
+
+/// Texts that are no models, with the place of the token that does not fit.
+const STOPS: [(&[u8], u32); 10] = [
+    (b"var int x in 1..2;\nsolve {", 26),
+    (b"solve { a < b < c; };", 14),
+    (b"solve { a + 1 precedes b; };", 14),
+    (b"solve { {1} = {1}; };", 12),
+    (b"int a[1 in 1..2] = 1; solve { };", 8),
+    (b"solve { forall(i & j in 1..2) 1 = 1; };", 17),
+    (b"solve { 1 + not 2 = 3; };", 12),
+    (b"solve { }; search { try 1 = 1 endtry };", 30),
+    (b"solve { 1 = {1,2 | i in 1..2}; };", 17),
+    (b"var int sum in 1..2; solve { };", 8),
+];
+
+#[test]
+fn stops(rt: HostRuntime) {
+    for (text, at) in &STOPS {
+        let tokens = tokens_of(&rt, rt.alloc(), text);
+        let outcome = parse_model(rt.alloc(), tokens.as_slice(), text.len() as u32);
+        assert!(rt; matches!(&outcome, Err(SyntaxFault::Syntax(found)) if found == at));
+    }
+}
