@@ -6,6 +6,7 @@ mod bracket;
 mod just;
 mod next;
 mod params;
+mod phrases;
 mod prim;
 mod product;
 mod truth;
@@ -14,6 +15,6 @@ mod word;
 
 pub use below::{Below, Level};
 pub use just::{into_name, into_post};
-pub use next::{Next, read_phrase};
+pub use phrases::Phrases;
 pub use wanted::{Found, Wanted};
 pub use word::{field_name, name};

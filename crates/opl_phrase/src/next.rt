@@ -329,7 +329,7 @@ impl<B: Below> Level<B> {
 
 /// What is wanted behind the token at this place, with so many levels left.
 #[tactic(auto, using(crate::proofs::Levels::no_level_refuses, crate::proofs::Levels::one_level), unfolding(crate::specs::Nests::read))]
-fn read(
+pub fn read(
     alloc: Global,
     cursor: &mut Cursor<'_>,
     levels: u32,
@@ -347,17 +347,4 @@ fn read(
         read,
     };
     Level { alloc, below }.one_of(cursor, at, wanted)
-}
-
-/// What is wanted behind the token at this place, with so many levels left.
-pub fn read_phrase(
-    alloc: Global,
-    cursor: &mut Cursor<'_>,
-    levels: u32,
-    at: u32,
-    wanted: Wanted,
-) -> Result<Found, SyntaxFault>
-    ensures { Reads (spec.read levels at wanted cursor.old) result cursor.new }
-{
-    read(alloc, cursor, levels, at, wanted)
 }
