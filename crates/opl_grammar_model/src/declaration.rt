@@ -9,13 +9,13 @@ use opl_grammar::Cursor;
 use opl_grammar::list::{Part, many};
 use opl_grammar::tables::{schedule_end, starts_decl, starts_type};
 use opl_list::Seq;
+use opl_phrase::{Below, Level, name};
+use opl_token::Sign;
 use opl_tree::{
     ActivityTree, BoundsTree, DataTree, DeclTree, DimsTree, DiscreteTree, EnumNamesTree, EnumTree,
     InitialTree, Keyword, RangeTree, ScheduleTree, StructTree, SyntaxFault, UnaryTree,
     VariableTree, VariableTypeTree,
 };
-use opl_phrase::{Below, Level, name};
-use opl_token::Sign;
 
 /// `[DIM, DIM, ..]`
 #[tactic(auto, unfolding(opl_grammar::specs::Declarations::dims_tree))]

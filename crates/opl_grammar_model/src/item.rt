@@ -9,12 +9,12 @@ use opl_grammar::Cursor;
 use opl_grammar::list::{Part, behind};
 use opl_grammar::tables::{optimum, starts_item};
 use opl_list::Boxed;
+use opl_phrase::{Below, Level, into_post, name};
+use opl_token::Sign;
 use opl_tree::{
     AddTree, BlockTree, ExprTree, InstrTree, ItemTree, ItemsTree, Keyword, ParamsTree, PostTree,
     RequiresTree, SyntaxFault,
 };
-use opl_phrase::{Below, Level, into_post, name};
-use opl_token::Sign;
 
 /// The phrases that stand behind a token that opens a level. Each is given the place of that token.
 pub trait Inner {

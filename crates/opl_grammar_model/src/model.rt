@@ -10,9 +10,9 @@ use crate::next_items::{NextItems, read_items};
 use crate::next_statements::{NextStatements, read_statements};
 use crate::statement::{Beneath, Statements};
 use opl_grammar::Cursor;
-use opl_tree::{Keyword, ModelTree, SyntaxFault};
-use opl_phrase::{Below, Level, Next, read_phrase};
+use opl_phrase::{Below, Level, Phrases};
 use opl_token::Token;
+use opl_tree::{Keyword, ModelTree, SyntaxFault};
 use std::alloc::Global;
 
 /// How many levels a model may open one in another.
@@ -57,11 +57,7 @@ fn whole(alloc: Global, cursor: &mut Cursor<'_>) -> Result<ModelTree, SyntaxFaul
     let items = Items {
         level: Level {
             alloc,
-            below: Next {
-                alloc,
-                levels,
-                read: read_phrase,
-            },
+            below: Phrases { alloc, levels },
         },
         inner: NextItems {
             alloc,
@@ -72,11 +68,7 @@ fn whole(alloc: Global, cursor: &mut Cursor<'_>) -> Result<ModelTree, SyntaxFaul
     let statements = Statements {
         level: Level {
             alloc,
-            below: Next {
-                alloc,
-                levels,
-                read: read_phrase,
-            },
+            below: Phrases { alloc, levels },
         },
         inner: NextStatements {
             alloc,

@@ -9,8 +9,8 @@ use crate::item::{Inner, Items};
 use crate::wanted_items::{FoundItems, WantedItems};
 use opl_grammar::Cursor;
 use opl_list::Boxed;
+use opl_phrase::{Below, Level, Phrases};
 use opl_tree::{ExprTree, ItemTree, ItemsTree, ParamsTree, SyntaxFault};
-use opl_phrase::{Below, Level, Next, read_phrase};
 use std::alloc::Global;
 
 /// What is read with so many levels left, by a function that reads one level.
@@ -121,11 +121,7 @@ pub fn read_items(
     let levels = levels - 1;
     let level = Level {
         alloc,
-        below: Next {
-            alloc,
-            levels,
-            read: read_phrase,
-        },
+        below: Phrases { alloc, levels },
     };
     let inner = NextItems {
         alloc,

@@ -9,8 +9,8 @@ use crate::statement::{Beneath, Statements};
 use crate::wanted_statements::{FoundStatements, WantedStatements};
 use opl_grammar::Cursor;
 use opl_list::{Boxed, Seq};
+use opl_phrase::{Below, Level, Phrases};
 use opl_tree::{ExprTree, OrderedParamsTree, StatementTree, StatementsTree, SyntaxFault};
-use opl_phrase::{Below, Level, Next, read_phrase};
 use std::alloc::Global;
 
 /// What is read with so many levels left, by a function that reads one level.
@@ -184,11 +184,7 @@ pub fn read_statements(
     let levels = levels - 1;
     let level = Level {
         alloc,
-        below: Next {
-            alloc,
-            levels,
-            read: read_phrase,
-        },
+        below: Phrases { alloc, levels },
     };
     let inner = NextStatements {
         alloc,

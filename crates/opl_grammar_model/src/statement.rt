@@ -9,12 +9,12 @@ use opl_grammar::Cursor;
 use opl_grammar::list::{Part, Phrase, after_each, behind};
 use opl_grammar::tables::{branch_op, label_op, starts_statement};
 use opl_list::{Boxed, Seq};
+use opl_phrase::{Below, Level, into_post};
+use opl_token::Sign;
 use opl_tree::{
     ExprTree, Keyword, OrderedParamsTree, PostTree, SearchBlockTree, SearchTree, StatementTree,
     StatementsTree, SyntaxFault,
 };
-use opl_phrase::{Below, Level, into_post};
-use opl_token::Sign;
 
 /// The phrases that stand behind a token that opens a level. Each is given the place of that token.
 pub trait Beneath {

@@ -1,7 +1,7 @@
 //! Texts that are read, and texts with the place of their fault, worked out by hand.
 use crate::read_model;
-use opl_tree::SyntaxFault;
 use opl_token::scan;
+use opl_tree::SyntaxFault;
 use std::alloc::Global;
 use std::process::Abort;
 use std::test::Fail;
