@@ -1,7 +1,7 @@
 //! Texts with their tree, spelt again, and texts that have none, worked out by hand.
 use crate::{depth_model, parse_model, scan, spell_model};
-use opl_tree::{ModelTree, SyntaxFault};
 use opl_token::{Kind, Seq, Token};
+use opl_tree::{ModelTree, SyntaxFault};
 use std::alloc::Global;
 use std::process::Abort;
 use std::test::Fail;
@@ -28,13 +28,34 @@ fn same_kind(kind: &Kind, other: &Kind) -> bool {
 const MODELS: [(&[u8], u32); 9] = [
     (b"var int x in 1..2;\nsolve { x <> 1; };", 1),
     (b"solve { };", 1),
-    (b"int n = ...; range R 1..n; enum E {a,b}; enum F = ...; struct S { int f; {int} g; }; {S} s = {<1,{}>}; solve { };", 3),
-    (b"var R q[i in R, 1..2] in -1..i * 2 mod 3; Activity a[R](1..3); UnaryResource u; DiscreteResource d(2); scheduleHorizon = 9; solve { };", 1),
-    (b"minimize - sum(i in R, <j,k> in s & ordered m,n in t : i in R) x[i].to * - y subject to { a requires(2) d[1]; a.b precedes c; };", 4),
-    (b"solve { forall(i in 1..3) if i = 1 then not x = 2 => y < 3 <=> (z) >= 1 else { x <= 1 \\/ y > 2 & z = 0 }; endif };", 4),
-    (b"solve { }; search { try x = 1 | y = 2; | endtry; once while not bound(x) do { tryall(v in 1..3 ordered by increasing dsize(x)) x = v }; };", 7),
-    (b"solve { }; search { select(i in R) generate(x); if card({i | i in R}) = abs(-1) then rank(u) else a precedes b endif; alldifferent(x); };", 4),
-    (b"int a[1..2] = [1,2]; int b[E] = #[p:1,q:2]#; solve { prod(i in 1..2) a[i] div 2 = min(i in 1..2) max(j in 1..2) 3; };", 4),
+    (
+        b"int n = ...; range R 1..n; enum E {a,b}; enum F = ...; struct S { int f; {int} g; }; {S} s = {<1,{}>}; solve { };",
+        3,
+    ),
+    (
+        b"var R q[i in R, 1..2] in -1..i * 2 mod 3; Activity a[R](1..3); UnaryResource u; DiscreteResource d(2); scheduleHorizon = 9; solve { };",
+        1,
+    ),
+    (
+        b"minimize - sum(i in R, <j,k> in s & ordered m,n in t : i in R) x[i].to * - y subject to { a requires(2) d[1]; a.b precedes c; };",
+        4,
+    ),
+    (
+        b"solve { forall(i in 1..3) if i = 1 then not x = 2 => y < 3 <=> (z) >= 1 else { x <= 1 \\/ y > 2 & z = 0 }; endif };",
+        4,
+    ),
+    (
+        b"solve { }; search { try x = 1 | y = 2; | endtry; once while not bound(x) do { tryall(v in 1..3 ordered by increasing dsize(x)) x = v }; };",
+        7,
+    ),
+    (
+        b"solve { }; search { select(i in R) generate(x); if card({i | i in R}) = abs(-1) then rank(u) else a precedes b endif; alldifferent(x); };",
+        4,
+    ),
+    (
+        b"int a[1..2] = [1,2]; int b[E] = #[p:1,q:2]#; solve { prod(i in 1..2) a[i] div 2 = min(i in 1..2) max(j in 1..2) 3; };",
+        4,
+    ),
 ];
 
 /// A tree is spelt as its text is, and nests as deep.

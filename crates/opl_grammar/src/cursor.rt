@@ -7,8 +7,8 @@ ghost use Rattle.opl_grammar.specs.Model as rules;
 
 use crate::look::Look;
 use opl_list::Seq;
-use opl_tree::{Keyword, Name, SyntaxFault, keyword_of};
 use opl_token::{Kind, Sign, Token};
+use opl_tree::{Keyword, Name, SyntaxFault, keyword_of};
 use std::alloc::Global;
 use std::marker::Model;
 

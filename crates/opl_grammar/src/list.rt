@@ -6,14 +6,16 @@ ghost use Rattle.opl_token.specs.declared.token.Kind.{Kind};
 
 use crate::cursor::Cursor;
 use opl_list::Seq;
-use opl_tree::SyntaxFault;
 use opl_token::Sign;
+use opl_tree::SyntaxFault;
 use std::alloc::Global;
 
 /// The parts of a list.
 pub trait Part<T> {
     ghost begins: { Self → Option Kind → Bool };
+
     ghost part: { Self → Parser T };
+
     ghost is_ready: { Self → Type 0 };
 
     /// Whether a part begins with the next token.
@@ -29,6 +31,7 @@ pub trait Part<T> {
 /// A rule of the grammar.
 pub trait Phrase<T> {
     ghost phrase: { Self → Parser T };
+
     ghost is_ready: { Self → Type 0 };
 
     /// What the rule reads next.
@@ -46,7 +49,9 @@ struct After<'p, P> {
 
 impl<'p, T, P: Phrase<T>> Part<T> for After<'p, P> {
     ghost begins = { λ p. spec.is_sign p.sign };
+
     ghost part = { λ p. spec.sign p.sign >> P.phrase p.phrase.now };
+
     ghost is_ready = { λ p. P.is_ready p.phrase.now };
 
     fn starts(&self, cursor: &Cursor<'_>) -> bool {

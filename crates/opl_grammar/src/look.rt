@@ -1,6 +1,6 @@
 //! What the grammar sees in a token.
-use opl_tree::Keyword;
 use opl_token::Sign;
+use opl_tree::Keyword;
 
 /// What the grammar sees in the next token. The text of a name and the value of a number decide nothing.
 #[derive(Clone, Copy)]

@@ -5,11 +5,11 @@ ghost use Rattle.opl_grammar.specs.Tables as spec;
 ghost use Rattle.opl_grammar.specs.Tables.{through, begins};
 
 use crate::look::Look;
+use opl_token::Sign;
 use opl_tree::{
     AddOp, AggregateOp, BranchOp, CallOp, GroupSeparator, Keyword, LabelOp, MulOp, Optimum,
     QuestionOp, Relation, ScheduleEnd,
 };
-use opl_token::Sign;
 
 /// The relation that is seen.
 pub fn relation(look: Look) -> Option<Relation>

@@ -2,8 +2,8 @@
 ghost use Rattle.opl_parse.specs.Answers.{ParseAnswers};
 
 use opl_grammar_model::read_model;
-use opl_tree::{ModelTree, SyntaxFault};
 use opl_token::Token;
+use opl_tree::{ModelTree, SyntaxFault};
 use std::alloc::Global;
 
 /// The tree of the tokens of a text with `end` bytes. `Syntax` holds the place of the token that follows the longest

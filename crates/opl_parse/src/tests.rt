@@ -1,7 +1,7 @@
 //! Texts with the place of their tree or of their fault, worked out by hand.
 use crate::{laws, parse_model};
-use opl_tree::SyntaxFault;
 use opl_token::scan;
+use opl_tree::SyntaxFault;
 use std::alloc::Global;
 use std::process::Abort;
 use std::test::Fail;

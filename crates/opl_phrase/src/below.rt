@@ -13,6 +13,7 @@ use std::alloc::Global;
 /// The phrases that stand behind a token that opens a level. Each is given the place of that token.
 pub trait Below {
     ghost rules: { Self → Rules };
+
     ghost is_ready: { Self → Type 0 };
 
     /// Behind `(`.
@@ -41,7 +42,11 @@ pub trait Below {
         ensures { Reads ((rules self.now).ordered at cursor.old) result cursor.new };
 
     /// Behind `(`.
-    fn ends(&self, cursor: &mut Cursor<'_>, at: u32) -> Result<(AddTree, Option<AddTree>), SyntaxFault>
+    fn ends(
+        &self,
+        cursor: &mut Cursor<'_>,
+        at: u32,
+    ) -> Result<(AddTree, Option<AddTree>), SyntaxFault>
         requires { is_ready self.now }
         ensures { Reads ((rules self.now).ends at cursor.old) result cursor.new };
 
@@ -61,7 +66,11 @@ pub trait Below {
         ensures { Reads ((rules self.now).operand at cursor.old) result cursor.new };
 
     /// Behind the word of an aggregate.
-    fn aggregate(&self, cursor: &mut Cursor<'_>, at: u32) -> Result<(Boxed<ParamsTree>, Boxed<MulTree>), SyntaxFault>
+    fn aggregate(
+        &self,
+        cursor: &mut Cursor<'_>,
+        at: u32,
+    ) -> Result<(Boxed<ParamsTree>, Boxed<MulTree>), SyntaxFault>
         requires { is_ready self.now }
         ensures { Reads ((rules self.now).aggregate at cursor.old) result cursor.new };
 
@@ -86,7 +95,11 @@ pub trait Below {
         ensures { Reads ((rules self.now).braced at cursor.old) result cursor.new };
 
     /// Behind the `<` of a pattern and the `{` of an enumeration.
-    fn names(&self, cursor: &mut Cursor<'_>, at: u32) -> Result<(NameTree, Seq<NameTree>), SyntaxFault>
+    fn names(
+        &self,
+        cursor: &mut Cursor<'_>,
+        at: u32,
+    ) -> Result<(NameTree, Seq<NameTree>), SyntaxFault>
         requires { is_ready self.now }
         ensures { Reads ((rules self.now).names at cursor.old) result cursor.new };
 
@@ -96,7 +109,11 @@ pub trait Below {
         ensures { Reads ((rules self.now).type_tree at cursor.old) result cursor.new };
 
     /// Behind the `{` of a structure.
-    fn fields(&self, cursor: &mut Cursor<'_>, at: u32) -> Result<(FieldTree, Seq<FieldTree>), SyntaxFault>
+    fn fields(
+        &self,
+        cursor: &mut Cursor<'_>,
+        at: u32,
+    ) -> Result<(FieldTree, Seq<FieldTree>), SyntaxFault>
         requires { is_ready self.now }
         ensures { Reads ((rules self.now).fields at cursor.old) result cursor.new };
 

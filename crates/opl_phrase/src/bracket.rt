@@ -11,11 +11,11 @@ use opl_grammar::list::{Part, Phrase, after_each, many};
 use opl_grammar::tables::{starts_add, starts_type};
 use opl_grammar::{Braced, Cursor};
 use opl_list::{Boxed, Seq};
+use opl_token::Sign;
 use opl_tree::{
     AddTree, DimTree, FieldTree, KeyedTree, Keyword, MulTree, ParamsTree, SetTree, SyntaxFault,
     TypeTree,
 };
-use opl_token::Sign;
 use std::alloc::{AllocError, Global};
 
 /// A list of one part, then the others.
@@ -31,7 +31,10 @@ fn with_first<T: Drop>(alloc: Global, first: T, rest: Seq<T>) -> Result<Seq<T>, 
 impl<B: Below> Level<B> {
     /// `(PARAMS) MUL`
     #[tactic(auto, unfolding(opl_grammar::specs::Rules::aggregated))]
-    pub fn aggregated(&self, cursor: &mut Cursor<'_>) -> Result<(Boxed<ParamsTree>, Boxed<MulTree>), SyntaxFault>
+    pub fn aggregated(
+        &self,
+        cursor: &mut Cursor<'_>,
+    ) -> Result<(Boxed<ParamsTree>, Boxed<MulTree>), SyntaxFault>
         requires { B.is_ready self.now.below }
         ensures { Reads (rules.aggregated (B.rules self.now.below) cursor.old) result cursor.new }
     {
@@ -55,7 +58,11 @@ impl<B: Below> Level<B> {
 
     /// `| PARAMS`
     #[tactic(auto, unfolding(opl_grammar::specs::Rules::described))]
-    fn described(&self, cursor: &mut Cursor<'_>, first: Boxed<AddTree>) -> Result<Braced, SyntaxFault>
+    fn described(
+        &self,
+        cursor: &mut Cursor<'_>,
+        first: Boxed<AddTree>,
+    ) -> Result<Braced, SyntaxFault>
         requires { B.is_ready self.now.below }
         ensures { Reads (rules.described (B.rules self.now.below) first cursor.old) result cursor.new }
     {
@@ -206,7 +213,10 @@ impl<B: Below> Level<B> {
 
     /// `FIELD FIELD ..`
     #[tactic(auto, unfolding(opl_grammar::specs::Rules::fields))]
-    pub fn fields(&self, cursor: &mut Cursor<'_>) -> Result<(FieldTree, Seq<FieldTree>), SyntaxFault>
+    pub fn fields(
+        &self,
+        cursor: &mut Cursor<'_>,
+    ) -> Result<(FieldTree, Seq<FieldTree>), SyntaxFault>
         requires { B.is_ready self.now.below }
         ensures { Reads (rules.fields (B.rules self.now.below) cursor.old) result cursor.new }
     {
@@ -265,6 +275,7 @@ impl<B: Below> Level<B> {
 
 impl<B: Below> Phrase<KeyedTree> for Level<B> {
     ghost phrase = { λ l. rules.keyed_part (B.rules l.below) };
+
     ghost is_ready = { λ l. B.is_ready l.below };
 
     fn phrase(&self, cursor: &mut Cursor<'_>) -> Result<KeyedTree, SyntaxFault> {
@@ -274,6 +285,7 @@ impl<B: Below> Phrase<KeyedTree> for Level<B> {
 
 impl<B: Below> Phrase<DimTree> for Level<B> {
     ghost phrase = { λ l. rules.dim (B.rules l.below) };
+
     ghost is_ready = { λ l. B.is_ready l.below };
 
     fn phrase(&self, cursor: &mut Cursor<'_>) -> Result<DimTree, SyntaxFault> {
@@ -283,7 +295,9 @@ impl<B: Below> Phrase<DimTree> for Level<B> {
 
 impl<B: Below> Part<FieldTree> for Level<B> {
     ghost begins = { λ _. tables.starts_type };
+
     ghost part = { λ l. rules.field (B.rules l.below) };
+
     ghost is_ready = { λ l. B.is_ready l.below };
 
     fn starts(&self, cursor: &Cursor<'_>) -> bool {

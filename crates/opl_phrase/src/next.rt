@@ -55,9 +55,9 @@ impl<F: Fn(Global, &mut Cursor<'_>, u32, u32, Wanted) -> Result<Found, SyntaxFau
 }
 
 impl<F: Fn(Global, &mut Cursor<'_>, u32, u32, Wanted) -> Result<Found, SyntaxFault>> Below
-    for Next<F>
-{
+    for Next<F> {
     ghost rules = { λ n. rules.rules n.levels };
+
     ghost is_ready = { λ n. Nests n.levels (F.pre n.read) (F.post n.read) };
 
     #[tactic(auto, unfolding(crate::specs::Nests::read))]
@@ -101,7 +101,11 @@ impl<F: Fn(Global, &mut Cursor<'_>, u32, u32, Wanted) -> Result<Found, SyntaxFau
     }
 
     #[tactic(auto, unfolding(crate::specs::Nests::read))]
-    fn ends(&self, cursor: &mut Cursor<'_>, at: u32) -> Result<(AddTree, Option<AddTree>), SyntaxFault> {
+    fn ends(
+        &self,
+        cursor: &mut Cursor<'_>,
+        at: u32,
+    ) -> Result<(AddTree, Option<AddTree>), SyntaxFault> {
         match self.ask(cursor, at, Wanted::Ends)? {
             Found::Ends(low, high) => Ok((low.into_inner(), unboxed(high))),
             _ => unreachable!(),
@@ -133,7 +137,11 @@ impl<F: Fn(Global, &mut Cursor<'_>, u32, u32, Wanted) -> Result<Found, SyntaxFau
     }
 
     #[tactic(auto, unfolding(crate::specs::Nests::read))]
-    fn aggregate(&self, cursor: &mut Cursor<'_>, at: u32) -> Result<(Boxed<ParamsTree>, Boxed<MulTree>), SyntaxFault> {
+    fn aggregate(
+        &self,
+        cursor: &mut Cursor<'_>,
+        at: u32,
+    ) -> Result<(Boxed<ParamsTree>, Boxed<MulTree>), SyntaxFault> {
         match self.ask(cursor, at, Wanted::Aggregate)? {
             Found::Aggregate(first, second) => Ok((first, second)),
             _ => unreachable!(),
@@ -141,7 +149,11 @@ impl<F: Fn(Global, &mut Cursor<'_>, u32, u32, Wanted) -> Result<Found, SyntaxFau
     }
 
     #[tactic(auto, unfolding(crate::specs::Nests::read))]
-    fn adds(&self, cursor: &mut Cursor<'_>, at: u32) -> Result<(AddTree, Seq<AddTree>), SyntaxFault> {
+    fn adds(
+        &self,
+        cursor: &mut Cursor<'_>,
+        at: u32,
+    ) -> Result<(AddTree, Seq<AddTree>), SyntaxFault> {
         match self.ask(cursor, at, Wanted::Adds)? {
             Found::Adds(first, second) => Ok((first, second)),
             _ => unreachable!(),
@@ -173,7 +185,11 @@ impl<F: Fn(Global, &mut Cursor<'_>, u32, u32, Wanted) -> Result<Found, SyntaxFau
     }
 
     #[tactic(auto, unfolding(crate::specs::Nests::read))]
-    fn names(&self, cursor: &mut Cursor<'_>, at: u32) -> Result<(NameTree, Seq<NameTree>), SyntaxFault> {
+    fn names(
+        &self,
+        cursor: &mut Cursor<'_>,
+        at: u32,
+    ) -> Result<(NameTree, Seq<NameTree>), SyntaxFault> {
         match self.ask(cursor, at, Wanted::Names)? {
             Found::Names(first, second) => Ok((first, second)),
             _ => unreachable!(),
@@ -189,7 +205,11 @@ impl<F: Fn(Global, &mut Cursor<'_>, u32, u32, Wanted) -> Result<Found, SyntaxFau
     }
 
     #[tactic(auto, unfolding(crate::specs::Nests::read))]
-    fn fields(&self, cursor: &mut Cursor<'_>, at: u32) -> Result<(FieldTree, Seq<FieldTree>), SyntaxFault> {
+    fn fields(
+        &self,
+        cursor: &mut Cursor<'_>,
+        at: u32,
+    ) -> Result<(FieldTree, Seq<FieldTree>), SyntaxFault> {
         match self.ask(cursor, at, Wanted::Fields)? {
             Found::Fields(first, second) => Ok((first, second)),
             _ => unreachable!(),
@@ -197,7 +217,11 @@ impl<F: Fn(Global, &mut Cursor<'_>, u32, u32, Wanted) -> Result<Found, SyntaxFau
     }
 
     #[tactic(auto, unfolding(crate::specs::Nests::read))]
-    fn dims(&self, cursor: &mut Cursor<'_>, at: u32) -> Result<(DimTree, Seq<DimTree>), SyntaxFault> {
+    fn dims(
+        &self,
+        cursor: &mut Cursor<'_>,
+        at: u32,
+    ) -> Result<(DimTree, Seq<DimTree>), SyntaxFault> {
         match self.ask(cursor, at, Wanted::Dims)? {
             Found::Dims(first, rest) => Ok((first.into_inner(), rest)),
             _ => unreachable!(),
@@ -208,7 +232,12 @@ impl<F: Fn(Global, &mut Cursor<'_>, u32, u32, Wanted) -> Result<Found, SyntaxFau
 impl<B: Below> Level<B> {
     /// What stands behind `(`. Nothing else is asked of it.
     #[tactic(auto, unfolding(opl_grammar::specs::Rules::level))]
-    fn parenthesized(&self, cursor: &mut Cursor<'_>, at: u32, wanted: Wanted) -> Result<Found, SyntaxFault>
+    fn parenthesized(
+        &self,
+        cursor: &mut Cursor<'_>,
+        at: u32,
+        wanted: Wanted,
+    ) -> Result<Found, SyntaxFault>
         requires ready { B.is_ready self.now.below }
         requires asked { spec.asks_parenthesized wanted ≡ true }
         ensures { Reads (spec.one_of (rules.level (B.rules self.now.below)) at wanted cursor.old) result cursor.new }
@@ -236,7 +265,12 @@ impl<B: Below> Level<B> {
 
     /// What stands behind an operator or the word of an aggregate. Nothing else is asked of it.
     #[tactic(auto, unfolding(opl_grammar::specs::Rules::level))]
-    fn operated(&self, cursor: &mut Cursor<'_>, at: u32, wanted: Wanted) -> Result<Found, SyntaxFault>
+    fn operated(
+        &self,
+        cursor: &mut Cursor<'_>,
+        at: u32,
+        wanted: Wanted,
+    ) -> Result<Found, SyntaxFault>
         requires ready { B.is_ready self.now.below }
         requires asked { spec.asks_operated wanted ≡ true }
         ensures { Reads (spec.one_of (rules.level (B.rules self.now.below)) at wanted cursor.old) result cursor.new }
@@ -255,7 +289,12 @@ impl<B: Below> Level<B> {
 
     /// A list of expressions. Nothing else is asked of it.
     #[tactic(auto, unfolding(opl_grammar::specs::Rules::level))]
-    fn listed_in(&self, cursor: &mut Cursor<'_>, at: u32, wanted: Wanted) -> Result<Found, SyntaxFault>
+    fn listed_in(
+        &self,
+        cursor: &mut Cursor<'_>,
+        at: u32,
+        wanted: Wanted,
+    ) -> Result<Found, SyntaxFault>
         requires ready { B.is_ready self.now.below }
         requires asked { spec.asks_listed_in wanted ≡ true }
         ensures { Reads (spec.one_of (rules.level (B.rules self.now.below)) at wanted cursor.old) result cursor.new }
@@ -274,7 +313,12 @@ impl<B: Below> Level<B> {
 
     /// What stands in the brackets of declarations. Nothing else is asked of it.
     #[tactic(auto, unfolding(opl_grammar::specs::Rules::level))]
-    fn declared(&self, cursor: &mut Cursor<'_>, at: u32, wanted: Wanted) -> Result<Found, SyntaxFault>
+    fn declared(
+        &self,
+        cursor: &mut Cursor<'_>,
+        at: u32,
+        wanted: Wanted,
+    ) -> Result<Found, SyntaxFault>
         requires ready { B.is_ready self.now.below }
         requires asked { spec.asks_declared wanted ≡ true }
         ensures { Reads (spec.one_of (rules.level (B.rules self.now.below)) at wanted cursor.old) result cursor.new }
@@ -314,14 +358,12 @@ impl<B: Below> Level<B> {
             | Wanted::Params
             | Wanted::Ordered
             | Wanted::Ends => self.parenthesized(cursor, at, wanted),
-            Wanted::Imp
-            | Wanted::Neg
-            | Wanted::Operand
-            | Wanted::Aggregate => self.operated(cursor, at, wanted),
-            Wanted::Adds
-            | Wanted::Listed
-            | Wanted::Keyed
-            | Wanted::Braced => self.listed_in(cursor, at, wanted),
+            Wanted::Imp | Wanted::Neg | Wanted::Operand | Wanted::Aggregate => self.operated(
+                cursor, at, wanted,
+            ),
+            Wanted::Adds | Wanted::Listed | Wanted::Keyed | Wanted::Braced => self.listed_in(
+                cursor, at, wanted,
+            ),
             _ => self.declared(cursor, at, wanted),
         }
     }

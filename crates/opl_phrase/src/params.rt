@@ -6,15 +6,15 @@ ghost use Rattle.opl_grammar.specs.Tables as tables;
 
 use crate::below::{Below, Level};
 use crate::word::name;
+use opl_grammar::Cursor;
 use opl_grammar::list::{Part, Phrase, after_each, many};
 use opl_grammar::tables::{direction, separator};
-use opl_grammar::Cursor;
 use opl_list::Boxed;
-use opl_tree::{
-    ExprTree, GroupStep, GroupTree, Keyword, OrderTree, OrderedParamsTree, ParamsTree,
-    PatternTree, SyntaxFault,
-};
 use opl_token::Sign;
+use opl_tree::{
+    ExprTree, GroupStep, GroupTree, Keyword, OrderTree, OrderedParamsTree, ParamsTree, PatternTree,
+    SyntaxFault,
+};
 
 impl<B: Below> Level<B> {
     /// `<NAME, NAME, ..>`
@@ -157,6 +157,7 @@ impl<B: Below> Level<B> {
 
 impl<B: Below> Phrase<PatternTree> for Level<B> {
     ghost phrase = { λ l. rules.pattern (B.rules l.below) };
+
     ghost is_ready = { λ l. B.is_ready l.below };
 
     fn phrase(&self, cursor: &mut Cursor<'_>) -> Result<PatternTree, SyntaxFault> {
@@ -166,7 +167,9 @@ impl<B: Below> Phrase<PatternTree> for Level<B> {
 
 impl<B: Below> Part<GroupStep> for Level<B> {
     ghost begins = { λ _. tables.is_separator };
+
     ghost part = { λ l. rules.group_step (B.rules l.below) };
+
     ghost is_ready = { λ l. B.is_ready l.below };
 
     fn starts(&self, cursor: &Cursor<'_>) -> bool {

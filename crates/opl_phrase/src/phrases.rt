@@ -69,7 +69,11 @@ impl Below for Phrases {
         .ordered(cursor, at)
     }
 
-    fn ends(&self, cursor: &mut Cursor<'_>, at: u32) -> Result<(AddTree, Option<AddTree>), SyntaxFault> {
+    fn ends(
+        &self,
+        cursor: &mut Cursor<'_>,
+        at: u32,
+    ) -> Result<(AddTree, Option<AddTree>), SyntaxFault> {
         Next {
             alloc: self.alloc,
             levels: self.levels,
@@ -105,7 +109,11 @@ impl Below for Phrases {
         .operand(cursor, at)
     }
 
-    fn aggregate(&self, cursor: &mut Cursor<'_>, at: u32) -> Result<(Boxed<ParamsTree>, Boxed<MulTree>), SyntaxFault> {
+    fn aggregate(
+        &self,
+        cursor: &mut Cursor<'_>,
+        at: u32,
+    ) -> Result<(Boxed<ParamsTree>, Boxed<MulTree>), SyntaxFault> {
         Next {
             alloc: self.alloc,
             levels: self.levels,
@@ -114,7 +122,11 @@ impl Below for Phrases {
         .aggregate(cursor, at)
     }
 
-    fn adds(&self, cursor: &mut Cursor<'_>, at: u32) -> Result<(AddTree, Seq<AddTree>), SyntaxFault> {
+    fn adds(
+        &self,
+        cursor: &mut Cursor<'_>,
+        at: u32,
+    ) -> Result<(AddTree, Seq<AddTree>), SyntaxFault> {
         Next {
             alloc: self.alloc,
             levels: self.levels,
@@ -150,7 +162,11 @@ impl Below for Phrases {
         .braced(cursor, at)
     }
 
-    fn names(&self, cursor: &mut Cursor<'_>, at: u32) -> Result<(NameTree, Seq<NameTree>), SyntaxFault> {
+    fn names(
+        &self,
+        cursor: &mut Cursor<'_>,
+        at: u32,
+    ) -> Result<(NameTree, Seq<NameTree>), SyntaxFault> {
         Next {
             alloc: self.alloc,
             levels: self.levels,
@@ -168,7 +184,11 @@ impl Below for Phrases {
         .type_tree(cursor, at)
     }
 
-    fn fields(&self, cursor: &mut Cursor<'_>, at: u32) -> Result<(FieldTree, Seq<FieldTree>), SyntaxFault> {
+    fn fields(
+        &self,
+        cursor: &mut Cursor<'_>,
+        at: u32,
+    ) -> Result<(FieldTree, Seq<FieldTree>), SyntaxFault> {
         Next {
             alloc: self.alloc,
             levels: self.levels,
@@ -177,7 +197,11 @@ impl Below for Phrases {
         .fields(cursor, at)
     }
 
-    fn dims(&self, cursor: &mut Cursor<'_>, at: u32) -> Result<(DimTree, Seq<DimTree>), SyntaxFault> {
+    fn dims(
+        &self,
+        cursor: &mut Cursor<'_>,
+        at: u32,
+    ) -> Result<(DimTree, Seq<DimTree>), SyntaxFault> {
         Next {
             alloc: self.alloc,
             levels: self.levels,

@@ -11,8 +11,8 @@ use opl_grammar::list::{Part, many};
 use opl_grammar::tables::{call_op, question_op};
 use opl_grammar::{Braced, Cursor};
 use opl_list::Boxed;
-use opl_tree::{Keyword, PostTree, PrimTree, SubscriptsTree, SuffixTree, SyntaxFault};
 use opl_token::Sign;
+use opl_tree::{Keyword, PostTree, PrimTree, SubscriptsTree, SuffixTree, SyntaxFault};
 
 /// The set with these braces at this place.
 fn set_prim(at: u32, inside: Braced) -> PrimTree
@@ -260,7 +260,9 @@ impl<B: Below> Level<B> {
 
 impl<B: Below> Part<SuffixTree> for Level<B> {
     ghost begins = { λ _. tables.starts_suffix };
+
     ghost part = { λ l. rules.suffix (B.rules l.below) };
+
     ghost is_ready = { λ l. B.is_ready l.below };
 
     fn starts(&self, cursor: &Cursor<'_>) -> bool {

@@ -9,10 +9,10 @@ use opl_grammar::list::{Part, Phrase, after_each, many};
 use opl_grammar::tables::{add_op, aggregate_op, mul_op};
 use opl_grammar::{Cursor, Operand};
 use opl_list::{Boxed, Seq};
+use opl_token::Sign;
 use opl_tree::{
     AddStep, AddTree, LastStep, MulStep, MulTree, OpenTree, SetTree, SignTree, SyntaxFault,
 };
-use opl_token::Sign;
 use std::alloc::{AllocError, Global};
 
 /// A sign before an operand, whichever it is.
@@ -73,7 +73,10 @@ impl<B: Below> Level<B> {
 
     /// The steps of a product.
     #[tactic(auto, unfolding(opl_grammar::specs::Rules::steps, opl_grammar::specs::Rules::steps_from))]
-    fn steps(&self, cursor: &mut Cursor<'_>) -> Result<(Seq<MulStep>, Option<LastStep>), SyntaxFault>
+    fn steps(
+        &self,
+        cursor: &mut Cursor<'_>,
+    ) -> Result<(Seq<MulStep>, Option<LastStep>), SyntaxFault>
         requires { B.is_ready self.now.below }
         ensures { Reads (rules.steps (B.rules self.now.below) cursor.old) result cursor.new }
     {
@@ -170,7 +173,9 @@ impl<B: Below> Level<B> {
 
 impl<B: Below> Part<AddStep> for Level<B> {
     ghost begins = { λ _. tables.is_add_op };
+
     ghost part = { λ l. rules.add_step (B.rules l.below) };
+
     ghost is_ready = { λ l. B.is_ready l.below };
 
     fn starts(&self, cursor: &Cursor<'_>) -> bool {
@@ -184,6 +189,7 @@ impl<B: Below> Part<AddStep> for Level<B> {
 
 impl<B: Below> Phrase<AddTree> for Level<B> {
     ghost phrase = { λ l. rules.add (B.rules l.below) };
+
     ghost is_ready = { λ l. B.is_ready l.below };
 
     fn phrase(&self, cursor: &mut Cursor<'_>) -> Result<AddTree, SyntaxFault> {

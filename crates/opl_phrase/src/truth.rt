@@ -4,19 +4,24 @@ ghost use Rattle.opl_grammar.specs.Input.{Reads};
 ghost use Rattle.opl_grammar.specs.Rules as rules;
 
 use crate::below::{Below, Level};
+use opl_grammar::Cursor;
 use opl_grammar::list::{Phrase, after_each};
 use opl_grammar::tables::relation;
-use opl_grammar::Cursor;
 use opl_list::Boxed;
+use opl_token::Sign;
 use opl_tree::{
     AddTree, AndTree, CompareTree, ExprTree, ImpTree, Keyword, NegTree, OrTree, SyntaxFault,
 };
-use opl_token::Sign;
 
 impl<B: Below> Level<B> {
     /// `RELATION ADD`
     #[tactic(auto, unfolding(opl_grammar::specs::Rules::related))]
-    fn related(&self, cursor: &mut Cursor<'_>, at: u32, left: Boxed<AddTree>) -> Result<CompareTree, SyntaxFault>
+    fn related(
+        &self,
+        cursor: &mut Cursor<'_>,
+        at: u32,
+        left: Boxed<AddTree>,
+    ) -> Result<CompareTree, SyntaxFault>
         requires { B.is_ready self.now.below }
         ensures { Reads (rules.related (B.rules self.now.below) at left cursor.old) result cursor.new }
     {
@@ -27,7 +32,12 @@ impl<B: Below> Level<B> {
 
     /// `in SET`
     #[tactic(auto, unfolding(opl_grammar::specs::Rules::member))]
-    fn member(&self, cursor: &mut Cursor<'_>, at: u32, left: Boxed<AddTree>) -> Result<CompareTree, SyntaxFault>
+    fn member(
+        &self,
+        cursor: &mut Cursor<'_>,
+        at: u32,
+        left: Boxed<AddTree>,
+    ) -> Result<CompareTree, SyntaxFault>
         requires { B.is_ready self.now.below }
         ensures { Reads (rules.member (B.rules self.now.below) at left cursor.old) result cursor.new }
     {
@@ -38,7 +48,12 @@ impl<B: Below> Level<B> {
 
     /// What a comparison that begins with this sum at this place is.
     #[tactic(auto, unfolding(opl_grammar::specs::Rules::compare_of))]
-    fn compare_of(&self, cursor: &mut Cursor<'_>, at: u32, left: Boxed<AddTree>) -> Result<CompareTree, SyntaxFault>
+    fn compare_of(
+        &self,
+        cursor: &mut Cursor<'_>,
+        at: u32,
+        left: Boxed<AddTree>,
+    ) -> Result<CompareTree, SyntaxFault>
         requires { B.is_ready self.now.below }
         ensures { Reads (rules.compare_of (B.rules self.now.below) at left cursor.old) result cursor.new }
     {
@@ -157,6 +172,7 @@ impl<B: Below> Level<B> {
 
 impl<B: Below> Phrase<NegTree> for Level<B> {
     ghost phrase = { λ l. rules.neg (B.rules l.below) };
+
     ghost is_ready = { λ l. B.is_ready l.below };
 
     fn phrase(&self, cursor: &mut Cursor<'_>) -> Result<NegTree, SyntaxFault> {
@@ -166,6 +182,7 @@ impl<B: Below> Phrase<NegTree> for Level<B> {
 
 impl<B: Below> Phrase<AndTree> for Level<B> {
     ghost phrase = { λ l. rules.and (B.rules l.below) };
+
     ghost is_ready = { λ l. B.is_ready l.below };
 
     fn phrase(&self, cursor: &mut Cursor<'_>) -> Result<AndTree, SyntaxFault> {
@@ -175,6 +192,7 @@ impl<B: Below> Phrase<AndTree> for Level<B> {
 
 impl<B: Below> Phrase<ImpTree> for Level<B> {
     ghost phrase = { λ l. rules.imp (B.rules l.below) };
+
     ghost is_ready = { λ l. B.is_ready l.below };
 
     fn phrase(&self, cursor: &mut Cursor<'_>) -> Result<ImpTree, SyntaxFault> {

@@ -7,8 +7,8 @@ ghost use Rattle.opl_grammar.specs.Rules as rules;
 use opl_grammar::Cursor;
 use opl_grammar::list::{Phrase, after_each};
 use opl_list::Seq;
-use opl_tree::{NameTree, SyntaxFault};
 use opl_token::Sign;
+use opl_tree::{NameTree, SyntaxFault};
 use std::alloc::Global;
 
 /// `NAME`
@@ -39,6 +39,7 @@ struct NameRule {
 
 impl Phrase<NameTree> for NameRule {
     ghost phrase = { λ _. rules.name };
+
     ghost is_ready = { λ _. Unit {0} };
 
     fn phrase(&self, cursor: &mut Cursor<'_>) -> Result<NameTree, SyntaxFault> {

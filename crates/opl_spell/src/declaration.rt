@@ -7,12 +7,12 @@ ghost use Rattle.opl_tree.specs.Spelling.{kinds_of};
 use crate::expression::{spell_add, spell_more_names, spell_name, spell_set};
 use crate::token::{push_sign, push_word};
 use opl_list::Seq;
+use opl_token::{Kind, Sign};
 use opl_tree::{
     ActivityTree, AddTree, BoundsTree, DataTree, DeclTree, DimTree, DimsTree, DiscreteTree,
     EnumNamesTree, EnumTree, FieldTree, InitialTree, Keyword, RangeTree, ScheduleEnd, ScheduleTree,
     StructTree, TypeTree, UnaryTree, VariableTree, VariableTypeTree,
 };
-use opl_token::{Kind, Sign};
 use std::alloc::{AllocError, Global};
 
 /// The word of an end of the schedule.

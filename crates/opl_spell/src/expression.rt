@@ -5,13 +5,13 @@ ghost use Rattle.opl_tree.specs.Spelling.{kind_of, kinds_of};
 
 use crate::token::{push_between, push_number, push_sign, push_text, push_word};
 use opl_list::Seq;
+use opl_token::{Kind, Sign};
 use opl_tree::{
     AddOp, AddStep, AddTree, AggregateOp, AndTree, CallOp, CompareTree, ExprTree, GroupSeparator,
     GroupStep, GroupTree, ImpTree, KeyedTree, Keyword, LastStep, MulOp, MulStep, MulTree, NameTree,
     NegTree, OpenTree, OrTree, ParamsTree, PatternTree, PostTree, PrimTree, QuestionOp, Relation,
     SetTree, SignTree, SubscriptsTree, SuffixTree,
 };
-use opl_token::{Kind, Sign};
 use std::alloc::{AllocError, Global};
 
 /// The sign of a comparison.

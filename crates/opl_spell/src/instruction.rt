@@ -8,11 +8,11 @@ use crate::expression::{
 };
 use crate::token::{push_sign, push_word};
 use opl_list::Seq;
+use opl_token::{Kind, Sign};
 use opl_tree::{
     BlockTree, ExprTree, InstrTree, ItemTree, ItemsTree, Keyword, Optimum, ParamsTree, PostTree,
     RequiresTree,
 };
-use opl_token::{Kind, Sign};
 use std::alloc::{AllocError, Global};
 
 /// The word of an objective.

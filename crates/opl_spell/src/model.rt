@@ -6,8 +6,8 @@ use crate::declaration::spell_decls;
 use crate::instruction::spell_instr;
 use crate::search::spell_search;
 use opl_list::Seq;
-use opl_tree::ModelTree;
 use opl_token::Kind;
+use opl_tree::ModelTree;
 use std::alloc::{AllocError, Global};
 
 /// The tokens of a model's tree.

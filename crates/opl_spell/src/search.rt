@@ -7,11 +7,11 @@ use crate::expression::{spell_add, spell_expr, spell_params, spell_post};
 use crate::instruction::spell_if;
 use crate::token::{push_sign, push_word};
 use opl_list::Seq;
+use opl_token::{Kind, Sign};
 use opl_tree::{
     BranchOp, ExprTree, Keyword, LabelOp, OrderTree, OrderedParamsTree, PostTree, SearchBlockTree,
     SearchTree, StatementTree, StatementsTree,
 };
-use opl_token::{Kind, Sign};
 use std::alloc::{AllocError, Global};
 
 /// The word of a statement with parameters.

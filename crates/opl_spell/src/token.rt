@@ -5,8 +5,8 @@ ghost use Rattle.opl_tree.specs.Marks as marks;
 ghost use Rattle.opl_tree.specs.Spelling.{kinds_of};
 
 use opl_list::Seq;
-use opl_tree::Keyword;
 use opl_token::{Kind, Sign};
+use opl_tree::Keyword;
 use std::alloc::{AllocError, Global};
 
 /// Adds a word of the language.

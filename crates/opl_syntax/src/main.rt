@@ -8,10 +8,9 @@ mod text;
 
 use line::line_of;
 use opl_outside::{RealShelf, RealSink, Sink};
-use std::env;
-use std::io;
 use std::process::ExitCode;
 use std::rt::Env;
+use std::{env, io};
 
 /// The words after the program's name.
 fn words<R: Env + AllocGlobal>(rt: &R) -> io::Result<Vec<String>> {

@@ -3,9 +3,9 @@ use crate::kinds::are_same;
 use crate::text::text_of;
 use opl_depth::depth_model;
 use opl_parse::parse_model;
-use opl_tree::SyntaxFault;
 use opl_spell::spell_model;
 use opl_token::{Kind, ScanFault, Seq, scan};
+use opl_tree::SyntaxFault;
 use std::alloc::{AllocError, Global};
 
 /// How a text reads.
