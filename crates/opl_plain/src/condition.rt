@@ -81,10 +81,7 @@ fn imp(alloc: Global, t: &ImpTree) -> Result<Condition, PlainFault>
         None => Ok(premise),
         Some(conclusion) => {
             let conclusion = imp(alloc, conclusion.get())?;
-            Ok(Condition::Implies(
-                Boxed::new(alloc, premise)?,
-                Boxed::new(alloc, conclusion)?,
-            ))
+            Ok(Condition::Implies(Boxed::new(alloc, premise)?, Boxed::new(alloc, conclusion)?))
         }
     }
 }
@@ -142,10 +139,7 @@ fn neg(alloc: Global, t: &NegTree) -> Result<Condition, PlainFault>
     ensures { Gives (spec.reading_neg t.now).condition result }
 {
     match t {
-        NegTree::Not(_, inner) => Ok(Condition::Not(Boxed::new(
-            alloc,
-            neg(alloc, inner.get())?,
-        )?)),
+        NegTree::Not(_, inner) => Ok(Condition::Not(Boxed::new(alloc, neg(alloc, inner.get())?)?)),
         NegTree::Compare(inner) => compare(alloc, inner),
     }
 }
