@@ -264,10 +264,10 @@ module _ (vs : List PlainVariable) where
       AllMean vs (take i cs) fs → StopsAt (unknown_in vs c) e → IsErrAnd r (λ y. y ≡ e) → ResolveAll vs cs r
   list-stops cs i c fs e r h at m n so =
       rw (stops_so r e so) (stops_by _ _ e (λ x k. refused_there x k) n) where
-    refused_there : (x : Refusal) → unknown_in vs c ≡ Some x → first_unknown vs cs ≡ Some x
-    refused_there x k =
-        let whole : cs ≡ take i cs ++ c ∷ drop (suc i) cs = sym (take-append-drop i cs) ∙ ap (λ ds. take i cs ++ ds) (drop-cons cs i c h ∙ ap (λ d. d ∷ drop (suc i) cs) (sym at)) in
-        ap (first_unknown vs) whole ∙ one_refused vs (take i cs) (drop (suc i) cs) fs c x m k
+        refused_there : (x : Refusal) → unknown_in vs c ≡ Some x → first_unknown vs cs ≡ Some x
+        refused_there x k =
+            let whole : cs ≡ take i cs ++ c ∷ drop (suc i) cs = sym (take-append-drop i cs) ∙ ap (λ ds. take i cs ++ ds) (drop-cons cs i c h ∙ ap (λ d. d ∷ drop (suc i) cs) (sym at)) in
+            ap (first_unknown vs) whole ∙ one_refused vs (take i cs) (drop (suc i) cs) fs c x m k
 
   pub list-ends : (cs : List Condition) (i : ℕ) (fs : List Formula) → length cs ≤ i → AllMean vs (take i cs) fs → AllMean vs cs fs
   list-ends cs i fs h m = subst (λ ds. AllMean vs ds fs) (take_all i cs h) m

@@ -50,11 +50,7 @@ fn compare(numbers: &Numbers<'_>, found: &Comparison) -> Result<Formula, Stop>
 
 /// The formula of a condition, or the refusal at its first name that no variable has.
 #[cycle(resolved)]
-fn formula(
-    alloc: Global,
-    numbers: &Numbers<'_>,
-    condition: &Condition,
-) -> Result<Formula, Stop>
+fn formula(alloc: Global, numbers: &Numbers<'_>, condition: &Condition) -> Result<Formula, Stop>
     ensures { (vs : List PlainVariable) → AreNumbers vs numbers.now → Resolves vs condition.now result }
 {
     match condition {
@@ -76,10 +72,7 @@ fn formula(
         Condition::Implies(premise, conclusion) => {
             let premise = formula(alloc, numbers, premise.get())?;
             let conclusion = formula(alloc, numbers, conclusion.get())?;
-            Ok(Formula::Implies(
-                Boxed::new(alloc, premise)?,
-                Boxed::new(alloc, conclusion)?,
-            ))
+            Ok(Formula::Implies(Boxed::new(alloc, premise)?, Boxed::new(alloc, conclusion)?))
         }
         Condition::Same(first, rest) => {
             let first = formula(alloc, numbers, first.get())?;
