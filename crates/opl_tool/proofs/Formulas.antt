@@ -1,5 +1,5 @@
 -- What a formula and a condition come to, one layer at a time.
-use Rattle.std.proofs.Common.{◌≡◌, Bool, true, false, not, ◌&&◌, ◌||◌, List, [], ◌∷◌, map, ℤ, Option, refl, sym, ap, ◌∙◌, ℕ}
+use Rattle.std.proofs.Common.{◌≡◌, Bool, not, ◌&&◌, ◌||◌, List, [], ◌∷◌, map, ℤ, refl, sym, ap, ◌∙◌}
 use Rattle.std.specs.List.{list_all, list_any}
 use Rattle.opl_plain.specs.declared.model.Comparison.{Comparison}
 use Rattle.opl_plain.specs.declared.model.Condition.{Condition}
@@ -10,7 +10,6 @@ use Rattle.opl_tool.specs.declared.constraint.Constraint.{Constraint}
 use Rattle.opl_tool.specs.declared.constraint.Formula.{Formula}
 use Rattle.opl_tool.specs.declared.constraint.Formula.TheVariants as forms
 use Rattle.opl_tool.specs.declared.constraint.Formula.TheFolds.{fold-roll-Formula}
-use Rattle.opl_tool.specs.declared.refusal.Refusal.{Refusal}
 use Rattle.opl_tool.specs.Constraints.{constraint_holds, formula_holds}
 use Rattle.opl_tool.specs.Faults.{first_of, first_some, unknown_side, unknown_in}
 use Rattle.opl_tool.specs.Meaning.{comparison_holds, same_from, itself, holds}

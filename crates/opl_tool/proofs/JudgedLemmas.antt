@@ -4,18 +4,17 @@ use Rattle.opl_outside.specs.Files.{Files, max_bytes}
 use Rattle.opl_parse.proofs.TreeLaws.{one_tree, tree_or_stop, one_stop, deep_or_tree}
 use Rattle.opl_tree.specs.declared.model.ModelTree.{ModelTree}
 use Rattle.opl_tree.specs.Depth.{depth_model}
-use Rattle.opl_plain.specs.Plain.{plain_of}
 use Rattle.opl_token.proofs.Unique.{one_scan, no_fault, one_fault}
 use Rattle.opl_token.specs.declared.fault.ScanFault.{ScanFault}
 use Rattle.opl_token.specs.declared.fault.ScanFault.TheVariants as scan
 use Rattle.opl_token.specs.declared.token.Token.{Token}
 use Rattle.opl_plain.specs.declared.model.PlainModel.{PlainModel}
 use Rattle.opl_tool.specs.declared.refusal.Refusal.{Refusal}
-use Rattle.opl_tool.specs.declared.refusal.Refusal.TheVariants.{Syntax, TooDeep, NotYet}
+use Rattle.opl_tool.specs.declared.refusal.Refusal.TheVariants.{Syntax, NotYet}
 use Rattle.opl_tool.specs.declared.stop.Stop.{Stop}
 use Rattle.opl_tool.specs.declared.stop.Stop.TheVariants.{Refused, ReadFault, WriteFault, OutOfMemory}
 use Rattle.opl_tool.specs.Judged.{IsSolve, Named, Held, refusal_of_scan, Scanned, IsSyntaxFault, Parsed, Plain, Understood, Resolved, Read, Fetched, Judged}
-use Rattle.opl_tool.specs.Laws.{IsSyntax, AreSyntax, SameOutcome}
+use Rattle.opl_tool.specs.Laws.{SameOutcome}
 use Rattle.opl_tool.specs.Stage.{Stage, Then, Gives, GivesRead}
 
 pub if_some : {A : Type 0} (o : Option A) (P Q : A → Type 0) → ((a : A) → P a → Q a) → IfSome o P → IfSome o Q

@@ -1,5 +1,5 @@
 -- The problem of a model has the model's solutions.
-use Rattle.std.proofs.Common.{◌≡◌, refl, sym, ap, ◌∙◌, subst, ℕ, Bool, cond, List, [], ◌∷◌, map, filter, length, ℤ, Option, Some, None, Result, Ok, Err, Vec}
+use Rattle.std.proofs.Common.{◌≡◌, refl, sym, ap, ◌∙◌, subst, Bool, cond, List, [], ◌∷◌, map, filter, length, ℤ, Option, Some, None, Result, Err, Vec}
 use Rattle.std.proofs.lemmas.List.{length-map}
 use Rattle.std.specs.declared.alloc.Global.{Global}
 use Rattle.opl_plain.specs.declared.model.PlainModel.{PlainModel}

@@ -20,7 +20,7 @@ use Rattle.opl_tool.specs.declared.stop.Stop.{Stop}
 use Rattle.opl_tool.specs.declared.stop.Stop.TheVariants.{Refused, ReadFault, WriteFault, OutOfMemory}
 use Rattle.opl_tool.specs.declared.constraint.Formula.TheVariants as forms
 use Rattle.opl_tool.specs.Meaning.{value_named, operand_value, comparison_holds, holds, same_from, itself}
-use Rattle.opl_tool.specs.Faults.{number_from, number_of, unknown_name, unknown_side, unknown_in, first_of, first_some, first_unknown}
+use Rattle.opl_tool.specs.Faults.{number_from, number_of, unknown_name, unknown_side, unknown_in, first_of, first_unknown}
 use Rattle.opl_tool.specs.Constraints.{value_in, constraint_holds, formula_holds}
 use Rattle.opl_tool.specs.Resolve.{and_then, found_variable, found_operand, found_comparison, StopsAt, Resolves, ResolveAll}
 use Rattle.opl_tool.proofs.Formulas.{all_of, any_of, formula-Compare, formula-Not, formula-All, formula-Any, formula-Implies, formula-Same, holds-Compare, holds-Not, holds-All, holds-Any, holds-Implies, holds-Same, unknown-Compare, unknown-Not, unknown-All, unknown-Any, unknown-Implies, unknown-Same}
