@@ -1,36 +1,44 @@
 -- Conditions added behind those found, as one item after another is read.
-use Rattle.std.proofs.Common.{◌≡◌, ℕ, List, [], ◌∷◌, ◌++◌, map, drop, get_or, length, ◌<◌, ◌+◌, suc, Ok, Err, Result, refl, sym, ap, ◌∙◌, append_assoc, append-nil, add-one, drop-cons}
+use Rattle.std.proofs.Common.{◌≡◌, ℕ, Bool, List, ◌++◌, map, Ok, Err, Result, refl, sym, ap, ◌∙◌, append_assoc, append-nil}
+use Rattle.opl_tree.specs.declared.instruction.ItemTree.{ItemTree}
+use Rattle.opl_tree.specs.declared.instruction.ItemsTree.{ItemsTree}
+use Rattle.opl_tree.specs.declared.instruction.ItemsTree.TheVariants as lists
+use Rattle.opl_plain.specs.declared.fault.PlainFault.{PlainFault}
+use Rattle.opl_plain.specs.declared.fault.PlainFault.TheVariants.{NotYet, OutOfMemory}
 use Rattle.opl_plain.specs.declared.model.Condition.{Condition}
 use Rattle.opl_plain.specs.Reading.{Read, and_then}
-use Rattle.opl_plain.specs.Plain.{joined}
+use Rattle.opl_plain.specs.Plain.{Adds, joined, conditions_of_item, conditions_of_items}
+use Rattle.opl_plain.proofs.Items.{items-Empty, items-Several}
 
 -- what is found, and what comes behind it
-abbrev pub with_front : List Condition → Read (List Condition) → Read (List Condition)
+abbrev with_front : List Condition → Read (List Condition) → Read (List Condition)
 with_front found read = and_then read (λ cs. Ok (found ++ cs))
 
-joined_ok : (read rest : Read (List Condition)) (old new : List Condition) → with_front old read ≡ Ok new →
-    with_front old (and_then read (λ cs. and_then rest (λ ds. Ok (cs ++ ds)))) ≡ with_front new rest
-joined_ok (Ok cs) (Ok ds) old new h = let e : old ++ cs ≡ new = cc in ap Ok (sym (append_assoc old cs ds) ∙ ap (λ x. x ++ ds) e)
-joined_ok (Ok cs) (Err at) old new h = refl
-joined_ok (Err at) rest old new h = absurd (cc)
+-- what is read first, and what is read behind it
+abbrev both : Read (List Condition) → Read (List Condition) → Read (List Condition)
+both first rest = and_then first (λ cs. and_then rest (λ ds. Ok (cs ++ ds)))
 
-front_err : (read : Read (List Condition)) (old : List Condition) (at : ℕ) → with_front old read ≡ Err at → read ≡ Err at
-front_err (Ok cs) old at h = absurd (cc)
-front_err (Err b) old at h = h
+both_ok : (first rest : Read (List Condition)) (old new : List Condition) → with_front old first ≡ Ok new → with_front old (both first rest) ≡ with_front new rest
+both_ok (Ok cs) (Ok ds) old new h = let e : old ++ cs ≡ new = cc in ap Ok (sym (append_assoc old cs ds) ∙ ap (λ x. x ++ ds) e)
+both_ok (Ok cs) (Err at) old new h = refl
+both_ok (Err at) rest old new h = absurd (cc)
 
-module _ {T : Type 0} (reading : T → Read (List Condition)) where
-  pub step_ok : (parts : List T) (i : ℕ) (t : T) (first old new : List Condition) → i < length parts → t ≡ get_or parts i t → with_front old (reading t) ≡ Ok new →
-      with_front first (joined (map reading parts)) ≡ with_front old (joined (map reading (drop i parts))) →
-      with_front first (joined (map reading parts)) ≡ with_front new (joined (map reading (drop (i + 1) parts)))
-  step_ok parts i t first old new h at is e =
-      let d : drop i parts ≡ get_or parts i t ∷ drop (suc i) parts = drop-cons parts i t in
-      let r : with_front old (reading (get_or parts i t)) ≡ Ok new = ap (λ x. with_front old (reading x)) (sym at) ∙ is in
-      e ∙ rw (add-one, d) (joined_ok (reading (get_or parts i t)) (joined (map reading (drop (suc i) parts))) old new r)
+both_err : (first rest : Read (List Condition)) (old new : List Condition) (at : ℕ) → with_front old first ≡ Ok new → rest ≡ Err at → both first rest ≡ Err at
+both_err (Ok cs) rest old new at h e = rw e refl
+both_err (Err b) rest old new at h e = absurd (cc)
 
-  pub step_err : (parts : List T) (i : ℕ) (t : T) (first old : List Condition) (at : ℕ) → i < length parts → t ≡ get_or parts i t → reading t ≡ Err at →
-      with_front first (joined (map reading parts)) ≡ with_front old (joined (map reading (drop i parts))) →
-      joined (map reading parts) ≡ Err at
-  step_err parts i t first old at h same is e =
-      let d : drop i parts ≡ get_or parts i t ∷ drop (suc i) parts = drop-cons parts i t in
-      let r : reading (get_or parts i t) ≡ Err at = ap reading (sym same) ∙ is in
-      front_err (joined (map reading parts)) first at (e ∙ rw (d, r) refl)
+both_adds : (first rest : Read (List Condition)) (old between new : List Condition) (r : Result (Unit {0}) PlainFault) → with_front old first ≡ Ok between → Adds rest between new r → Adds (both first rest) old new r
+both_adds first rest old between new (Ok u) h more = both_ok first rest old between h ∙ more
+both_adds first rest old between new (Err (NotYet at)) h more = both_err first rest old between at h more
+both_adds first rest old between new (Err OutOfMemory) h more = tt
+
+-- no items add nothing
+pub empty-adds : (t : ItemsTree) (at : ℕ) (found : List Condition) → t ≡ lists.Empty at → and_then (conditions_of_items t) (λ cs. Ok (found ++ cs)) ≡ Ok found
+empty-adds t at found is = rw (is, items-Empty) (ap Ok (append-nil found))
+
+-- items add what the first adds, and behind it what the others add
+pub several-adds : (t : ItemsTree) (at : ℕ) (first one : ItemTree) (rest others : List ItemTree) (is_closed : Bool) (old between new : List Condition) (r : Result (Unit {0}) PlainFault) →
+    t ≡ lists.Several at first rest is_closed → one ≡ first → others ≡ rest → and_then (conditions_of_item one) (λ cs. Ok (old ++ cs)) ≡ Ok between →
+    Adds (joined (map conditions_of_item others)) between new r → Adds (conditions_of_items t) old new r
+several-adds t at first one rest others is_closed old between new r is this these h more =
+    rw (is, items-Several) (both_adds (conditions_of_item first) (joined (map conditions_of_item rest)) old between new r (rw this at h) (rw these at more))

@@ -1,4 +1,3 @@
 pub mod Added
-pub mod Chains
 pub mod Items
 pub mod Readings

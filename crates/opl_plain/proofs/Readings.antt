@@ -35,7 +35,7 @@ use Rattle.opl_tree.specs.declared.expression.CompareTree.TheViews.{out-AddTree,
 use Rattle.opl_tree.specs.declared.expression.CompareTree.TheFolds.{fold-roll-CompareTree, fold-roll-MulTree, fold-roll-NegTree, fold-roll-OpenTree, fold-roll-PrimTree, fold-roll-SignTree, fold-roll-AddTree, fold-roll-AndTree, fold-roll-ExprTree, fold-roll-ImpTree, fold-roll-OrTree, fold-roll-PostTree}
 use Rattle.opl_plain.specs.declared.model.Condition.TheVariants.{Not, Any, All, Same}
 use Rattle.opl_plain.specs.declared.model.Operand.TheVariants.{Variable, Number}
-use Rattle.opl_plain.specs.Reading.{Reading, and_then, unread, condition_at, chained, implied, related, alone, factor, negated, reading_expr, reading_imp, reading_or, reading_and, reading_neg, reading_compare, reading_add, reading_mul, reading_open, reading_sign, reading_post, reading_prim}
+use Rattle.opl_plain.specs.Reading.{and_then, unread, condition_at, chained, implied, related, alone, factor, negated, reading_expr, reading_imp, reading_or, reading_and, reading_neg, reading_compare, reading_add, reading_mul, reading_open, reading_sign, reading_post, reading_prim}
 
 pub reading_expr-of : (at : ℕ) (first : ImpTree) (rest : List ImpTree) → reading_expr (roll-ExprTree (record { at = at; first = first; rest = rest })) ≡ chained Same at (reading_imp first) (map reading_imp rest)
 unfolding reading_expr reading_imp
@@ -205,4 +205,3 @@ pub ruleset open_reading = (reading_open-NegativeOpen, reading_open-Aggregate)
 pub ruleset sign_reading = (reading_sign-Negative, reading_sign-Postfix)
 
 pub ruleset prim_reading = (reading_prim-Number, reading_prim-Named, reading_prim-Bracket, reading_prim-Record, reading_prim-Listed, reading_prim-Described, reading_prim-Array, reading_prim-KeyedArray, reading_prim-Call, reading_prim-AllDifferent, reading_prim-Question)
-

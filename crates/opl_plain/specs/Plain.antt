@@ -1,5 +1,5 @@
 -- The plain form of a model's tree, or the place of the first form in it that does not run yet.
-use Rattle.std.specs.Prelude.{◌≡◌, ℕ, ◌≤◌, ◌^◌, nat_le, List, [], ◌∷◌, ◌++◌, map, Option, Some, None, Result, Ok, Err, ℤ, unsigned_abs, if◌then◌else◌}
+use Rattle.std.specs.Prelude.{◌≡◌, ◌≤◌, ◌^◌, nat_le, List, [], ◌∷◌, ◌++◌, Option, Some, None, Result, Ok, Err, unsigned_abs, if◌then◌else◌}
 use Rattle.opl_tree.specs.declared.declaration.BoundsTree.{BoundsTree}
 use Rattle.opl_tree.specs.declared.declaration.DeclTree.{DeclTree}
 use Rattle.opl_tree.specs.declared.declaration.DeclTree.TheVariants as decl
@@ -8,7 +8,6 @@ use Rattle.opl_tree.specs.declared.declaration.VariableTree.{VariableTree}
 use Rattle.opl_tree.specs.declared.declaration.VariableTypeTree.{VariableTypeTree}
 use Rattle.opl_tree.specs.declared.declaration.VariableTypeTree.TheVariants as kind
 use Rattle.opl_tree.specs.declared.expression.AddTree.{AddTree}
-use Rattle.opl_tree.specs.declared.expression.NameTree.{NameTree}
 use Rattle.opl_tree.specs.declared.instruction.BlockTree.{BlockTree}
 use Rattle.opl_tree.specs.declared.instruction.InstrTree.{InstrTree}
 use Rattle.opl_tree.specs.declared.instruction.InstrTree.TheVariants as instr

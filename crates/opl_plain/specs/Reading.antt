@@ -13,13 +13,11 @@ use Rattle.opl_tree.specs.declared.expression.ExprTree.{ExprTree}
 use Rattle.opl_tree.specs.declared.expression.ImpTree.{ImpTree}
 use Rattle.opl_tree.specs.declared.expression.OrTree.{OrTree}
 use Rattle.opl_tree.specs.declared.expression.PostTree.{PostTree}
-use Rattle.opl_tree.specs.declared.expression.NameTree.{NameTree}
 use Rattle.opl_tree.specs.declared.expression.Relation.{Relation}
 use Rattle.opl_tree.specs.declared.expression.CompareTree.TheOpen.{CompareTree-F, MulTree-F, NegTree-F, OpenTree-F, PrimTree-F, SignTree-F}
 use Rattle.opl_tree.specs.Layers.{ExpressionSteps, CompareLayer, MulLayer, NegLayer, OpenLayer, PrimLayer, SignLayer, AddLayer, AndLayer, ExprLayer, ImpLayer, OrLayer, PostLayer, compare_result, mul_result, neg_result, prim_result, sign_result, open_result, add_result, and_result, expr_result, imp_result, or_result, post_result}
 use Rattle.opl_plain.specs.declared.model.Operand.{Operand}
 use Rattle.opl_plain.specs.declared.model.Operand.TheVariants.{Variable, Number}
-use Rattle.opl_plain.specs.declared.model.Comparison.{Comparison}
 use Rattle.opl_plain.specs.declared.model.Condition.{Condition}
 use Rattle.opl_plain.specs.declared.model.Condition.TheVariants.{Compare, Not, All, Any, Implies, Same}
 use Rattle.opl_plain.specs.declared.fault.PlainFault.{PlainFault}

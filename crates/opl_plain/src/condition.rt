@@ -47,6 +47,24 @@ fn all(alloc: Global, first: Condition, rest: Seq<Condition>) -> Result<Conditio
     }
 }
 
+/// That the second holds where the first does.
+fn implies(
+    alloc: Global,
+    premise: Condition,
+    conclusion: Condition,
+) -> Result<Condition, PlainFault>
+    ensures { Gives (Ok (Condition.Implies premise conclusion)) result }
+{
+    Ok(Condition::Implies(Boxed::new(alloc, premise)?, Boxed::new(alloc, conclusion)?))
+}
+
+/// That a condition does not hold.
+fn not(alloc: Global, inner: Condition) -> Result<Condition, PlainFault>
+    ensures { Gives (Ok (Condition.Not inner)) result }
+{
+    Ok(Condition::Not(Boxed::new(alloc, inner)?))
+}
+
 /// The condition that `a <=> b <=> ..` is.
 #[tactic(auto, using(crate::proofs::Readings::expr_reading))]
 #[cycle(conditions)]
@@ -81,10 +99,7 @@ fn imp(alloc: Global, t: &ImpTree) -> Result<Condition, PlainFault>
         None => Ok(premise),
         Some(conclusion) => {
             let conclusion = imp(alloc, conclusion.get())?;
-            Ok(Condition::Implies(
-                Boxed::new(alloc, premise)?,
-                Boxed::new(alloc, conclusion)?,
-            ))
+            implies(alloc, premise, conclusion)
         }
     }
 }
@@ -142,10 +157,7 @@ fn neg(alloc: Global, t: &NegTree) -> Result<Condition, PlainFault>
     ensures { Gives (spec.reading_neg t.now).condition result }
 {
     match t {
-        NegTree::Not(_, inner) => Ok(Condition::Not(Boxed::new(
-            alloc,
-            neg(alloc, inner.get())?,
-        )?)),
+        NegTree::Not(_, inner) => not(alloc, neg(alloc, inner.get())?),
         NegTree::Compare(inner) => compare(alloc, inner),
     }
 }

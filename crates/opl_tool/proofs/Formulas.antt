@@ -1,5 +1,5 @@
 -- What a formula and a condition come to, one layer at a time.
-use Rattle.std.proofs.Common.{◌≡◌, Bool, true, false, not, ◌||◌, List, [], ◌∷◌, map, ℤ, Option, refl, sym, ap, ◌∙◌, ℕ}
+use Rattle.std.proofs.Common.{◌≡◌, Bool, not, ◌&&◌, ◌||◌, List, [], ◌∷◌, map, ℤ, refl, sym, ap, ◌∙◌}
 use Rattle.std.specs.List.{list_all, list_any}
 use Rattle.opl_plain.specs.declared.model.Comparison.{Comparison}
 use Rattle.opl_plain.specs.declared.model.Condition.{Condition}
@@ -10,7 +10,6 @@ use Rattle.opl_tool.specs.declared.constraint.Constraint.{Constraint}
 use Rattle.opl_tool.specs.declared.constraint.Formula.{Formula}
 use Rattle.opl_tool.specs.declared.constraint.Formula.TheVariants as forms
 use Rattle.opl_tool.specs.declared.constraint.Formula.TheFolds.{fold-roll-Formula}
-use Rattle.opl_tool.specs.declared.refusal.Refusal.{Refusal}
 use Rattle.opl_tool.specs.Constraints.{constraint_holds, formula_holds}
 use Rattle.opl_tool.specs.Faults.{first_of, first_some, unknown_side, unknown_in}
 use Rattle.opl_tool.specs.Meaning.{comparison_holds, same_from, itself, holds}
@@ -33,19 +32,19 @@ module _ (values : List ℤ) where
   unfolding formula_holds
   formula-Not f = ap (formula_holds values) (sym (forms.rolls-Not f)) ∙ rw fold-roll-Formula refl
 
-  all_parts : (fs : List Formula) → formula_holds values (forms.All fs) ≡ list_all itself (map (formula_holds values) fs)
+  all_formulas : (f : Formula) (fs : List Formula) → formula_holds values (forms.All f fs) ≡ (formula_holds values f && list_all itself (map (formula_holds values) fs))
   unfolding formula_holds
-  all_parts fs = ap (formula_holds values) (sym (forms.rolls-All fs)) ∙ rw fold-roll-Formula refl
+  all_formulas f fs = ap (formula_holds values) (sym (forms.rolls-All f fs)) ∙ rw fold-roll-Formula refl
 
-  pub formula-All : (fs : List Formula) → formula_holds values (forms.All fs) ≡ list_all (formula_holds values) fs
-  formula-All fs = all_parts fs ∙ all_of (formula_holds values) fs
+  pub formula-All : (f : Formula) (fs : List Formula) → formula_holds values (forms.All f fs) ≡ (formula_holds values f && list_all (formula_holds values) fs)
+  formula-All f fs = all_formulas f fs ∙ ap (λ b. formula_holds values f && b) (all_of (formula_holds values) fs)
 
-  any_parts : (fs : List Formula) → formula_holds values (forms.Any fs) ≡ list_any itself (map (formula_holds values) fs)
+  any_formulas : (f : Formula) (fs : List Formula) → formula_holds values (forms.Any f fs) ≡ (formula_holds values f || list_any itself (map (formula_holds values) fs))
   unfolding formula_holds
-  any_parts fs = ap (formula_holds values) (sym (forms.rolls-Any fs)) ∙ rw fold-roll-Formula refl
+  any_formulas f fs = ap (formula_holds values) (sym (forms.rolls-Any f fs)) ∙ rw fold-roll-Formula refl
 
-  pub formula-Any : (fs : List Formula) → formula_holds values (forms.Any fs) ≡ list_any (formula_holds values) fs
-  formula-Any fs = any_parts fs ∙ any_of (formula_holds values) fs
+  pub formula-Any : (f : Formula) (fs : List Formula) → formula_holds values (forms.Any f fs) ≡ (formula_holds values f || list_any (formula_holds values) fs)
+  formula-Any f fs = any_formulas f fs ∙ ap (λ b. formula_holds values f || b) (any_of (formula_holds values) fs)
 
   pub formula-Implies : (f g : Formula) → formula_holds values (forms.Implies f g) ≡ (not (formula_holds values f) || formula_holds values g)
   unfolding formula_holds
@@ -67,13 +66,19 @@ module _ (vs : List PlainVariable) (values : List ℤ) where
   unfolding holds
   holds-Not c = ap (holds vs values) (sym (conditions.rolls-Not c)) ∙ rw fold-roll-Condition refl
 
-  pub holds-All : (cs : List Condition) → holds vs values (conditions.All cs) ≡ list_all itself (map (holds vs values) cs)
+  all_conditions : (c : Condition) (cs : List Condition) → holds vs values (conditions.All c cs) ≡ (holds vs values c && list_all itself (map (holds vs values) cs))
   unfolding holds
-  holds-All cs = ap (holds vs values) (sym (conditions.rolls-All cs)) ∙ rw fold-roll-Condition refl
+  all_conditions c cs = ap (holds vs values) (sym (conditions.rolls-All c cs)) ∙ rw fold-roll-Condition refl
 
-  pub holds-Any : (cs : List Condition) → holds vs values (conditions.Any cs) ≡ list_any itself (map (holds vs values) cs)
+  pub holds-All : (c : Condition) (cs : List Condition) → holds vs values (conditions.All c cs) ≡ (holds vs values c && list_all (holds vs values) cs)
+  holds-All c cs = all_conditions c cs ∙ ap (λ b. holds vs values c && b) (all_of (holds vs values) cs)
+
+  any_conditions : (c : Condition) (cs : List Condition) → holds vs values (conditions.Any c cs) ≡ (holds vs values c || list_any itself (map (holds vs values) cs))
   unfolding holds
-  holds-Any cs = ap (holds vs values) (sym (conditions.rolls-Any cs)) ∙ rw fold-roll-Condition refl
+  any_conditions c cs = ap (holds vs values) (sym (conditions.rolls-Any c cs)) ∙ rw fold-roll-Condition refl
+
+  pub holds-Any : (c : Condition) (cs : List Condition) → holds vs values (conditions.Any c cs) ≡ (holds vs values c || list_any (holds vs values) cs)
+  holds-Any c cs = any_conditions c cs ∙ ap (λ b. holds vs values c || b) (any_of (holds vs values) cs)
 
   pub holds-Implies : (c d : Condition) → holds vs values (conditions.Implies c d) ≡ (not (holds vs values c) || holds vs values d)
   unfolding holds
@@ -92,18 +97,18 @@ module _ (vs : List PlainVariable) where
   unfolding unknown_in
   unknown-Not c = ap (unknown_in vs) (sym (conditions.rolls-Not c)) ∙ rw fold-roll-Condition refl
 
-  pub unknown-All : (cs : List Condition) → unknown_in vs (conditions.All cs) ≡ first_some (map (unknown_in vs) cs)
+  pub unknown-All : (c : Condition) (cs : List Condition) → unknown_in vs (conditions.All c cs) ≡ first_some (map (unknown_in vs) (c ∷ cs))
   unfolding unknown_in
-  unknown-All cs = ap (unknown_in vs) (sym (conditions.rolls-All cs)) ∙ rw fold-roll-Condition refl
+  unknown-All c cs = ap (unknown_in vs) (sym (conditions.rolls-All c cs)) ∙ rw fold-roll-Condition refl
 
-  pub unknown-Any : (cs : List Condition) → unknown_in vs (conditions.Any cs) ≡ first_some (map (unknown_in vs) cs)
+  pub unknown-Any : (c : Condition) (cs : List Condition) → unknown_in vs (conditions.Any c cs) ≡ first_some (map (unknown_in vs) (c ∷ cs))
   unfolding unknown_in
-  unknown-Any cs = ap (unknown_in vs) (sym (conditions.rolls-Any cs)) ∙ rw fold-roll-Condition refl
+  unknown-Any c cs = ap (unknown_in vs) (sym (conditions.rolls-Any c cs)) ∙ rw fold-roll-Condition refl
 
   pub unknown-Implies : (c d : Condition) → unknown_in vs (conditions.Implies c d) ≡ first_of (unknown_in vs c) (unknown_in vs d)
   unfolding unknown_in
   unknown-Implies c d = ap (unknown_in vs) (sym (conditions.rolls-Implies c d)) ∙ rw fold-roll-Condition refl
 
-  pub unknown-Same : (c : Condition) (cs : List Condition) → unknown_in vs (conditions.Same c cs) ≡ first_of (unknown_in vs c) (first_some (map (unknown_in vs) cs))
+  pub unknown-Same : (c : Condition) (cs : List Condition) → unknown_in vs (conditions.Same c cs) ≡ first_some (map (unknown_in vs) (c ∷ cs))
   unfolding unknown_in
   unknown-Same c cs = ap (unknown_in vs) (sym (conditions.rolls-Same c cs)) ∙ rw fold-roll-Condition refl

@@ -63,7 +63,7 @@ module _ (c : Call) (files : Files) where
 
   one_model : (m n : PlainModel) → Judged c.words files (Ok m) → Judged c.words files (Ok n) → m ≡ n
   one_model m n p q = same_model (judged_one c.words files _ _ p q) where
-    same_model : SameOutcome {PlainModel} (Ok m) (Ok n) → m ≡ n
+    same_model : SameOutcome {A = PlainModel} (Ok m) (Ok n) → m ≡ n
     same_model (inl e) = cc
     same_model (inr x) = absurd x
 

@@ -4,23 +4,36 @@ use Rattle.opl_outside.specs.Files.{Files, max_bytes}
 use Rattle.opl_parse.proofs.TreeLaws.{one_tree, tree_or_stop, one_stop, deep_or_tree}
 use Rattle.opl_tree.specs.declared.model.ModelTree.{ModelTree}
 use Rattle.opl_tree.specs.Depth.{depth_model}
-use Rattle.opl_plain.specs.Plain.{plain_of}
 use Rattle.opl_token.proofs.Unique.{one_scan, no_fault, one_fault}
 use Rattle.opl_token.specs.declared.fault.ScanFault.{ScanFault}
 use Rattle.opl_token.specs.declared.fault.ScanFault.TheVariants as scan
 use Rattle.opl_token.specs.declared.token.Token.{Token}
 use Rattle.opl_plain.specs.declared.model.PlainModel.{PlainModel}
 use Rattle.opl_tool.specs.declared.refusal.Refusal.{Refusal}
-use Rattle.opl_tool.specs.declared.refusal.Refusal.TheVariants.{Syntax, TooDeep, NotYet}
+use Rattle.opl_tool.specs.declared.refusal.Refusal.TheVariants.{Syntax, NotYet}
 use Rattle.opl_tool.specs.declared.stop.Stop.{Stop}
 use Rattle.opl_tool.specs.declared.stop.Stop.TheVariants.{Refused, ReadFault, WriteFault, OutOfMemory}
-use Rattle.opl_tool.specs.Judged.{IsSolve, Named, Held, refusal_of_scan, Scanned, IsSyntaxFault, Parsed, Plain, Resolved, Read, Fetched, Judged}
-use Rattle.opl_tool.specs.Laws.{IsSyntax, AreSyntax, SameOutcome}
+use Rattle.opl_tool.specs.Judged.{IsSolve, Named, Held, refusal_of_scan, Scanned, IsSyntaxFault, Parsed, Plain, Understood, Resolved, Read, Fetched, Judged}
+use Rattle.opl_tool.specs.Laws.{SameOutcome}
 use Rattle.opl_tool.specs.Stage.{Stage, Then, Gives, GivesRead}
 
 pub if_some : {A : Type 0} (o : Option A) (P Q : A → Type 0) → ((a : A) → P a → Q a) → IfSome o P → IfSome o Q
 if_some None P Q so h = tt
 if_some (Some a) P Q so h = so a h
+
+-- the first stage gave a value, and the second what it gave on it
+pub then-gives : {A B : Type 0} (P : Stage A) (Q : A → Stage B) (a : A) (r : Result B Stop) → P (Ok a) → Gives (Q a) r → Gives (Then P Q) r
+then-gives P Q a (Ok b) p q = inl (a, p, q)
+then-gives P Q a (Err (Refused e)) p q = inl (a, p, q)
+then-gives P Q a (Err ReadFault) p q = q
+then-gives P Q a (Err WriteFault) p q = q
+then-gives P Q a (Err OutOfMemory) p q = q
+
+-- a text gave tokens, and these a model
+pub read-gives : (bytes : List ℕ) (tokens these : List Token) (end : ℕ) (r : Result PlainModel Stop) → these ≡ tokens → end ≡ length bytes → Scanned bytes (Ok tokens) →
+    Gives (Understood these end) r → Gives (Read bytes) r
+read-gives bytes tokens these end r same whole scanned h =
+    then-gives (Scanned bytes) (λ ts. Understood ts (length bytes)) tokens r scanned (subst (λ n. Gives (Understood tokens n) r) whole (subst (λ ts. Gives (Understood ts end) r) same h))
 
 fetched_read : (words : List (List ℕ)) (name bytes : List ℕ) (files : Files) (r : Result PlainModel Stop) → IsSolve words name → Gives (Read bytes) r →
     GivesRead (Held files name) (Ok bytes) → GivesRead (Fetched words files) r
@@ -40,19 +53,19 @@ fetched-read words name bytes text told r named same read held =
 abbrev pub IsOne : {A : Type 0} → Stage A → Type 0
 IsOne {A} P = (r s : Result A Refusal) → P r → P s → SameOutcome r s
 
-ok_same : {A : Type 0} (a b : A) → SameOutcome {A} (Ok a) (Ok b) → a ≡ b
+ok_same : {A : Type 0} (a b : A) → SameOutcome {A = A} (Ok a) (Ok b) → a ≡ b
 ok_same a b (inl e) = cc
 ok_same a b (inr x) = absurd x
 
-pub ok_no_err : {A : Type 0} (a : A) (e : Refusal) → SameOutcome {A} (Ok a) (Err e) → ⊥
+pub ok_no_err : {A : Type 0} (a : A) (e : Refusal) → SameOutcome {A = A} (Ok a) (Err e) → ⊥
 ok_no_err a e (inl h) = cc
 ok_no_err a e (inr x) = x
 
-pub err_no_ok : {A : Type 0} (a : A) (e : Refusal) → SameOutcome {A} (Err e) (Ok a) → ⊥
+pub err_no_ok : {A : Type 0} (a : A) (e : Refusal) → SameOutcome {A = A} (Err e) (Ok a) → ⊥
 err_no_ok a e (inl h) = cc
 err_no_ok a e (inr x) = x
 
-err_same : {A B : Type 0} (e f : Refusal) → SameOutcome {A} (Err e) (Err f) → SameOutcome {B} (Err e) (Err f)
+err_same : {A B : Type 0} (e f : Refusal) → SameOutcome {A = A} (Err e) (Err f) → SameOutcome {A = B} (Err e) (Err f)
 err_same e f (inl h) = inl (cc)
 err_same e f (inr x) = inr x
 
@@ -61,7 +74,7 @@ then_one : {A B : Type 0} (P : Stage A) (Q : A → Stage B) → IsOne P → ((a 
 then_one P Q one both r s (inl (a, p, q)) (inl (b, p', q')) = both a r s q (subst (λ x. Q x s) (sym (ok_same a b (one _ _ p p'))) q')
 then_one P Q one both r s (inl (a, p, q)) (inr (e, p', q')) = absurd (ok_no_err a e (one _ _ p p'))
 then_one P Q one both r s (inr (e, p, q)) (inl (b, p', q')) = absurd (err_no_ok b e (one _ _ p p'))
-then_one {A} {B} P Q one both r s (inr (e, p, q)) (inr (f, p', q')) = rw (q, q') (err_same {A} {B} e f (one _ _ p p'))
+then_one {A} {B} P Q one both r s (inr (e, p, q)) (inr (f, p', q')) = rw (q, q') (err_same {A = A} {B = B} e f (one _ _ p p'))
 
 same_name : (words : List (List ℕ)) (a b : List ℕ) → IsSolve words a → IsSolve words b → a ≡ b
 same_name words a b p q = let e : codes "solve" ∷ a ∷ [] ≡ codes "solve" ∷ b ∷ [] = sym p ∙ q in cc
@@ -106,7 +119,7 @@ no_syntax_fault : (tokens : List Token) (end : ℕ) (t : ModelTree) (e : Refusal
 no_syntax_fault tokens end t e p (inl q) = tree_or_stop tokens end t q.0 p.0 q.2
 no_syntax_fault tokens end t e p (inr q) = let deep : 256 < depth_model t = deep_or_tree tokens end t q.0 p.0 q.2 in let shallow : depth_model t ≤ 256 = p.1 in omega arith
 
-syntax_faults : (tokens : List Token) (end : ℕ) (e f : Refusal) → IsSyntaxFault tokens end e → IsSyntaxFault tokens end f → SameOutcome {ModelTree} (Err e) (Err f)
+syntax_faults : (tokens : List Token) (end : ℕ) (e f : Refusal) → IsSyntaxFault tokens end e → IsSyntaxFault tokens end f → SameOutcome {A = ModelTree} (Err e) (Err f)
 syntax_faults tokens end e f (inl p) (inl q) = inl (ap Err (p.1 ∙ (ap Syntax (one_stop tokens end p.0 q.0 p.2 q.2) ∙ sym q.1)))
 syntax_faults tokens end e f (inl p) (inr q) = rw (p.1, q.1) (inr (tt, tt))
 syntax_faults tokens end e f (inr p) (inl q) = rw (p.1, q.1) (inr (tt, tt))

@@ -1,10 +1,17 @@
 pub mod Advance
 pub mod Enumeration
 pub mod Formulas
+pub mod HeadlineLemmas
+pub mod JudgedLemmas
+pub mod LineLemmas
+pub mod Membership
 pub mod NamesLemmas
+pub mod Order
+pub mod Outcomes
 pub mod PrintingLemmas
 pub mod ProblemLemmas
 pub mod ResolveLemmas
 pub mod Showing
 pub mod SolveLemmas
 pub mod StartLemmas
+pub mod WordsLemmas

@@ -6,7 +6,7 @@ use Rattle.std.proofs.lemmas.Bool.Decides.{nat_tests}
 use Rattle.opl_outside.specs.Files.{Files, max_bytes}
 use Rattle.opl_parse.proofs.TreeLaws.{parse_total}
 use Rattle.opl_tree.specs.declared.model.ModelTree.{ModelTree}
-use Rattle.opl_tree.specs.Depth.{depth_model, OpensAt}
+use Rattle.opl_tree.specs.Depth.{depth_model}
 use Rattle.opl_plain.specs.Plain.{plain_of}
 use Rattle.opl_token.proofs.Unique.{total}
 use Rattle.opl_token.specs.declared.fault.ScanFault.{ScanFault}
@@ -14,7 +14,7 @@ use Rattle.opl_token.specs.declared.fault.ScanFault.TheVariants as scan
 use Rattle.opl_token.specs.declared.token.Token.{Token}
 use Rattle.opl_token.specs.Scan.{Scans, Faults}
 use Rattle.opl_plain.specs.declared.model.PlainModel.{PlainModel}
-use Rattle.opl_tree.specs.Reading.{IsTreeOf, StopsAt}
+use Rattle.opl_tree.specs.Reading.{IsTreeOf, StopsAt, OpensAt}
 use Rattle.opl_tool.specs.declared.refusal.Refusal.{Refusal}
 use Rattle.opl_tool.specs.declared.refusal.Refusal.TheVariants.{Words, Absent, TooLong, BadByte, OpenComment, OpenString, NumberTooLarge, Syntax, TooDeep, NotYet}
 use Rattle.opl_tool.specs.Faults.{model_fault}

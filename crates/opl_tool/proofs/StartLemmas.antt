@@ -1,5 +1,5 @@
 -- The places at which the enumeration begins are those of the declared sets.
-use Rattle.std.proofs.Common.{◌≡◌, refl, ℕ, zero, suc, ◌+◌, ◌<◌, List, [], ◌∷◌, map, length, drop, get_or, ℤ, Option, Some, None, arith, add-one, drop-cons, subst, to_z, of_z, FitsSigned}
+use Rattle.std.proofs.Common.{◌≡◌, refl, ℕ, zero, suc, ◌<◌, List, [], ◌∷◌, map, length, get_or, ℤ, Option, Some, None, arith, subst, to_z, of_z, FitsSigned}
 use Rattle.std.specs.Int.{w128}
 use Rattle.std.proofs.lemmas.Int.{to_z-of_z}
 use Rattle.std.specs.List.{flat_map}

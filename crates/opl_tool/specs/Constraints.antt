@@ -1,5 +1,5 @@
 -- Conditions whose names are replaced by the numbers of their variables.
-use Rattle.std.specs.Prelude.{Bool, not, ◌||◌, List, ℤ, pos, get_or}
+use Rattle.std.specs.Prelude.{Bool, not, ◌||◌, List, ◌∷◌, ℤ, pos, get_or}
 use Rattle.std.specs.List.{list_all, list_any}
 use Rattle.opl_tool.specs.declared.constraint.Operand.{Operand}
 use Rattle.opl_tool.specs.declared.constraint.Operand.TheVariants.{Variable, Number}
@@ -22,8 +22,8 @@ constraint_holds values c = relates c.relation (value_in values c.left) (value_i
 abbrev pub formula_layer : List ℤ → Formula-F Bool → Bool
 formula_layer values (Formula-F.Compare c) = constraint_holds values c
 formula_layer values (Formula-F.Not b) = not b
-formula_layer values (Formula-F.All bs) = list_all itself bs
-formula_layer values (Formula-F.Any bs) = list_any itself bs
+formula_layer values (Formula-F.All b bs) = list_all itself (b ∷ bs)
+formula_layer values (Formula-F.Any b bs) = list_any itself (b ∷ bs)
 formula_layer values (Formula-F.Implies a b) = not a || b
 formula_layer values (Formula-F.Same b bs) = same_from b bs
 

@@ -49,10 +49,10 @@ unknown_side vs c = first_of (unknown_name vs c.left) (unknown_name vs c.right)
 abbrev pub unknown_layer : List PlainVariable → Condition-F (Option Refusal) → Option Refusal
 unknown_layer vs (Condition-F.Compare c) = unknown_side vs c
 unknown_layer vs (Condition-F.Not o) = o
-unknown_layer vs (Condition-F.All os) = first_some os
-unknown_layer vs (Condition-F.Any os) = first_some os
+unknown_layer vs (Condition-F.All o os) = first_some (o ∷ os)
+unknown_layer vs (Condition-F.Any o os) = first_some (o ∷ os)
 unknown_layer vs (Condition-F.Implies o p) = first_of o p
-unknown_layer vs (Condition-F.Same o os) = first_of o (first_some os)
+unknown_layer vs (Condition-F.Same o os) = first_some (o ∷ os)
 
 -- the first name of a condition that no variable has
 unfoldable pub unknown_in : List PlainVariable → Condition → Option Refusal

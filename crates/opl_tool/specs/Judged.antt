@@ -7,8 +7,8 @@ use Rattle.opl_token.specs.declared.token.Token.{Token}
 use Rattle.opl_token.specs.Scan.{Scans, Faults}
 use Rattle.opl_plain.specs.declared.model.PlainModel.{PlainModel}
 use Rattle.opl_tree.specs.declared.model.ModelTree.{ModelTree}
-use Rattle.opl_tree.specs.Depth.{depth_model, OpensAt}
-use Rattle.opl_tree.specs.Reading.{IsTreeOf, StopsAt}
+use Rattle.opl_tree.specs.Depth.{depth_model}
+use Rattle.opl_tree.specs.Reading.{IsTreeOf, StopsAt, OpensAt}
 use Rattle.opl_plain.specs.Plain.{plain_of}
 use Rattle.opl_tool.specs.declared.refusal.Refusal.{Refusal}
 use Rattle.opl_tool.specs.declared.refusal.Refusal.TheVariants.{Words, Absent, TooLong, BadByte, OpenComment, OpenString, NumberTooLarge, Syntax, TooDeep, NotYet}
@@ -62,9 +62,13 @@ abbrev pub Resolved : PlainModel → Stage PlainModel
 Resolved model (Ok m) = (m ≡ model) × (model_fault model ≡ None)
 Resolved model (Err e) = model_fault model ≡ Some e
 
+-- the model of the tokens of a file with `end` bytes
+abbrev pub Understood : List Token → (end : ℕ) → Stage PlainModel
+Understood tokens end = Then (Parsed tokens end) Plain
+
 -- the model of a file
 abbrev pub Read : List ℕ → Stage PlainModel
-Read bytes = Then (Scanned bytes) (λ tokens. Then (Parsed tokens (length bytes)) Plain)
+Read bytes = Then (Scanned bytes) (λ tokens. Understood tokens (length bytes))
 
 -- the model of the model's file: the words come first, then the file, its scan, its syntax and what does not run yet
 abbrev pub Fetched : List (List ℕ) → Files → Stage PlainModel

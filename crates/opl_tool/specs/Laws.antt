@@ -1,5 +1,5 @@
 -- What the list of solutions is, in other words: which assignments stand in it, and in which order.
-use Rattle.std.specs.Prelude.{◌≡◌, ◌⊎◌, ◌↔◌, ℕ, true, List, [], ◌∷◌, ℤ, ◌≤ℤ◌, ◌<ℤ◌, Result, Ok, Err}
+use Rattle.std.specs.Prelude.{◌≡◌, ◌⊎◌, ◌↔◌, ℕ, true, List, [], ◌∷◌, ℤ, ◌≤ℤ◌, ◌<ℤ◌, Result, Err}
 use Rattle.opl_outside.specs.Files.{Files}
 use Rattle.opl_tool.specs.declared.refusal.Refusal.{Refusal}
 use Rattle.opl_tool.specs.declared.refusal.Refusal.TheVariants.{Syntax, TooDeep}

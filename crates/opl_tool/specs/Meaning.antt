@@ -76,8 +76,8 @@ itself b = b
 abbrev pub holds_layer : List PlainVariable → List ℤ → Condition-F Bool → Bool
 holds_layer vs values (Condition-F.Compare c) = comparison_holds vs values c
 holds_layer vs values (Condition-F.Not b) = not b
-holds_layer vs values (Condition-F.All bs) = list_all itself bs
-holds_layer vs values (Condition-F.Any bs) = list_any itself bs
+holds_layer vs values (Condition-F.All b bs) = list_all itself (b ∷ bs)
+holds_layer vs values (Condition-F.Any b bs) = list_any itself (b ∷ bs)
 holds_layer vs values (Condition-F.Implies a b) = not a || b
 holds_layer vs values (Condition-F.Same b bs) = same_from b bs
 

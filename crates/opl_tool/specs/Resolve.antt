@@ -39,18 +39,19 @@ found_comparison number c =
     and_then (found_operand number c.right) (λ right.
     Ok (record { left = left; relation = c.relation; right = right })))
 
+-- why resolving stops: at the first name that is not declared, or memory is wanting
+abbrev pub StopsAt : Option Refusal → Stop → Type 0
+StopsAt unknown (Refused refusal) = unknown ≡ Some refusal
+StopsAt unknown ReadFault = ⊥
+StopsAt unknown WriteFault = ⊥
+StopsAt unknown OutOfMemory = ⊤
+
 -- a formula that holds where the condition does, whose names are all declared; or its first name that is not
 abbrev pub Resolves : List PlainVariable → Condition → Result Formula Stop → Type 0
 Resolves vs c (Ok f) = (unknown_in vs c ≡ None) × ((values : List ℤ) → formula_holds values f ≡ holds vs values c)
-Resolves vs c (Err (Refused r)) = unknown_in vs c ≡ Some r
-Resolves vs c (Err ReadFault) = ⊥
-Resolves vs c (Err WriteFault) = ⊥
-Resolves vs c (Err OutOfMemory) = ⊤
+Resolves vs c (Err stop) = StopsAt (unknown_in vs c) stop
 
 -- the same of the conditions of a list
 abbrev pub ResolveAll : List PlainVariable → List Condition → Result (List Formula) Stop → Type 0
 ResolveAll vs cs (Ok fs) = (first_unknown vs cs ≡ None) × ((values : List ℤ) → map (formula_holds values) fs ≡ map (holds vs values) cs)
-ResolveAll vs cs (Err (Refused r)) = first_unknown vs cs ≡ Some r
-ResolveAll vs cs (Err ReadFault) = ⊥
-ResolveAll vs cs (Err WriteFault) = ⊥
-ResolveAll vs cs (Err OutOfMemory) = ⊤
+ResolveAll vs cs (Err stop) = StopsAt (first_unknown vs cs) stop

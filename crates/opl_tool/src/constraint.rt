@@ -31,8 +31,8 @@ pub struct Constraint {
 pub enum Formula {
     Compare(Constraint),
     Not(Boxed<Formula>),
-    All(Seq<Formula>),
-    Any(Seq<Formula>),
+    All(Boxed<Formula>, Seq<Formula>),
+    Any(Boxed<Formula>, Seq<Formula>),
     Implies(Boxed<Formula>, Boxed<Formula>),
     Same(Boxed<Formula>, Seq<Formula>),
 }
@@ -86,8 +86,12 @@ fn holds(formula: &Formula, places: &[Place]) -> bool
     match formula {
         Formula::Compare(c) => c.holds(places),
         Formula::Not(f) => !holds(f.get(), places),
-        Formula::All(parts) => all_hold(parts.as_slice(), places),
-        Formula::Any(parts) => some_hold(parts.as_slice(), places),
+        Formula::All(first, rest) => {
+            holds(first.get(), places) && all_hold(rest.as_slice(), places)
+        }
+        Formula::Any(first, rest) => {
+            holds(first.get(), places) || some_hold(rest.as_slice(), places)
+        }
         Formula::Implies(f, g) => !holds(f.get(), places) || holds(g.get(), places),
         Formula::Same(first, rest) => {
             let first = holds(first.get(), places);

@@ -2,17 +2,26 @@
 #![tactic(auto)]
 
 mod answer;
+mod call;
+mod carry_out;
 mod constraint;
+pub mod laws;
+mod line;
 mod names;
 mod place;
 mod print;
 mod problem;
+mod read;
 mod refusal;
 mod resolve;
 mod show;
 mod solve;
 mod stop;
+#[cfg(test)]
+mod tests;
 mod text;
 mod variables;
+mod words;
 
 pub use answer::Answer;
+pub use call::run;

@@ -3,16 +3,16 @@ ghost use Rattle.std.specs.Prelude.{◌≡◌, ◌≤◌, ◌<◌, ◌^◌, All,
 ghost use Rattle.opl_outside.specs.Becomes.{Becomes};
 ghost use Rattle.opl_outside.specs.Files.{max_bytes};
 ghost use Rattle.opl_plain.specs.Plain.{AreNear};
-ghost use Rattle.opl_tool.specs.Judged.{Held, Scanned, Parsed, Plain, Read};
+ghost use Rattle.opl_tool.specs.Judged.{Held, Scanned, Parsed, Plain, Understood, Read};
 ghost use Rattle.opl_tool.specs.Stage.{Gives, GivesRead, CountsRead};
 
 use crate::refusal::Refusal;
 use crate::stop::Stop;
 use opl_outside::{Found, OutsideError, Shelf};
-use opl_plain::{PlainFault, PlainModel, plain_model};
 use opl_parse::parse_model;
-use opl_tree::{ModelTree, SyntaxFault};
+use opl_plain::{PlainFault, PlainModel, plain_model};
 use opl_token::{ScanFault, Seq, Token, scan};
+use opl_tree::{ModelTree, SyntaxFault};
 use std::alloc::Global;
 
 /// The bytes of the file of this name.
@@ -71,6 +71,15 @@ fn plain(alloc: Global, tree: &ModelTree) -> Result<PlainModel, Stop>
     }
 }
 
+/// The model of the tokens of a text with `end` bytes, in its plain form.
+fn understand(alloc: Global, tokens: &[Token], end: u32) -> Result<PlainModel, Stop>
+    ensures gives { Gives (Understood tokens.now end) result }
+    ensures near { IfOk result (λ model. All AreNear model.variables) }
+{
+    let tree = tree(alloc, tokens, end)?;
+    plain(alloc, &tree)
+}
+
 /// The model of a text, in its plain form.
 pub fn read(alloc: Global, bytes: &[u8]) -> Result<PlainModel, Stop>
     requires { length bytes.now < 2 ^ 32 }
@@ -78,6 +87,5 @@ pub fn read(alloc: Global, bytes: &[u8]) -> Result<PlainModel, Stop>
     ensures near { IfOk result (λ model. All AreNear model.variables) }
 {
     let tokens = tokens(alloc, bytes)?;
-    let tree = tree(alloc, tokens.as_slice(), bytes.len() as u32)?;
-    plain(alloc, &tree)
+    understand(alloc, tokens.as_slice(), bytes.len() as u32)
 }

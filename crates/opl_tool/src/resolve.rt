@@ -40,7 +40,7 @@ fn comparison(numbers: &Numbers<'_>, found: &Comparison) -> Result<Constraint, R
 
 /// The formula of a comparison.
 fn compare(numbers: &Numbers<'_>, found: &Comparison) -> Result<Formula, Stop>
-    ensures { (vs : List PlainVariable) → AreNumbers vs numbers.now → Resolves vs (Rattle.opl_plain.specs.declared.model.Condition.TheVariants.Compare found.now) result }
+    ensures { (vs : List PlainVariable) → AreNumbers vs numbers.now → Resolves vs (Condition.Compare found.now) result }
 {
     match comparison(numbers, found) {
         Ok(constraint) => Ok(Formula::Compare(constraint)),
@@ -50,11 +50,7 @@ fn compare(numbers: &Numbers<'_>, found: &Comparison) -> Result<Formula, Stop>
 
 /// The formula of a condition, or the refusal at its first name that no variable has.
 #[cycle(resolved)]
-fn formula(
-    alloc: Global,
-    numbers: &Numbers<'_>,
-    condition: &Condition,
-) -> Result<Formula, Stop>
+fn formula(alloc: Global, numbers: &Numbers<'_>, condition: &Condition) -> Result<Formula, Stop>
     ensures { (vs : List PlainVariable) → AreNumbers vs numbers.now → Resolves vs condition.now result }
 {
     match condition {
@@ -63,15 +59,20 @@ fn formula(
             let inner = formula(alloc, numbers, inner.get())?;
             Ok(Formula::Not(Boxed::new(alloc, inner)?))
         }
-        Condition::All(parts) => Ok(Formula::All(formulas(alloc, numbers, parts.as_slice())?)),
-        Condition::Any(parts) => Ok(Formula::Any(formulas(alloc, numbers, parts.as_slice())?)),
+        Condition::All(first, rest) => {
+            let first = formula(alloc, numbers, first.get())?;
+            let rest = formulas(alloc, numbers, rest.as_slice())?;
+            Ok(Formula::All(Boxed::new(alloc, first)?, rest))
+        }
+        Condition::Any(first, rest) => {
+            let first = formula(alloc, numbers, first.get())?;
+            let rest = formulas(alloc, numbers, rest.as_slice())?;
+            Ok(Formula::Any(Boxed::new(alloc, first)?, rest))
+        }
         Condition::Implies(premise, conclusion) => {
             let premise = formula(alloc, numbers, premise.get())?;
             let conclusion = formula(alloc, numbers, conclusion.get())?;
-            Ok(Formula::Implies(
-                Boxed::new(alloc, premise)?,
-                Boxed::new(alloc, conclusion)?,
-            ))
+            Ok(Formula::Implies(Boxed::new(alloc, premise)?, Boxed::new(alloc, conclusion)?))
         }
         Condition::Same(first, rest) => {
             let first = formula(alloc, numbers, first.get())?;

@@ -87,9 +87,89 @@ fn prints_solutions(rt: HostRuntime) -> Result<(), Fail> {
             "Solution 1\nx = -4611686018427387904\nSolutions: 1\nEnd\n",
         ),
     ];
+    all_print(&rt, rt.alloc(), &table)
+}
+
+#[test]
+fn joins_conditions(rt: HostRuntime) -> Result<(), Fail> {
+    let table = [
+        (
+            "var int x in 1..3; solve { not (x = 1 \\/ x = 3); };",
+            Answer::Done,
+            "Solution 1\nx = 2\nSolutions: 1\nEnd\n",
+        ),
+        (
+            "var int x in 1..4; solve { { x > 1; { x < 4 } }; x <> 3; };",
+            Answer::Done,
+            "Solution 1\nx = 2\nSolutions: 1\nEnd\n",
+        ),
+        (
+            "solve { { }; { { }; }; };",
+            Answer::Done,
+            "Solution 1\nSolutions: 1\nEnd\n",
+        ),
+        // `&` joins closer than `\/`, and `not` closer than `&`.
+        (
+            "var int x in 1..3; solve { x = 1 \\/ x = 3 & x <> 1; };",
+            Answer::Done,
+            "Solution 1\nx = 1\nSolution 2\nx = 3\nSolutions: 2\nEnd\n",
+        ),
+        (
+            "var int x in 1..3; solve { (x = 1 \\/ x = 3) & x <> 1; };",
+            Answer::Done,
+            "Solution 1\nx = 3\nSolutions: 1\nEnd\n",
+        ),
+        (
+            "var int x in 1..3; solve { not x = 1 & x <= 2; };",
+            Answer::Done,
+            "Solution 1\nx = 2\nSolutions: 1\nEnd\n",
+        ),
+        (
+            "var int x in 1..2; solve { not not ((x = 1)); };",
+            Answer::Done,
+            "Solution 1\nx = 1\nSolutions: 1\nEnd\n",
+        ),
+        // `a => a => a` is `a => (a => a)`, which always holds.
+        (
+            "var int x in 0..1; solve { x = 1 => x = 1 => x = 1; };",
+            Answer::Done,
+            "Solution 1\nx = 0\nSolution 2\nx = 1\nSolutions: 2\nEnd\n",
+        ),
+        (
+            "var int x in 0..1; solve { (x = 1 => x = 1) => x = 1; };",
+            Answer::Done,
+            "Solution 1\nx = 1\nSolutions: 1\nEnd\n",
+        ),
+        (
+            "var int x in 1..2; solve { x = 1 => 1 = 2; };",
+            Answer::Done,
+            "Solution 1\nx = 2\nSolutions: 1\nEnd\n",
+        ),
+        // `a <=> b <=> c` is `(a <=> b) <=> c`, which holds where one of them does, or all three.
+        (
+            "var int x in 1..4; solve { x = 1 <=> x = 2 <=> x = 3; };",
+            Answer::Done,
+            "Solution 1\nx = 1\nSolution 2\nx = 2\nSolution 3\nx = 3\nSolutions: 3\nEnd\n",
+        ),
+        (
+            "var int x in 0..1; var int y in 0..1; solve { x = 1 <=> y = 1; };",
+            Answer::Done,
+            "Solution 1\nx = 0\ny = 0\nSolution 2\nx = 1\ny = 1\nSolutions: 2\nEnd\n",
+        ),
+        (
+            "var int x in 0..1; solve { x = 0 & x = 1 \\/ 1 > 2; };",
+            Answer::NoSolution,
+            "Solutions: 0\nEnd\n",
+        ),
+    ];
+    all_print(&rt, rt.alloc(), &table)
+}
+
+/// Each text has this answer and prints this, and nothing is put on the sink of errors.
+fn all_print(rt: &impl Abort, alloc: Global, table: &[(&str, Answer, &str)]) -> Result<(), Fail> {
     for (text, answer, shown) in table {
-        let called = call(rt.alloc(), &SOLVE, text.as_bytes(), NONE)?;
-        assert_eq!(rt; called.answer, answer, "{text}");
+        let called = call(alloc, &SOLVE, text.as_bytes(), NONE)?;
+        assert_eq!(rt; called.answer, *answer, "{text}");
         assert_eq!(rt; called.out.as_slice(), shown.as_bytes(), "{text}");
         assert_eq!(rt; called.err.as_slice(), b"".as_slice(), "{text}");
     }
@@ -103,7 +183,10 @@ fn names_the_first_fault(rt: HostRuntime) -> Result<(), Fail> {
             "var int x in 1..2;\nsolve { x + 1 = 2; };",
             "refused: NotYet m.mod 27\n",
         ),
-        ("var int x in 1..2;\nsolve { x = = 2; };", "refused: Syntax m.mod 31\n"),
+        (
+            "var int x in 1..2;\nsolve { x = = 2; };",
+            "refused: Syntax m.mod 31\n",
+        ),
         ("minimize 1 subject to { };", "refused: NotYet m.mod 0\n"),
         ("solve { }; search { };", "refused: NotYet m.mod 11\n"),
         ("solve { x # 1; };", "refused: BadByte m.mod 10\n"),
@@ -125,6 +208,41 @@ fn names_the_first_fault(rt: HostRuntime) -> Result<(), Fail> {
             "refused: NumberTooLarge m.mod 12\n",
         ),
         ("", "refused: Syntax m.mod 0\n"),
+        ("var int x in 1..2;\nsolve {", "refused: Syntax m.mod 26\n"),
+        // What does not run yet comes after the syntax and before names.
+        ("solve { x + 1 = 2 }", "refused: Syntax m.mod 19\n"),
+        (
+            "var int x in 1..2; var int x in 1..2; solve { y = z + 1; };",
+            "refused: NotYet m.mod 50\n",
+        ),
+        (
+            "var int x in 1..2; solve { not (x = 1 & (x) = 2); };",
+            "refused: NotYet m.mod 40\n",
+        ),
+        (
+            "var int x in 1..2; solve { x; };",
+            "refused: NotYet m.mod 27\n",
+        ),
+        ("var int x; solve { };", "refused: NotYet m.mod 0\n"),
+        (
+            "var int x[1..2] in 1..2; solve { };",
+            "refused: NotYet m.mod 9\n",
+        ),
+        ("var T x in 1..2; solve { };", "refused: NotYet m.mod 4\n"),
+        (
+            "var int x in 1..n; solve { };",
+            "refused: NotYet m.mod 16\n",
+        ),
+        ("range R 1..2; solve { };", "refused: NotYet m.mod 0\n"),
+        (
+            "solve { { 1 = 1; forall(i in 1..2) i = i; }; };",
+            "refused: NotYet m.mod 17\n",
+        ),
+        ("solve { x in {1} & y = 2; };", "refused: NotYet m.mod 8\n"),
+        (
+            "var int x in 1..2; solve { x = 1 => not (z = 1) \\/ y = 1; };",
+            "refused: Unknown m.mod 41\n",
+        ),
     ];
     for (text, line) in table {
         let called = call(rt.alloc(), &SOLVE, text.as_bytes(), NONE)?;
@@ -306,6 +424,31 @@ fn bears_hostile_files(rt: HostRuntime) -> Result<(), Fail> {
         "refused: NotYet m.mod 16\n",
     )?;
     Ok(())
+}
+
+/// A model with one comparison in so many brackets.
+fn bracketed(alloc: Global, count: u32) -> Result<String, Fail> {
+    let open = repeated(alloc, "(", count)?;
+    let close = repeated(alloc, ")", count)?;
+    Ok(format!(in alloc; "solve {{ {open}1 = 1{close} }};")?)
+}
+
+#[test]
+fn counts_levels(rt: HostRuntime) -> Result<(), Fail> {
+    let most = bracketed(rt.alloc(), 255)?;
+    is_done(
+        &rt,
+        rt.alloc(),
+        most.as_bytes(),
+        b"Solution 1\nSolutions: 1\nEnd\n",
+    )?;
+    let more = bracketed(rt.alloc(), 256)?;
+    is_refused(
+        &rt,
+        rt.alloc(),
+        more.as_bytes(),
+        "refused: TooDeep m.mod 263\n",
+    )
 }
 
 #[test]
