@@ -1,0 +1,58 @@
+//! Which statements of a search section are sound.
+ghost use Rattle.std.specs.Prelude.{◌≡◌, suc, length, map, nat_lt, true};
+ghost use Rattle.std.specs.List.{list_all};
+ghost use Rattle.opl_expr.specs.Forms.{term};
+ghost use Rattle.opl_expr.specs.Options.{lift1};
+ghost use Rattle.opl_trace.specs.Statements.{statement, statements_of, branches_of};
+ghost use Rattle.opl_sound.specs.Cores.{fits_pair, fits_key, fits_statement, fit_statements, fits_branch, fit_branches};
+
+use crate::{measures, numbers, variables};
+use opl_expr::{Branch, Core, Expr, Step};
+
+/// Whether all numbers are those of variables.
+fn are_variables(core: &Core, variables: &[u32]) -> bool
+    ensures { result ≡ list_all (λ x. nat_lt x (length core.now.sets)) variables.now }
+{
+    for x in variables {
+        if !variables::is_variable(core, *x) {
+            return false;
+        }
+    }
+    true
+}
+
+/// Whether there is a variable behind another.
+fn has_duration(core: &Core, start: u32) -> bool
+    ensures { result ≡ nat_lt (suc start) (length core.now.sets) }
+{
+    start as usize + 1 < core.sets.len()
+}
+
+/// Whether both starts have their durations behind them.
+fn fits_pair(core: &Core, first: u32, second: u32) -> bool
+    ensures { result ≡ fits_pair core.now.sets (first, second) }
+{
+    has_duration(core, first) && has_duration(core, second)
+}
+
+/// Whether all starts have their durations behind them.
+fn fit_pairs(core: &Core, pairs: &[(u32, u32)]) -> bool
+    ensures { result ≡ list_all (fits_pair core.now.sets) pairs.now }
+{
+    for (first, second) in pairs {
+        if !fits_pair(core, *first, *second) {
+            return false;
+        }
+    }
+    true
+}
+
+/// Whether a key is sound, if there is one.
+fn fits_key(core: &Core, key: &Option<Expr>) -> bool
+    ensures { result ≡ fits_key core.now.sets (lift1 (term core.now.tables core.now.resources) key.now) }
+{
+    match key {
+        None => true,
+        Some(key) => numbers::is_there(measures::measure(core, true, key)),
+    }
+}
