@@ -6,3 +6,6 @@ pub mod Rewritten
 pub mod Tells
 pub mod Sound
 pub mod Open
+pub mod StatementForms
+pub mod Cores
+pub mod Within

@@ -8,6 +8,8 @@ use Rattle.opl_expr.specs.Laws.{all_differ}
 use Rattle.opl_expr.specs.Forms.{Term, Fact, terms_of, facts_of}
 use Rattle.opl_expr.specs.Sound.{greatest_abs}
 use Rattle.opl_expr.proofs.Parts.{drop_at, one_less, any_default}
+use Rattle.opl_trace.specs.Statements.{Statement, Branch, statements_of, branches_of}
+use Rattle.opl_sound.specs.Cores.{fits_statement, fit_statements, fits_branch, fit_branches}
 use Rattle.opl_sound.specs.Measures.{measure, measure_all, measure_some, fit_subscripts, fits, all_fit, is_some, added, at_least_one}
 
 pub and_false : (b : Bool) → (b && false) ≡ false
@@ -104,3 +106,24 @@ none_again xs k h e f =
     let x = get_or xs k (pos 0) in
     let i = any_default xs k (pos 0) x h in
     ap all_differ (drop_at xs k x h i) ∙ ap (λ b. not b && all_differ (drop (k + 1) xs)) e ∙ f
+
+-- ---- statements
+
+module _ (sets : List (ℤ × ℤ)) where
+  statements_from : {X : Type 0} (f : X → Statement) (xs : List X) (k : ℕ) → fit_statements sets (statements_of (map f (drop k xs))) ≡ false → fit_statements sets (statements_of (map f xs)) ≡ false
+  statements_from f xs zero e = e
+  statements_from f [] (suc k) e = e
+  statements_from f (x ∷ xs) (suc k) e = ap (λ b. fits_statement sets (f x) && b) (statements_from f xs k e) ∙ and_false (fits_statement sets (f x))
+
+  pub statement_misfits : {X : Type 0} (f : X → Statement) (xs : List X) (k : ℕ) (x : X) → k < length xs → x ≡ get_or xs k x → fits_statement sets (f x) ≡ false → false ≡ fit_statements sets (statements_of (map f xs))
+  statement_misfits f xs k x h i e =
+      sym (statements_from f xs k (ap (λ ys. fit_statements sets (statements_of (map f ys))) (drop_at xs k x h i) ∙ ap (λ b. b && fit_statements sets (statements_of (map f (drop (k + 1) xs)))) e))
+
+  branches_from : {X : Type 0} (f : X → Branch) (xs : List X) (k : ℕ) → fit_branches sets (branches_of (map f (drop k xs))) ≡ false → fit_branches sets (branches_of (map f xs)) ≡ false
+  branches_from f xs zero e = e
+  branches_from f [] (suc k) e = e
+  branches_from f (x ∷ xs) (suc k) e = ap (λ b. fits_branch sets (f x) && b) (branches_from f xs k e) ∙ and_false (fits_branch sets (f x))
+
+  pub branch_misfits : {X : Type 0} (f : X → Branch) (xs : List X) (k : ℕ) (x : X) → k < length xs → x ≡ get_or xs k x → fits_branch sets (f x) ≡ false → false ≡ fit_branches sets (branches_of (map f xs))
+  branch_misfits f xs k x h i e =
+      sym (branches_from f xs k (ap (λ ys. fit_branches sets (branches_of (map f ys))) (drop_at xs k x h i) ∙ ap (λ b. b && fit_branches sets (branches_of (map f (drop (k + 1) xs)))) e))

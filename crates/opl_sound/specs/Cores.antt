@@ -1,19 +1,26 @@
 -- Whether declared sets, statements and whole cores are sound, computed.
-use Rattle.std.specs.Prelude.{ℕ, suc, ◌^◌, Bool, true, false, ◌&&◌, ◌||◌, List, [], ◌∷◌, length, ℤ, int_lt, unsigned_abs, nat_lt, nat_le, Option, Some, None}
+use Rattle.std.specs.Prelude.{ℕ, suc, ◌^◌, max, Bool, true, false, ◌&&◌, List, [], ◌∷◌, length, ℤ, unsigned_abs, nat_lt, nat_le, Option, Some, None}
 use Rattle.std.specs.List.{list_all}
 use Rattle.opl_domain.specs.Span.{span_size}
 use Rattle.opl_domain.specs.Family.{most_values}
-use Rattle.opl_expr.specs.Forms.{Term}
-use Rattle.opl_trace.specs.Statements.{Statement, Statements, Branch, Branches}
+use Rattle.opl_expr.specs.declared.tables.Table.{Table}
+use Rattle.opl_expr.specs.declared.tables.Resource.{Resource}
+use Rattle.opl_expr.specs.declared.search.Branch as code
+use Rattle.opl_expr.specs.declared.search.Step.TheFolds.{fold-Branch}
+use Rattle.opl_expr.specs.declared.model.Core.{Core}
+use Rattle.opl_expr.specs.Forms.{Term, facts_of}
+use Rattle.opl_expr.specs.Solutions.{facts, goal_term}
+use Rattle.opl_trace.specs.Statements.{Statement, Statements, Branch, Branches, step_layer, branch_layer}
 use Rattle.opl_trace.specs.Statements.Statement.{post, block, try, try_all, for_all, select, once, while, decide, generate, rank}
 use Rattle.opl_trace.specs.Statements.Statements.{no_statements, more_statements}
 use Rattle.opl_trace.specs.Statements.Branch.{branch}
 use Rattle.opl_trace.specs.Statements.Branches.{no_branches, more_branches}
-use Rattle.opl_sound.specs.Measures.{is_some, added, measure, fits}
+use Rattle.opl_trace.specs.Marks.{section}
+use Rattle.opl_sound.specs.Measures.{is_some, added, measure, fits, all_fit}
 
 -- the ends are at most 2^62 in absolute value, and there are not too many values between them
 abbrev pub fits_set : ℤ × ℤ → Bool
-fits_set ends = nat_le (unsigned_abs ends.0) (2 ^ 62) && (nat_le (unsigned_abs ends.1) (2 ^ 62) && (int_lt ends.1 ends.0 || nat_le (span_size (record { low = ends.0; high = ends.1 })) most_values))
+fits_set ends = nat_le (unsigned_abs ends.0) (2 ^ 62) && (nat_le (unsigned_abs ends.1) (2 ^ 62) && nat_le (max 1 (span_size (record { low = ends.0; high = ends.1 }))) most_values)
 
 module _ (sets : List (ℤ × ℤ)) where
   -- twice the magnitude of the objective isn't too great
@@ -58,3 +65,14 @@ module _ (sets : List (ℤ × ℤ)) where
   abbrev pub fits_section : Option Statement → Bool
   fits_section None = true
   fits_section (Some s) = fits_statement s
+
+-- the plain data of an element
+module _ (tables : List Table) (resources : List Resource) where
+  unfoldable pub element : code.Branch → Branch
+  element = fold-Branch Statement Branch (step_layer tables resources) (branch_layer tables resources)
+
+-- a core is sound
+abbrev pub fits_core : Core → Bool
+fits_core core =
+    nat_lt (length core.sets) (2 ^ 32)
+    && (list_all fits_set core.sets && (all_fit core.sets false (facts_of (facts core)) && (fits_goal core.sets (goal_term core) && fits_section core.sets (section false core))))

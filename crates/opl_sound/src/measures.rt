@@ -208,7 +208,7 @@ pub fn fits(core: &Core, asks: bool, c: &Cons) -> bool
 
 /// Whether all constraints are sound.
 #[cycle(measures)]
-fn all_fit(core: &Core, asks: bool, parts: &[Cons]) -> bool
+pub fn all_fit(core: &Core, asks: bool, parts: &[Cons]) -> bool
     ensures { result ≡ all_fit core.now.sets asks (facts_of (map (fact core.now.tables core.now.resources) parts.now)) }
 {
     let mut left = parts.len();

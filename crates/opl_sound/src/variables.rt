@@ -22,7 +22,7 @@ fn set_magnitude(lo: i64, hi: i64) -> u128
 }
 
 /// How many numbers are between two ends, and at least 1.
-fn set_size(lo: i64, hi: i64) -> u128
+pub fn set_size(lo: i64, hi: i64) -> u128
     ensures { result ≡ max 1 (span_size (record { low = lo; high = hi })) }
 {
     if lo > hi {
@@ -101,8 +101,5 @@ pub fn fits_capacity(core: &Core, resource: &Resource, time: u128) -> bool
     ensures { result ≡ fits_capacity core.now.sets time resource.now }
 {
     let demands = measure_uses(core, resource.uses.as_slice(), time);
-    numbers::is_there(numbers::added(
-        demands,
-        numbers::small(resource.capacity.unsigned_abs()),
-    ))
+    numbers::is_there(numbers::added(demands, numbers::small(resource.capacity.unsigned_abs())))
 }
