@@ -31,6 +31,41 @@ fn solved(
     searched(alloc, core, budget)
 }
 
+/// The same with an objective, the sum of the first two variables.
+fn optimized(
+    alloc: Global,
+    sets: &[(i64, i64)],
+    texts: &[&str],
+    maximize: bool,
+) -> Result<Option<Seen>, OutOfMemory> {
+    let Some(core) = model(alloc, sets, texts)? else {
+        return Ok(None);
+    };
+    let core = with_goal(alloc, core, maximize, "xy+")?;
+    searched(alloc, core, 1000)
+}
+
+/// The solution of `a[x] = 7` where the cells 5, 7 and 9 of `a` stand at 1, 2 and 3.
+fn seventh(alloc: Global) -> Result<Option<Seen>, OutOfMemory> {
+    let Some(core) = model(alloc, &[(0, 4)], &["xr7="])? else {
+        return Ok(None);
+    };
+    let mut tables = Seq::new(alloc);
+    let cells = [Cell::Const(5), Cell::Const(7), Cell::Const(9)];
+    tables.push(row(alloc, &[1, 2, 3], &cells)?)?;
+    searched(alloc, Some(with_arrays(core, tables, Seq::new(alloc))), 100)
+}
+
+/// Whether the search found these solutions, whose values stand in a row, by so many choices, and ended by a Cut.
+fn is_found(found: &Option<Seen>, values: &[i64], choices: u64, is_cut: bool) -> bool {
+    match found {
+        None => false,
+        Some(found) => {
+            found.values.as_slice() == values && found.choices == choices && found.is_cut == is_cut
+        }
+    }
+}
+
 /// Whichever queens stand in other rows and on no common diagonal.
 const APART: [&str; 18] = [
     "xy!",
@@ -55,17 +90,15 @@ const APART: [&str; 18] = [
 
 #[test]
 fn four_queens(rt: HostRuntime) -> Result<(), Fail> {
-    let sets = [(1, 4), (1, 4), (1, 4), (1, 4)];
     for (budget, choices, is_cut) in [(100, 8, false), (8, 8, false), (7, 7, true)] {
-        let found = solved(rt.alloc(), &sets, &APART, budget)?.ok_or("no sound model")?;
-        assert_eq!(rt;
-            found.values.as_slice(),
-            [2, 4, 1, 3, 3, 1, 4, 2].as_slice(),
-            "with {budget}"
-        );
-        assert_eq!(rt;
-            (found.choices, found.is_cut),
-            (choices, is_cut),
+        let found = solved(
+            rt.alloc(),
+            &[(1, 4), (1, 4), (1, 4), (1, 4)],
+            &APART,
+            budget,
+        )?;
+        assert!(rt;
+            is_found(&found, &[2, 4, 1, 3, 3, 1, 4, 2], choices, is_cut),
             "with {budget}"
         );
     }
@@ -73,111 +106,92 @@ fn four_queens(rt: HostRuntime) -> Result<(), Fail> {
 }
 
 /// Each place of a series tells how often it stands in the series.
+const COUNTS: [&str; 4] = [
+    "xx0=ty0=tz0=tw0=t4S=",
+    "yx1=ty1=tz1=tw1=t4S=",
+    "zx2=ty2=tz2=tw2=t4S=",
+    "wx3=ty3=tz3=tw3=t4S=",
+];
+
 #[test]
 fn magic_series(rt: HostRuntime) -> Result<(), Fail> {
-    let counts = [
-        "xx0=ty0=tz0=tw0=t4S=",
-        "yx1=ty1=tz1=tw1=t4S=",
-        "zx2=ty2=tz2=tw2=t4S=",
-        "wx3=ty3=tz3=tw3=t4S=",
-    ];
-    let found = solved(rt.alloc(), &[(0, 4), (0, 4), (0, 4), (0, 4)], &counts, 1000)?.ok_or(
-        "no sound model",
-    )?;
-    assert_eq!(rt;
-        found.values.as_slice(),
-        [1, 2, 1, 0, 2, 0, 2, 0].as_slice()
-    );
-    assert!(rt; !found.is_cut);
+    match solved(rt.alloc(), &[(0, 4), (0, 4), (0, 4), (0, 4)], &COUNTS, 1000)? {
+        None => panic!(rt; "no sound model"),
+        Some(found) => {
+            assert_eq!(rt;
+                found.values.as_slice(),
+                [1, 2, 1, 0, 2, 0, 2, 0].as_slice()
+            );
+            assert!(rt; !found.is_cut);
+        }
+    }
     Ok(())
 }
 
 /// Each solution is better than those before, and alternatives that the bound fails make their choices.
 #[test]
 fn improving_solutions(rt: HostRuntime) -> Result<(), Fail> {
-    let core = model(rt.alloc(), &[(0, 3), (0, 3)], &["xy+3l"])?.ok_or("a text")?;
-    let core = with_goal(rt.alloc(), core, true, "xy+")?;
-    let found = searched(rt.alloc(), core, 100)?.ok_or("no sound model")?;
-    assert_eq!(rt;
-        found.values.as_slice(),
-        [0, 0, 0, 1, 0, 2, 0, 3].as_slice()
-    );
-    assert_eq!(rt; (found.choices, found.is_cut), (8, false));
-    Ok(())
-}
-
-/// The least value comes first, so that the bound fails the others.
-#[test]
-fn least_first(rt: HostRuntime) -> Result<(), Fail> {
-    let core = model(rt.alloc(), &[(0, 3), (0, 3)], &["xy+2g"])?.ok_or("a text")?;
-    let core = with_goal(rt.alloc(), core, false, "xy+")?;
-    let found = searched(rt.alloc(), core, 100)?.ok_or("no sound model")?;
-    assert_eq!(rt; found.values.as_slice(), [0, 2].as_slice());
-    assert!(rt; !found.is_cut);
+    let found = optimized(rt.alloc(), &[(0, 3), (0, 3)], &["xy+3l"], true)?;
+    assert!(rt; is_found(&found, &[0, 0, 0, 1, 0, 2, 0, 3], 8, false));
+    // The first is the best one: 2 choices lead to it, and 1 more of y and 3 more of x fail.
+    let found = optimized(rt.alloc(), &[(0, 3), (0, 3)], &["xy+2g"], false)?;
+    assert!(rt; is_found(&found, &[0, 2], 6, false));
     Ok(())
 }
 
 /// `6 div x` is undefined at 0, even beside a constraint that holds.
 #[test]
 fn strict_undefinedness(rt: HostRuntime) -> Result<(), Fail> {
-    let found = solved(rt.alloc(), &[(0, 3)], &["x0=6x/3=v"], 100)?.ok_or("no sound model")?;
-    assert_eq!(rt; found.values.as_slice(), [2].as_slice());
-    assert_eq!(rt; (found.choices, found.is_cut), (0, false));
+    let found = solved(rt.alloc(), &[(0, 3)], &["x0=6x/3=v"], 100)?;
+    assert!(rt; is_found(&found, &[2], 0, false));
     Ok(())
 }
 
-/// A model with one variable, with and without values, or with none.
 #[test]
-fn smallest_models(rt: HostRuntime) -> Result<(), Fail> {
-    let one = solved(rt.alloc(), &[(1, 2)], &["x1!"], 100)?.ok_or("no sound model")?;
-    assert_eq!(rt; one.values.as_slice(), [2].as_slice());
-    assert_eq!(rt; (one.choices, one.is_cut), (0, false));
-    let three = solved(rt.alloc(), &[(1, 3)], &[], 100)?.ok_or("no sound model")?;
-    assert_eq!(rt; three.values.as_slice(), [1, 2, 3].as_slice());
-    assert_eq!(rt; (three.choices, three.is_cut), (3, false));
-    let two = solved(rt.alloc(), &[(1, 3)], &["x1!"], 100)?.ok_or("no sound model")?;
-    assert_eq!(rt; two.values.as_slice(), [2, 3].as_slice());
-    assert_eq!(rt; (two.choices, two.is_cut), (2, false));
-    let empty = solved(rt.alloc(), &[(1, 2), (2, 1)], &[], 100)?.ok_or("no sound model")?;
-    assert!(rt; empty.values.is_empty() && empty.choices == 0 && !empty.is_cut);
-    let wrong = solved(rt.alloc(), &[], &["12="], 100)?.ok_or("no sound model")?;
-    assert!(rt; wrong.values.is_empty() && wrong.choices == 0 && !wrong.is_cut);
+fn one_variable(rt: HostRuntime) -> Result<(), Fail> {
+    let found = solved(rt.alloc(), &[(1, 2)], &["x1!"], 100)?;
+    assert!(rt; is_found(&found, &[2], 0, false));
+    let found = solved(rt.alloc(), &[(1, 3)], &[], 100)?;
+    assert!(rt; is_found(&found, &[1, 2, 3], 3, false));
+    let found = solved(rt.alloc(), &[(1, 3)], &["x1!"], 100)?;
+    assert!(rt; is_found(&found, &[2, 3], 2, false));
+    Ok(())
+}
+
+/// An empty declared set, or a false constraint without variables.
+#[test]
+fn no_solution(rt: HostRuntime) -> Result<(), Fail> {
+    let found = solved(rt.alloc(), &[(1, 2), (2, 1)], &[], 100)?;
+    assert!(rt; is_found(&found, &[], 0, false));
+    let found = solved(rt.alloc(), &[], &["12="], 100)?;
+    assert!(rt; is_found(&found, &[], 0, false));
     Ok(())
 }
 
 /// Without variables there is one solution, with no values.
 #[test]
 fn no_variables(rt: HostRuntime) -> Result<(), Fail> {
-    let core = model(rt.alloc(), &[], &[])?.ok_or("a text")?;
-    assert!(rt; is_sound(&core));
-    let marks = default_marks(rt.alloc(), &CoreRanges, &core, 0)?;
-    assert_eq!(rt; marks.len(), 1);
+    match model(rt.alloc(), &[], &[])? {
+        None => panic!(rt; "a text"),
+        Some(core) => {
+            assert!(rt; is_sound(&core));
+            assert_eq!(rt; default_marks(rt.alloc(), &CoreRanges, &core, 0)?.len(), 1);
+        }
+    }
     Ok(())
 }
 
 /// The first and the last variable differ, in the order of the variables.
 #[test]
 fn declared_order(rt: HostRuntime) -> Result<(), Fail> {
-    let sets = [(1, 2), (1, 2), (1, 2)];
-    let found = solved(rt.alloc(), &sets, &["xz!"], 100)?.ok_or("no sound model")?;
-    assert_eq!(rt;
-        found.values.as_slice(),
-        [1, 1, 2, 1, 2, 2, 2, 1, 1, 2, 2, 1].as_slice()
-    );
-    assert_eq!(rt; (found.choices, found.is_cut), (6, false));
+    let found = solved(rt.alloc(), &[(1, 2), (1, 2), (1, 2)], &["xz!"], 100)?;
+    assert!(rt; is_found(&found, &[1, 1, 2, 1, 2, 2, 2, 1, 1, 2, 2, 1], 6, false));
     Ok(())
 }
 
-/// The cells 5, 7 and 9 at 1, 2 and 3, by a subscript that has a variable.
 #[test]
 fn subscripts(rt: HostRuntime) -> Result<(), Fail> {
-    let core = model(rt.alloc(), &[(0, 4)], &["xr7="])?.ok_or("a text")?;
-    let mut tables = Seq::new(rt.alloc());
-    let cells = [Cell::Const(5), Cell::Const(7), Cell::Const(9)];
-    tables.push(row(rt.alloc(), &[1, 2, 3], &cells)?)?;
-    let core = with_arrays(core, tables, Seq::new(rt.alloc()));
-    let found = searched(rt.alloc(), Some(core), 100)?.ok_or("no sound model")?;
-    assert_eq!(rt; found.values.as_slice(), [2].as_slice());
-    assert_eq!(rt; (found.choices, found.is_cut), (0, false));
+    let found = seventh(rt.alloc())?;
+    assert!(rt; is_found(&found, &[2], 0, false));
     Ok(())
 }

@@ -13,3 +13,7 @@ mod ranges;
 mod reader;
 #[cfg(test)]
 mod seen;
+#[cfg(test)]
+mod sound;
+#[cfg(test)]
+mod values;

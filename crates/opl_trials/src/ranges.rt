@@ -21,7 +21,7 @@ fn ends(a: Option<Interval>) -> Option<(i128, i128)> {
 /// The model of the six variables. Its constraints take the values out that are not in the sets. Table 0 has the cells
 /// 10, y and 30 at 1, 2 and 3, table 1 the cells 1, 2 and 3, 4 in two rows. Of resource 0, with capacity 2, a use of 2
 /// starts at 0, another one at b; each lasts w.
-fn six(alloc: Global) -> Result<Option<Core>, OutOfMemory> {
+pub fn six(alloc: Global) -> Result<Option<Core>, OutOfMemory> {
     let sets = [(1, 4), (-1, 3), (0, 0), (2, 3), (0, 1), (0, 0)];
     let Some(core) = model(alloc, &sets, &["x3!", "y1!", "y2!"])? else {
         return Ok(None);
