@@ -1,0 +1,41 @@
+use Rattle.std.proofs.Common.{◌≡◌, ◌-◌, ap, sym, ◌∙◌, map, arith, rules, length}
+use Rattle.std.specs.Prelude.{slice_get, Some, unsigned_abs, FitsSigned}
+use mir.Syntax.{w64}
+use Rattle.std.proofs.lemmas.Int.{to_z-of_z}
+use Rattle.opl_expr.specs.Forms.{Fact, term, fact, facts_of, all_different, capacity_at}
+use Rattle.opl_expr.specs.Sound.{greatest_abs}
+use Rattle.opl_expr.proofs.Plain.{fact_AllDifferent, fact_Capacity}
+use Rattle.opl_sound.specs.Measures.{measure, measure_pairs, fits, is_some, added, at_least_one, fits_capacity}
+use Rattle.opl_sound.proofs.Lists.{one_misfits, other_lengths, subscript_misfits, some_greatest}
+use Rattle.opl_sound.proofs.Rewritten.{pairs_are, capacity_is}
+use Rattle.opl_sound.proofs.measures.+measures.Goals as goal
+
+pub all_fit-returns-then-not-fits : goal.all_fit-returns-then-not-fits
+all_fit-returns-then-not-fits t c =
+    one_misfits c.args.core.now.sets c.args.asks (fact c.args.core.now.tables c.args.core.now.resources) c.args.parts.now (c.loop-left.left - 1) c.index-parts-left.result (omega (arith, c.loop-left-test.true, c.loop-left.invariant.0)) c.index-parts-left.is (sym c.fits.ensures ∙ c.if-not-fits.true)
+
+pub fit_subscripts-returns-then-dims-parts : goal.fit_subscripts-returns-then-dims-parts
+fit_subscripts-returns-then-dims-parts t c = other_lengths c.args.core.now.sets c.args.asks (term c.args.core.now.tables c.args.core.now.resources) c.args.dims.now c.args.parts.now c.if-dims-parts.true
+
+pub fit_subscripts-returns-then-not-is_there : goal.fit_subscripts-returns-then-not-is_there
+fit_subscripts-returns-then-not-is_there t c =
+    subscript_misfits c.args.core.now.sets c.args.asks (term c.args.core.now.tables c.args.core.now.resources) c.args.dims.now c.args.parts.now (c.loop-left.left - 1) c.index-dims-left.result c.index-parts-left.result (omega (arith, c.if-dims-parts.false)) (omega (arith, c.loop-left-test.true, c.loop-left.invariant.0)) c.index-dims-left.is c.index-parts-left.is
+    (ap (λ z. is_some (added (measure c.args.core.now.sets c.args.asks ((term c.args.core.now.tables c.args.core.now.resources) c.index-parts-left.result)) (Some z))) (sym (c.greatest_abs-greatest.ensures ∙ ap greatest_abs c.as_slice.ensures)) ∙ ap (λ z. is_some (added z (Some c.greatest_abs-greatest.result))) (sym c.measure.ensures) ∙ ap is_some (sym c.added-both.ensures) ∙ sym c.is_there.ensures ∙ c.if-not-is_there.true)
+
+pub fits-returns-in-AllDifferent : goal.fits-returns-in-AllDifferent
+fits-returns-in-AllDifferent t c =
+    c.is_there-in-AllDifferent.ensures ∙ ap is_some c.pairs.ensures ∙ ap (λ es. is_some (measure_pairs c.args.core.now.sets c.args.asks (map (term c.args.core.now.tables c.args.core.now.resources) es))) c.as_slice-in-AllDifferent.ensures
+    ∙ sym (pairs_are c.args.core.now.sets c.args.asks (map (term c.args.core.now.tables c.args.core.now.resources) c.in-AllDifferent.parts))
+    ∙ sym (ap (λ z. fits c.args.core.now.sets c.args.asks ((fact c.args.core.now.tables c.args.core.now.resources) z)) c.in-AllDifferent.is ∙ ap (fits c.args.core.now.sets c.args.asks) (fact_AllDifferent c.args.core.now.tables c.args.core.now.resources c.in-AllDifferent.parts))
+
+pub fits-returns-in-Some : goal.fits-returns-in-Some
+fits-returns-in-Some t c =
+    let sets = c.args.core.now.sets in
+    let time = c.in-Capacity.time in
+    let same : FitsSigned w64 time = search rules in
+    c.fits_capacity.ensures ∙ ap (λ n. fits_capacity sets n c.in-Some.r.now) (c.unsigned_abs.ensures.value ∙ ap unsigned_abs (to_z-of_z w64 time same))
+    ∙ sym (capacity_is sets c.args.asks c.in-Some.r.now time) ∙ ap (λ o. fits sets c.args.asks (capacity_at o time)) c.in-Some.ensures.value
+    ∙ sym (ap (λ z. fits sets c.args.asks ((fact c.args.core.now.tables c.args.core.now.resources) z)) c.in-Capacity.is ∙ ap (fits sets c.args.asks) (fact_Capacity c.args.core.now.tables c.args.core.now.resources c.in-Capacity.resource time))
+
+pub greatest_of_some-returns : goal.greatest_of_some-returns
+greatest_of_some-returns t c = let h = c.if-is_empty.false in let i = c.is_empty.ensures in c.at_least_one.ensures ∙ ap at_least_one c.greatest.ensures ∙ some_greatest c.args.core.now.sets c.args.asks (term c.args.core.now.tables c.args.core.now.resources) c.args.parts.now (search (rules, arith))

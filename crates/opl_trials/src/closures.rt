@@ -1,0 +1,95 @@
+//! Closures of small models that were worked out by hand.
+use crate::models::{model, with_goal};
+use opl_domain::{OutOfMemory, View};
+use opl_expr::Core;
+use opl_marks::{CoreRanges, closure_of};
+use opl_sound::{are_sound, can_be_best, is_sound};
+use std::alloc::Global;
+use std::test::Fail;
+
+/// A closure, or why there is none.
+#[derive(Debug, Drop)]
+enum Closure {
+    /// For each variable the ends of its set and the number of its values.
+    Sets(Vec<(i64, i64, u32)>),
+    Failed,
+    /// There is no model, it isn't sound, or the best value is none of the objective.
+    NotAsked,
+}
+
+/// The closure of a model.
+fn closed(alloc: Global, core: Option<Core>, best: Option<i128>) -> Result<Closure, OutOfMemory> {
+    let Some(core) = core else {
+        return Ok(Closure::NotAsked);
+    };
+    let constraints = core.cons.as_slice();
+    if !is_sound(&core) || !are_sound(&core, constraints) || !can_be_best(&core, best) {
+        return Ok(Closure::NotAsked);
+    }
+    let Some(sets) = closure_of(alloc, &CoreRanges, &core, constraints, best)? else {
+        return Ok(Closure::Failed);
+    };
+    let mut ends = Vec::new(alloc);
+    for x in 0..sets.vars() {
+        ends.push((sets.min(x), sets.max(x), sets.size(x)))?;
+    }
+    Ok(Closure::Sets(ends))
+}
+
+/// The closure of constraints over declared sets.
+fn of(alloc: Global, sets: &[(i64, i64)], texts: &[&str]) -> Result<Closure, OutOfMemory> {
+    let core = model(alloc, sets, texts)?;
+    closed(alloc, core, None)
+}
+
+/// The closure of maximizing the sum of two numbers up to 3, where it must be better than `best`.
+fn better(alloc: Global, best: i128) -> Result<Closure, OutOfMemory> {
+    let Some(core) = model(alloc, &[(0, 3), (0, 3)], &[])? else {
+        return Ok(Closure::NotAsked);
+    };
+    let core = with_goal(alloc, core, true, "xy+")?;
+    closed(alloc, core, Some(best))
+}
+
+fn is_made_of(closure: &Closure, want: &[(i64, i64, u32)]) -> bool {
+    match closure {
+        Closure::Sets(ends) => ends.as_slice() == want,
+        _ => false,
+    }
+}
+
+/// `x < y` and `y < z` leave 0..1, 1..2 and 2..3.
+#[test]
+fn chains(rt: HostRuntime) -> Result<(), Fail> {
+    let found = of(rt.alloc(), &[(0, 3), (0, 3), (0, 3)], &["xy<", "yz<"])?;
+    assert!(rt; is_made_of(&found, &[(0, 1, 2), (1, 2, 2), (2, 3, 2)]));
+    Ok(())
+}
+
+/// `x = y` goes by values: what one can't be, the other can't either.
+#[test]
+fn holes(rt: HostRuntime) -> Result<(), Fail> {
+    let found = of(rt.alloc(), &[(0, 4), (1, 5)], &["x3!", "y2!", "xy="])?;
+    assert!(rt; is_made_of(&found, &[(1, 4, 2), (1, 4, 2)]));
+    Ok(())
+}
+
+/// Nothing is better than 6, and no value of the objective is 7.
+#[test]
+fn bounds(rt: HostRuntime) -> Result<(), Fail> {
+    let found = better(rt.alloc(), 3)?;
+    assert!(rt; is_made_of(&found, &[(1, 3, 3), (1, 3, 3)]));
+    assert!(rt; matches!(better(rt.alloc(), 6)?, Closure::Failed));
+    assert!(rt; matches!(better(rt.alloc(), 7)?, Closure::NotAsked));
+    Ok(())
+}
+
+/// Three numbers of two values can't differ, but each two can: so no value goes.
+#[test]
+fn failures(rt: HostRuntime) -> Result<(), Fail> {
+    let apart = of(rt.alloc(), &[(1, 2), (3, 4)], &["xy="])?;
+    assert!(rt; matches!(&apart, Closure::Failed));
+    let three = of(rt.alloc(), &[(1, 2), (1, 2), (1, 2)], &["xyz3D"])?;
+    assert!(rt; is_made_of(&three, &[(1, 2, 2), (1, 2, 2), (1, 2, 2)]));
+    Ok(())
+}
