@@ -121,9 +121,9 @@ no_syntax_fault tokens end t e p (inr q) = let deep : 256 < depth_model t = deep
 
 syntax_faults : (tokens : List Token) (end : ℕ) (e f : Refusal) → IsSyntaxFault tokens end e → IsSyntaxFault tokens end f → SameOutcome {A = ModelTree} (Err e) (Err f)
 syntax_faults tokens end e f (inl p) (inl q) = inl (ap Err (p.1 ∙ (ap Syntax (one_stop tokens end p.0 q.0 p.2 q.2) ∙ sym q.1)))
-syntax_faults tokens end e f (inl p) (inr q) = rw (p.1, q.1) (inr (tt, tt))
-syntax_faults tokens end e f (inr p) (inl q) = rw (p.1, q.1) (inr (tt, tt))
-syntax_faults tokens end e f (inr p) (inr q) = rw (p.1, q.1) (inr (tt, tt))
+syntax_faults tokens end e f (inl p) (inr q) = rw (p.1, q.1) (inr tt)
+syntax_faults tokens end e f (inr p) (inl q) = rw (p.1, q.1) (inr tt)
+syntax_faults tokens end e f (inr p) (inr q) = rw (p.1, q.1) (inr tt)
 
 parsed_one : (tokens : List Token) (end : ℕ) → IsOne (Parsed tokens end)
 parsed_one tokens end (Ok t) (Ok u) p q = inl (ap Ok (one_tree tokens end t u p.0 q.0))

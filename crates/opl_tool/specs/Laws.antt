@@ -35,15 +35,16 @@ SolutionsAre = (m : PlainModel) (values : List ℤ) → IsAmong values (solution
 abbrev pub InOrder : Type 0
 InOrder = (m : PlainModel) → AllPairs Precedes (solutions m)
 
--- the tokens of the file are no model that nests at most 256 levels
-abbrev pub IsSyntax : Refusal → Type 0
-IsSyntax (Syntax at) = Unit {0}
-IsSyntax (TooDeep at) = Unit {0}
-IsSyntax _ = ⊥
+-- two refusals, one of which at least is at a level too many, and the other then at the syntax or at such a level
+abbrev pub MayDiffer : Refusal → Refusal → Type 0
+MayDiffer (Syntax at) (TooDeep other) = Unit {0}
+MayDiffer (TooDeep at) (Syntax other) = Unit {0}
+MayDiffer (TooDeep at) (TooDeep other) = Unit {0}
+MayDiffer _ _ = ⊥
 
--- both outcomes are refusals at the file's syntax
+-- both outcomes are such refusals
 abbrev pub AreSyntax : {A : Type 0} → Result A Refusal → Result A Refusal → Type 0
-AreSyntax (Err e) (Err f) = IsSyntax e × IsSyntax f
+AreSyntax (Err e) (Err f) = MayDiffer e f
 AreSyntax _ _ = ⊥
 
 -- The outcomes are the same; but where tokens both stop being the beginning of a model and open a level too many, it is

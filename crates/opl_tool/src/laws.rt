@@ -13,7 +13,8 @@ pub fn solutions_are()
     ensures { SolutionsAre }
 {}
 
-/// Whatever the words and the files are, they come to one outcome: a model that is accepted, or a first fault.
+/// Whatever the words and the files are, they come to one outcome: a model that is accepted, or a first fault. Only where
+/// tokens stop being the beginning of a model and open a level too many, either fault may be told.
 pub fn one_outcome()
     ensures { OneOutcome }
 {}
