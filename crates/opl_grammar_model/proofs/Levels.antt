@@ -1,5 +1,5 @@
 -- One level less of items and of statements.
-use Rattle.std.proofs.Common.{◌≡◌, ℕ, suc, ◌-◌, ◌<◌, Ok, Err, refl, ap, ◌∙◌, arith}
+use Rattle.std.proofs.Common.{◌≡◌, ℕ, suc, ◌-◌, ◌<◌, Err, refl, ap, ◌∙◌, arith}
 use Rattle.opl_grammar.specs.Input.{Input, too_deep}
 use Rattle.opl_grammar.specs.Rules.{rules}
 use Rattle.opl_grammar.specs.Items.{item_rules, item_level}

@@ -1,5 +1,5 @@
 -- One level less.
-use Rattle.std.proofs.Common.{◌≡◌, ℕ, zero, suc, ◌-◌, ◌<◌, Ok, Err, refl, ap, ◌∙◌, arith}
+use Rattle.std.proofs.Common.{◌≡◌, ℕ, suc, ◌-◌, ◌<◌, Err, refl, ap, ◌∙◌, arith}
 use Rattle.opl_grammar.specs.Input.{Input, too_deep}
 use Rattle.opl_grammar.specs.Rules.{rules, level}
 use Rattle.opl_phrase.specs.declared.wanted.Wanted.{Wanted}
