@@ -227,7 +227,7 @@ default_is core n =
 -- ---- the constraints that labelling posts
 
 module _ (core : Core) (C : Family) (k : IsSoundCore core) (f : IsFamily C) (b : Below C (declared core)) where
-  magnitude_small : (x : ℕ) → x < length core.sets → var_magnitude core.sets x ≤ 2 ^ 62
+  pub magnitude_small : (x : ℕ) → x < length core.sets → var_magnitude core.sets x ≤ 2 ^ 62
   magnitude_small x h =
       let s = All-get_or IsSoundSet core.sets x (pos 0, pos 0) h k.sets in
       let p = slice_index_or core.sets x (pos 0, pos 0) in

@@ -46,7 +46,7 @@ impl<'a, R: Ranges> Search<'a, R> {
     }
 
     /// The solution at the end.
-    fn leaf(
+    pub fn leaf(
         &self,
         alloc: Global,
         sets: &Sets,

@@ -11,9 +11,11 @@ mod moment;
 mod outcome;
 mod ranges;
 
-pub use answers::{answered, answered_term};
+pub use answers::{answered, answered_term, is_single};
+pub use constraints::{copies, with_value};
 pub use core_ranges::CoreRanges;
 pub use mark::Mark;
-pub use marks::{closure_of, default_marks};
+pub use marks::{base, closure_of, default_marks, variables};
 pub use moment::Search;
+pub use outcome::{Outcome, joined};
 pub use ranges::Ranges;

@@ -16,7 +16,7 @@ use opl_trace::Sets;
 use std::alloc::Global;
 
 /// The numbers of the variables, in their order.
-fn variables(alloc: Global, count: u32) -> Result<Seq<u32>, OutOfMemory>
+pub fn variables(alloc: Global, count: u32) -> Result<Seq<u32>, OutOfMemory>
     ensures { IfOk result (λ xs. xs ≡ numbers_from 0 count) }
 {
     let mut variables = Seq::new(alloc);
@@ -27,7 +27,7 @@ fn variables(alloc: Global, count: u32) -> Result<Seq<u32>, OutOfMemory>
 }
 
 /// The constraints of a core, and the one that asks for a defined objective.
-fn base(alloc: Global, core: &Core) -> Result<Seq<Cons>, OutOfMemory>
+pub fn base(alloc: Global, core: &Core) -> Result<Seq<Cons>, OutOfMemory>
     ensures { IfOk result (λ cs. facts_in core.now cs ≡ base core.now) }
 {
     let mut base = constraints::copies(alloc, core.cons.as_slice())?;

@@ -1,0 +1,10 @@
+pub mod ElementLists
+pub mod Meaning
+pub mod Costs
+pub mod SoundSteps
+pub mod Orders
+pub mod StatementForms
+pub mod Performed
+pub mod Leaves
+pub mod Running
+pub mod WholeSearches
