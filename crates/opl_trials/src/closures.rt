@@ -1,9 +1,10 @@
 //! Closures of small models that were worked out by hand.
-use crate::models::{model, with_goal};
+use crate::models::{model, set_goal};
 use opl_domain::{OutOfMemory, View};
 use opl_expr::Core;
 use opl_marks::{CoreRanges, closure_of};
 use opl_sound::{are_sound, can_be_best, is_sound};
+use opl_trace::Sets;
 use std::alloc::Global;
 use std::test::Fail;
 
@@ -17,38 +18,47 @@ enum Closure {
     NotAsked,
 }
 
-/// The closure of a model.
-fn closed(alloc: Global, core: Option<Core>, best: Option<i128>) -> Result<Closure, OutOfMemory> {
-    let Some(core) = core else {
-        return Ok(Closure::NotAsked);
-    };
-    let constraints = core.cons.as_slice();
-    if !is_sound(&core) || !are_sound(&core, constraints) || !can_be_best(&core, best) {
-        return Ok(Closure::NotAsked);
-    }
-    let Some(sets) = closure_of(alloc, &CoreRanges, &core, constraints, best)? else {
-        return Ok(Closure::Failed);
-    };
+/// For each variable the ends of its set and the number of its values.
+fn ends(alloc: Global, sets: &Sets) -> Result<Vec<(i64, i64, u32)>, OutOfMemory> {
     let mut ends = Vec::new(alloc);
     for x in 0..sets.vars() {
         ends.push((sets.min(x), sets.max(x), sets.size(x)))?;
     }
-    Ok(Closure::Sets(ends))
+    Ok(ends)
+}
+
+/// The closure of a model.
+fn closed(alloc: Global, core: &Core, best: Option<i128>) -> Result<Closure, OutOfMemory> {
+    if !is_sound(core) {
+        return Ok(Closure::NotAsked);
+    }
+    if !are_sound(core, core.cons.as_slice()) || !can_be_best(core, best) {
+        return Ok(Closure::NotAsked);
+    }
+    match closure_of(alloc, &CoreRanges, core, core.cons.as_slice(), best)? {
+        None => Ok(Closure::Failed),
+        Some(sets) => Ok(Closure::Sets(ends(alloc, &sets)?)),
+    }
 }
 
 /// The closure of constraints over declared sets.
 fn of(alloc: Global, sets: &[(i64, i64)], texts: &[&str]) -> Result<Closure, OutOfMemory> {
-    let core = model(alloc, sets, texts)?;
-    closed(alloc, core, None)
+    match model(alloc, sets, texts)? {
+        None => Ok(Closure::NotAsked),
+        Some(core) => closed(alloc, &core, None),
+    }
 }
 
 /// The closure of maximizing the sum of two numbers up to 3, where it must be better than `best`.
 fn better(alloc: Global, best: i128) -> Result<Closure, OutOfMemory> {
-    let Some(core) = model(alloc, &[(0, 3), (0, 3)], &[])? else {
+    let Some(mut core) = model(alloc, &[(0, 3), (0, 3)], &[])? else {
         return Ok(Closure::NotAsked);
     };
-    let core = with_goal(alloc, core, true, "xy+")?;
-    closed(alloc, core, Some(best))
+    if set_goal(alloc, &mut core, true, "xy+")? {
+        closed(alloc, &core, Some(best))
+    } else {
+        Ok(Closure::NotAsked)
+    }
 }
 
 fn is_made_of(closure: &Closure, want: &[(i64, i64, u32)]) -> bool {

@@ -1,22 +1,18 @@
 //! Default search on small models that were worked out by hand.
-use crate::models::{model, row, with_arrays, with_goal};
+use crate::models::{model, row, set_goal};
 use crate::seen::{Seen, read_off};
 use opl_expr::{Cell, Core, OutOfMemory};
-use opl_list::Seq;
 use opl_marks::{CoreRanges, default_marks};
 use opl_sound::is_sound;
 use std::alloc::Global;
 use std::test::Fail;
 
-/// What default search of a model makes with a budget; none where there is no model, or none that is sound.
-fn searched(alloc: Global, core: Option<Core>, budget: u64) -> Result<Option<Seen>, OutOfMemory> {
-    let Some(core) = core else {
-        return Ok(None);
-    };
-    if !is_sound(&core) {
+/// What default search of a model makes with a budget; none where the model isn't sound.
+fn searched(alloc: Global, core: &Core, budget: u64) -> Result<Option<Seen>, OutOfMemory> {
+    if !is_sound(core) {
         return Ok(None);
     }
-    let marks = default_marks(alloc, &CoreRanges, &core, budget)?;
+    let marks = default_marks(alloc, &CoreRanges, core, budget)?;
     Ok(Some(read_off(alloc, marks.as_slice())?))
 }
 
@@ -27,8 +23,10 @@ fn solved(
     texts: &[&str],
     budget: u64,
 ) -> Result<Option<Seen>, OutOfMemory> {
-    let core = model(alloc, sets, texts)?;
-    searched(alloc, core, budget)
+    match model(alloc, sets, texts)? {
+        None => Ok(None),
+        Some(core) => searched(alloc, &core, budget),
+    }
 }
 
 /// The same with an objective, the sum of the first two variables.
@@ -38,22 +36,24 @@ fn optimized(
     texts: &[&str],
     maximize: bool,
 ) -> Result<Option<Seen>, OutOfMemory> {
-    let Some(core) = model(alloc, sets, texts)? else {
+    let Some(mut core) = model(alloc, sets, texts)? else {
         return Ok(None);
     };
-    let core = with_goal(alloc, core, maximize, "xy+")?;
-    searched(alloc, core, 1000)
+    if set_goal(alloc, &mut core, maximize, "xy+")? {
+        searched(alloc, &core, 1000)
+    } else {
+        Ok(None)
+    }
 }
 
 /// The solution of `a[x] = 7` where the cells 5, 7 and 9 of `a` stand at 1, 2 and 3.
 fn seventh(alloc: Global) -> Result<Option<Seen>, OutOfMemory> {
-    let Some(core) = model(alloc, &[(0, 4)], &["xr7="])? else {
+    let Some(mut core) = model(alloc, &[(0, 4)], &["xr7="])? else {
         return Ok(None);
     };
-    let mut tables = Seq::new(alloc);
     let cells = [Cell::Const(5), Cell::Const(7), Cell::Const(9)];
-    tables.push(row(alloc, &[1, 2, 3], &cells)?)?;
-    searched(alloc, Some(with_arrays(core, tables, Seq::new(alloc))), 100)
+    core.tables.push(row(alloc, &[1, 2, 3], &cells)?)?;
+    searched(alloc, &core, 100)
 }
 
 /// Whether the search found these solutions, whose values stand in a row, by so many choices, and ended by a Cut.

@@ -1,15 +1,11 @@
 //! Ground models, made of short texts.
 use crate::reader::{constraint, expression};
-use opl_expr::{Cell, Core, Goal, OutOfMemory, Resource, Table, Use};
+use opl_expr::{Cell, Cons, Core, Goal, OutOfMemory, Resource, Table, Use};
 use opl_list::Seq;
 use std::alloc::Global;
 
-/// A model with these declared sets and constraints; none where a text is no constraint.
-pub fn model(
-    alloc: Global,
-    sets: &[(i64, i64)],
-    texts: &[&str],
-) -> Result<Option<Core>, OutOfMemory> {
+/// The constraints of texts; none where one is no constraint.
+fn constraints(alloc: Global, texts: &[&str]) -> Result<Option<Seq<Cons>>, OutOfMemory> {
     let mut cons = Seq::new(alloc);
     for text in texts {
         match constraint(alloc, text)? {
@@ -17,65 +13,48 @@ pub fn model(
             Some(c) => cons.push(c)?,
         }
     }
-    Ok(Some(Core {
+    Ok(Some(cons))
+}
+
+/// A model with these declared sets and constraints.
+fn made(alloc: Global, sets: Seq<(i64, i64)>, cons: Seq<Cons>) -> Core {
+    Core {
         names: Seq::new(alloc),
-        sets: Seq::from_slice(alloc, sets)?,
+        sets,
         tables: Seq::new(alloc),
         resources: Seq::new(alloc),
         cons,
         goal: None,
         search: None,
-    }))
+    }
 }
 
-/// The same with an objective.
-pub fn with_goal(
+/// A model with these declared sets and constraints; none where a text is no constraint.
+pub fn model(
     alloc: Global,
-    core: Core,
+    sets: &[(i64, i64)],
+    texts: &[&str],
+) -> Result<Option<Core>, OutOfMemory> {
+    let sets = Seq::from_slice(alloc, sets)?;
+    match constraints(alloc, texts)? {
+        None => Ok(None),
+        Some(cons) => Ok(Some(made(alloc, sets, cons))),
+    }
+}
+
+/// Gives a model an objective; false where the text is no expression.
+pub fn set_goal(
+    alloc: Global,
+    core: &mut Core,
     maximize: bool,
     text: &str,
-) -> Result<Option<Core>, OutOfMemory> {
-    let Some(value) = expression(alloc, text)? else {
-        return Ok(None);
-    };
-    let Core {
-        names,
-        sets,
-        tables,
-        resources,
-        cons,
-        search,
-        ..
-    } = core;
-    Ok(Some(Core {
-        names,
-        sets,
-        tables,
-        resources,
-        cons,
-        goal: Some(Goal { maximize, value }),
-        search,
-    }))
-}
-
-/// The same with tables and resources.
-pub fn with_arrays(core: Core, tables: Seq<Table>, resources: Seq<Resource>) -> Core {
-    let Core {
-        names,
-        sets,
-        cons,
-        goal,
-        search,
-        ..
-    } = core;
-    Core {
-        names,
-        sets,
-        tables,
-        resources,
-        cons,
-        goal,
-        search,
+) -> Result<bool, OutOfMemory> {
+    match expression(alloc, text)? {
+        None => Ok(false),
+        Some(value) => {
+            core.goal = Some(Goal { maximize, value });
+            Ok(true)
+        }
     }
 }
 

@@ -1,10 +1,9 @@
 //! Ranges worked out by hand, row by row, over the sets x in {1, 2, 4}, y in {-1, 0, 3}, z and u in {0}, w in {2, 3} and
 //! b in {0, 1}.
-use crate::models::{model, resource, row, square, with_arrays};
+use crate::models::{model, resource, row, square};
 use crate::reader::{constraint, expression};
 use opl_domain::{Interval, View};
 use opl_expr::{Cell, Core, OutOfMemory, Use};
-use opl_list::Seq;
 use opl_marks::{CoreRanges, closure_of};
 use opl_range::{cons_range, range, refuted};
 use opl_sound::{are_sound, is_sound, is_sound_constraint, is_sound_expression, is_within};
@@ -23,26 +22,28 @@ fn ends(a: Option<Interval>) -> Option<(i128, i128)> {
 /// starts at 0, another one at b; each lasts w.
 pub fn six(alloc: Global) -> Result<Option<Core>, OutOfMemory> {
     let sets = [(1, 4), (-1, 3), (0, 0), (2, 3), (0, 1), (0, 0)];
-    let Some(core) = model(alloc, &sets, &["x3!", "y1!", "y2!"])? else {
+    let Some(mut core) = model(alloc, &sets, &["x3!", "y1!", "y2!"])? else {
         return Ok(None);
     };
-    let mut tables = Seq::new(alloc);
-    tables.push(row(
-        alloc,
-        &[1, 2, 3],
-        &[Cell::Const(10), Cell::Var(1), Cell::Const(30)],
-    )?)?;
-    tables.push(square(
-        alloc,
-        &[0, 1],
-        &[
-            Cell::Const(1),
-            Cell::Const(2),
-            Cell::Const(3),
-            Cell::Const(4),
-        ],
-    )?)?;
-    let mut resources = Seq::new(alloc);
+    add_tables(alloc, &mut core)?;
+    add_resource(alloc, &mut core)?;
+    Ok(Some(core))
+}
+
+fn add_tables(alloc: Global, core: &mut Core) -> Result<(), OutOfMemory> {
+    let cells = [Cell::Const(10), Cell::Var(1), Cell::Const(30)];
+    core.tables.push(row(alloc, &[1, 2, 3], &cells)?)?;
+    let cells = [
+        Cell::Const(1),
+        Cell::Const(2),
+        Cell::Const(3),
+        Cell::Const(4),
+    ];
+    core.tables.push(square(alloc, &[0, 1], &cells)?)?;
+    Ok(())
+}
+
+fn add_resource(alloc: Global, core: &mut Core) -> Result<(), OutOfMemory> {
     let uses = [
         Use {
             demand: 2,
@@ -55,8 +56,8 @@ pub fn six(alloc: Global) -> Result<Option<Core>, OutOfMemory> {
             duration: 3,
         },
     ];
-    resources.push(resource(alloc, 2, &uses)?)?;
-    Ok(Some(with_arrays(core, tables, resources)))
+    core.resources.push(resource(alloc, 2, &uses)?)?;
+    Ok(())
 }
 
 /// The sets that the constraints of a sound model leave.

@@ -131,9 +131,9 @@ impl Reader {
     }
 
     /// A cell of a table.
-    fn cell(&mut self, table: u32) -> Result<bool, OutOfMemory> {
+    fn cell(&mut self, table: u32, dimensions: usize) -> Result<bool, OutOfMemory> {
         let mut subscripts = Vec::new(self.alloc);
-        for _ in 0..table + 1 {
+        for _ in 0..dimensions {
             match self.terms.pop() {
                 None => return Ok(false),
                 Some(subscript) => subscripts.push(subscript)?,
@@ -244,8 +244,8 @@ impl Reader {
             b'+' | b'*' | b'/' | b'%' => self.of_two(sign),
             b'_' | b'|' => self.of_one(sign),
             b'S' | b'm' | b'M' | b'D' => self.of_several(sign),
-            b'r' => self.cell(0),
-            b'q' => self.cell(1),
+            b'r' => self.cell(0, 1),
+            b'q' => self.cell(1, 2),
             b't' => self.truth(),
             b'=' | b'!' | b'<' | b'l' | b'>' | b'g' => self.compared(sign),
             b'T' => self.fact(Cons::Fixed(true)),
