@@ -1,5 +1,5 @@
 -- The test of a core tells whether it is sound.
-use Rattle.std.proofs.Common.{◌≡◌, ℕ, zero, suc, ◌+◌, ◌≤◌, ◌<◌, ◌^◌, max, Bool, true, false, ◌&&◌, refl, List, [], ◌∷◌, map, length, ℤ, pos, negsuc, ◌≤ℤ◌, ◌+ℤ◌, neg_ℤ, sym, ◌∙◌, arith}
+use Rattle.std.proofs.Common.{◌≡◌, ℕ, zero, suc, ◌+◌, ◌≤◌, ◌^◌, max, Bool, true, false, ◌&&◌, refl, List, [], ◌∷◌, length, ℤ, pos, negsuc, ◌≤ℤ◌, ◌+ℤ◌, neg_ℤ, arith}
 use Rattle.std.specs.Prelude.{nat_lt, nat_le, int_le, unsigned_abs, Option, Some, None}
 use Rattle.std.specs.List.{All, list_all}
 use Rattle.std.proofs.lemmas.Bool.{leb-true, leb-false}
@@ -9,16 +9,16 @@ use Rattle.opl_domain.specs.Family.{most_values}
 use Rattle.opl_expr.specs.declared.model.Core.{Core}
 use Rattle.opl_expr.specs.Forms.{Term, Fact, facts_of}
 use Rattle.opl_expr.specs.Solutions.{facts, goal_term}
-use Rattle.opl_expr.specs.Sound.{IsSmall, term_magnitude, IsSoundTerm, IsSoundFact}
+use Rattle.opl_expr.specs.Sound.{term_magnitude, IsSoundFact}
 use Rattle.opl_trace.specs.Marks.{section}
 use Rattle.opl_trace.specs.Statements.{Statement, Statements, Branch, Branches}
 use Rattle.opl_trace.specs.Statements.Statement.{post, block, try, try_all, for_all, select, once, while, decide, generate, rank}
 use Rattle.opl_trace.specs.Statements.Statements.{no_statements, more_statements}
 use Rattle.opl_trace.specs.Statements.Branch.{branch}
 use Rattle.opl_trace.specs.Statements.Branches.{no_branches, more_branches}
-use Rattle.opl_marks.specs.Questions.{open_magnitude, IsOpenTerm}
+use Rattle.opl_marks.specs.Questions.{open_magnitude}
 use Rattle.opl_marks.specs.Sound.{IsSoundSet, AreThere, ArePairs, IsOpenKey, IsSoundStatement, AreSoundStatements, IsSoundBranch, AreSoundBranches, IsSoundGoal, IsSoundSection, IsSoundCore}
-use Rattle.opl_sound.specs.Measures.{is_some, added, measure, fits, all_fit}
+use Rattle.opl_sound.specs.Measures.{added, measure, fits, all_fit}
 use Rattle.opl_sound.specs.Cores.{fits_set, fits_goal, fits_key, fits_pair, fits_statement, fit_statements, fits_branch, fit_branches, fits_section, fits_core}
 use Rattle.opl_sound.proofs.Tells.{IsTold, tells_both, tells_as, tells_less, some_tells, iff_added}
 use Rattle.opl_sound.proofs.Sound as sound

@@ -1,9 +1,9 @@
 -- Counts and magnitudes that may be too great.
-use Rattle.std.proofs.Common.{◌≡◌, ◌≢◌, ◌⊎◌, ℕ, zero, suc, ◌*◌, ◌≤◌, ◌<◌, ◌^◌, Bool, true, false, cond, refl, ap, sym, ◌∙◌, subst, arith, inl, inr}
+use Rattle.std.proofs.Common.{◌≡◌, ◌≢◌, ◌⊎◌, ℕ, zero, suc, ◌*◌, ◌≤◌, ◌<◌, ◌^◌, true, false, cond, refl, ap, sym, ◌∙◌, subst, arith, inl, inr}
 use Rattle.std.specs.Prelude.{nat_lt, nat_eq, Option, Some, None, SomeIff}
 use Rattle.std.proofs.lemmas.Bool.{ltb-true, ltb-false}
 use Rattle.std.proofs.lemmas.Bool.Decides.{Decides-eqb}
-use Rattle.std.proofs.Math.Nat.{zero-mul, mul-le-mul_left}
+use Rattle.std.proofs.Math.Nat.{zero-mul}
 use Rattle.opl_sound.specs.Measures.{counted}
 
 -- a count is there, or it is too great

@@ -1,6 +1,6 @@
 -- Lists of which an element fails.
-use Rattle.std.proofs.Common.{◌≡◌, ◌≢◌, ℕ, zero, suc, ◌+◌, ◌-◌, ◌≤◌, ◌<◌, Bool, true, false, ◌&&◌, ◌||◌, cond, refl, List, [], ◌∷◌, map, length, get_or, drop, ℤ, pos, ap, sym, ◌∙◌, subst, arith}
-use Rattle.std.specs.Prelude.{Option, Some, None, not}
+use Rattle.std.proofs.Common.{◌≡◌, ◌≢◌, ℕ, zero, suc, ◌+◌, ◌-◌, ◌≤◌, ◌<◌, Bool, true, false, ◌&&◌, cond, refl, List, [], ◌∷◌, map, length, get_or, drop, ℤ, pos, ap, sym, ◌∙◌, subst, arith}
+use Rattle.std.specs.Prelude.{Some, not}
 use Rattle.std.specs.Ordering.{int_eq}
 use Rattle.std.proofs.lemmas.Bool.Decides.{Decides-int_eq}
 use Rattle.opl_domain.specs.Family.{member}

@@ -1,6 +1,6 @@
 -- What the measures say of each form of expression and constraint, as the code sees it.
-use Rattle.std.proofs.Common.{◌≡◌, Bool, true, false, ◌&&◌, ◌||◌, cond, List, [], ◌∷◌, ◌++◌, map, ℤ, refl, ap, sym, ◌∙◌, subst}
-use Rattle.std.specs.Prelude.{ℕ, slice_get, Option, Some, None}
+use Rattle.std.proofs.Common.{◌≡◌, Bool, true, false, List, map, ℤ, refl, ap, ◌∙◌}
+use Rattle.std.specs.Prelude.{ℕ, slice_get}
 use Rattle.opl_expr.specs.declared.forms.Ask.{Ask}
 use Rattle.opl_expr.specs.declared.forms.Op.{Op}
 use Rattle.opl_expr.specs.declared.forms.Expr.{Expr}

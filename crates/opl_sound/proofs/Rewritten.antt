@@ -1,12 +1,12 @@
 -- The forms that are written out: products, expressions that differ pairwise, and capacities.
-use Rattle.std.proofs.Common.{◌≡◌, ◌⊎◌, ℕ, ◌+◌, ◌*◌, ◌≤◌, ◌<◌, ◌^◌, max, Bool, true, false, cond, ◌&&◌, refl, List, [], ◌∷◌, ◌++◌, map, length, ℤ, pos, ap, sym, ◌∙◌, subst, arith, inl, inr}
-use Rattle.std.specs.Prelude.{nat_lt, unsigned_abs, slice_get, Option, Some, None}
+use Rattle.std.proofs.Common.{◌≡◌, ℕ, ◌+◌, ◌<◌, ◌^◌, max, Bool, true, false, cond, ◌&&◌, refl, List, [], ◌∷◌, ◌++◌, map, ℤ, ap, sym, ◌∙◌, subst, arith, inl, inr}
+use Rattle.std.specs.Prelude.{unsigned_abs, Option, Some, None}
 use Rattle.std.proofs.Math.Nat.{zero-mul}
 use Rattle.opl_expr.specs.declared.tables.Use.{Use}
 use Rattle.opl_expr.specs.declared.tables.Resource.{Resource}
-use Rattle.opl_expr.specs.Forms.{Relation, Term, Terms, Fact, Facts, terms_of, facts_of, defined, all_different, demand_at, capacity_at}
+use Rattle.opl_expr.specs.Forms.{Term, Fact, terms_of, facts_of, defined, all_different, demand_at, capacity_at}
 use Rattle.opl_expr.specs.Forms.Relation.{equal}
-use Rattle.opl_sound.specs.Measures.{small, is_some, added, multiplied, greater, comparable, one_if, measure, measure_sum, measure_pairs, measure_variable, measure_use, measure_uses, fits, all_fit, fits_capacity}
+use Rattle.opl_sound.specs.Measures.{small, is_some, added, multiplied, comparable, one_if, measure, measure_sum, measure_pairs, measure_variable, measure_use, measure_uses, fits, all_fit, fits_capacity}
 use Rattle.opl_sound.proofs.Smaller.{smalls, zero_small, IsMeasure, is_measure}
 use Rattle.opl_sound.proofs.Lists.{and_false}
 

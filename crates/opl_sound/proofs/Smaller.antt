@@ -1,12 +1,11 @@
 -- No measure is too great.
-use Rattle.std.proofs.Common.{◌≡◌, ◌⊎◌, ℕ, ◌+◌, ◌*◌, ◌≤◌, ◌<◌, ◌^◌, max, Bool, true, false, cond, ◌&&◌, refl, List, [], ◌∷◌, length, ℤ, ap, sym, ◌∙◌, subst, arith, inl, inr}
+use Rattle.std.proofs.Common.{◌≡◌, ◌⊎◌, ℕ, ◌+◌, ◌*◌, ◌≤◌, ◌^◌, Bool, true, false, cond, ◌&&◌, refl, List, length, ℤ, sym, subst, arith, inl, inr}
 use Rattle.std.specs.Prelude.{nat_lt, unsigned_abs, Option, Some, None}
 use Rattle.std.proofs.lemmas.Bool.{ltb-true, ltb-false}
-use Rattle.opl_expr.specs.Forms.{Term, Terms, Fact, Facts}
+use Rattle.opl_expr.specs.Forms.{Term, Terms}
 use Rattle.opl_expr.specs.declared.tables.Table.{Table}
-use Rattle.opl_expr.specs.declared.forms.Ask.{Ask}
 use Rattle.opl_expr.specs.Sound.{IsSmall, var_magnitude, cells_magnitude}
-use Rattle.opl_sound.specs.Measures.{small, is_some, added, multiplied, at_least_one, greater, first, one_if, only_if, is_whole, measure_table, measure_question, answer_magnitude, fits, measure, measure_sum, measure_all, measure_some, fit_subscripts, dims_of}
+use Rattle.opl_sound.specs.Measures.{small, added, multiplied, at_least_one, greater, first, one_if, only_if, is_whole, measure_table, answer_magnitude, fits, measure, measure_sum, measure_all, measure_some, fit_subscripts, dims_of}
 
 -- a magnitude is there, or it is too great
 pub smalls : (n : ℕ) → (IsSmall n × (small n ≡ Some n)) ⊎ ((2 ^ 127 ≤ n) × (small n ≡ None))

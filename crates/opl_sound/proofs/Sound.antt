@@ -1,5 +1,5 @@
 -- A measure without questions is the magnitude of a sound expression, and it is missing where the expression isn't sound.
-use Rattle.std.proofs.Common.{◌≡◌, ℕ, ◌+◌, ◌*◌, max, Bool, true, false, refl, List, [], ◌∷◌, length, ℤ, arith}
+use Rattle.std.proofs.Common.{◌+◌, ◌*◌, max, false, refl, List, [], ◌∷◌, length, ℤ, arith}
 use Rattle.std.specs.Prelude.{nat_lt, unsigned_abs, Some, None}
 use Rattle.opl_expr.specs.Forms.{Term, Terms, Fact, Facts}
 use Rattle.opl_expr.specs.Sound.{IsSmall, IsSome, greatest_abs, cells_magnitude, var_magnitude, term_magnitude, sum_magnitude, greatest_magnitude, FitDimensions, IsSoundTerm, AreSoundTerms, IsSoundFact, AreSoundFacts}

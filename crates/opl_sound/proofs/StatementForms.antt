@@ -1,5 +1,5 @@
 -- The plain data of each form of statement, and what the tests say of it, as the code sees it.
-use Rattle.std.proofs.Common.{◌≡◌, Bool, true, ◌&&◌, List, map, ℤ, refl, ap, sym, ◌∙◌}
+use Rattle.std.proofs.Common.{◌≡◌, true, ◌&&◌, List, map, ℤ, ap, sym, ◌∙◌}
 use Rattle.std.specs.Prelude.{ℕ}
 use Rattle.opl_expr.specs.declared.forms.Cons.{Cons}
 use Rattle.opl_expr.specs.declared.search.Branch as code

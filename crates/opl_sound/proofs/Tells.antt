@@ -1,12 +1,12 @@
 -- What magnitudes that may be missing tell.
-use Rattle.std.proofs.Common.{◌≡◌, ◌⊎◌, ℕ, ◌+◌, ◌*◌, ◌≤◌, ◌<◌, ◌^◌, max, Bool, true, false, cond, ◌&&◌, refl, List, [], ◌∷◌, length, ℤ, ap, sym, ◌∙◌, subst, arith, inl, inr}
-use Rattle.std.specs.Prelude.{nat_lt, nat_eq, unsigned_abs, Option, Some, None, SomeIff}
+use Rattle.std.proofs.Common.{◌≡◌, ℕ, ◌+◌, ◌*◌, ◌<◌, max, Bool, true, false, ◌&&◌, refl, List, length, ℤ, ap, sym, ◌∙◌, subst, arith, inl, inr}
+use Rattle.std.specs.Prelude.{nat_lt, nat_eq, Option, Some, None, SomeIff}
 use Rattle.std.specs.List.{list_all}
 use Rattle.std.proofs.lemmas.Bool.{ltb-true, ltb-false}
 use Rattle.std.proofs.lemmas.Bool.Decides.{Decides-eqb}
 use Rattle.opl_expr.specs.declared.tables.Table.{Table}
 use Rattle.opl_expr.specs.Laws.{is_clear}
-use Rattle.opl_expr.specs.Sound.{IsSmall, keys, is_there, cells_magnitude, var_magnitude, IsSoundTable}
+use Rattle.opl_expr.specs.Sound.{IsSmall, keys, is_there, cells_magnitude, IsSoundTable}
 use Rattle.opl_sound.specs.Measures.{small, is_some, added, multiplied, at_least_one, greater, first, one_if, only_if, is_whole, measure_table}
 use Rattle.opl_sound.proofs.Smaller.{smalls, IsMeasure}
 

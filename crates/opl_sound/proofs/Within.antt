@@ -3,7 +3,6 @@ use Rattle.std.proofs.Common.{◌≡◌, ◌≢◌, ℕ, zero, suc, ◌+◌, ◌
 use Rattle.std.specs.Prelude.{int_le}
 use Rattle.std.proofs.lemmas.Int.{ints}
 use Rattle.std.proofs.lemmas.Bool.{cases_eq}
-use Rattle.opl_domain.specs.Span.{IsWithin}
 use Rattle.opl_domain.specs.Family.{Family, member, has, set_of, IsLeast, IsGreatest, Below}
 use Rattle.opl_domain.proofs.Members.{in_values, from_values}
 use Rattle.opl_expr.specs.declared.model.Core.{Core}

@@ -1,5 +1,5 @@
 -- Whether declared sets, statements and whole cores are sound, computed.
-use Rattle.std.specs.Prelude.{ℕ, suc, ◌^◌, max, Bool, true, false, ◌&&◌, List, [], ◌∷◌, length, ℤ, unsigned_abs, nat_lt, nat_le, Option, Some, None}
+use Rattle.std.specs.Prelude.{ℕ, suc, ◌^◌, max, Bool, true, false, ◌&&◌, List, length, ℤ, unsigned_abs, nat_lt, nat_le, Option, Some, None}
 use Rattle.std.specs.List.{list_all}
 use Rattle.opl_domain.specs.Span.{span_size}
 use Rattle.opl_domain.specs.Family.{most_values}

@@ -1,6 +1,6 @@
 -- The magnitude of an expression where it is sound, and none where it is not; whether a constraint is sound. Both are
 -- computed, with questions on the sets of variables where they may be asked.
-use Rattle.std.specs.Prelude.{ℕ, ◌+◌, ◌*◌, ◌^◌, max, Bool, true, false, cond, ◌&&◌, ◌||◌, List, [], ◌∷◌, length, ℤ, pos, int_le, unsigned_abs, nat_lt, nat_eq, slice_index_or, Option, Some, None}
+use Rattle.std.specs.Prelude.{ℕ, ◌+◌, ◌*◌, ◌^◌, max, Bool, true, false, cond, ◌&&◌, List, [], ◌∷◌, length, ℤ, pos, unsigned_abs, nat_lt, nat_eq, slice_index_or, Option, Some, None}
 use Rattle.std.specs.List.{list_all}
 use Rattle.opl_domain.specs.Span.{span_size}
 use Rattle.opl_expr.specs.declared.forms.Ask.{Ask}

@@ -1,7 +1,7 @@
 //! The magnitudes of sound expressions, and which constraints are sound.
-ghost use Rattle.std.specs.Prelude.{◌≡◌, ◌*◌, map, slice_get, ◌||◌};
-ghost use Rattle.opl_expr.specs.Forms.{Term, Fact, term, fact, terms_of, facts_of, product, all_different, capacity_at};
-ghost use Rattle.opl_sound.specs.Measures.{measure, measure_sum, measure_all, measure_some, measure_pairs, measure_table, fit_subscripts, dims_of, fits, all_fit, is_number, measure_question};
+ghost use Rattle.std.specs.Prelude.{◌≡◌, ◌*◌, map, ◌||◌};
+ghost use Rattle.opl_expr.specs.Forms.{term, fact, terms_of, facts_of, product};
+ghost use Rattle.opl_sound.specs.Measures.{measure, measure_sum, measure_all, measure_some, measure_pairs, fit_subscripts, fits, all_fit, is_number, measure_question};
 
 use crate::{numbers, tables, variables};
 use opl_expr::{Ask, Cons, Core, Expr};

@@ -1,5 +1,5 @@
 //! Which statements of a search section are sound.
-ghost use Rattle.std.specs.Prelude.{◌≡◌, suc, length, map, nat_lt, true};
+ghost use Rattle.std.specs.Prelude.{◌≡◌, suc, length, map, nat_lt};
 ghost use Rattle.std.specs.List.{list_all};
 ghost use Rattle.opl_expr.specs.Forms.{term};
 ghost use Rattle.opl_expr.specs.Options.{lift1};

@@ -1,8 +1,8 @@
-use Rattle.std.proofs.Common.{◌≡◌, ◌-◌, ap, sym, ◌∙◌, map, arith, rules, length}
-use Rattle.std.specs.Prelude.{slice_get, Some, unsigned_abs, FitsSigned}
+use Rattle.std.proofs.Common.{◌-◌, ap, sym, ◌∙◌, map, arith, rules}
+use Rattle.std.specs.Prelude.{Some, unsigned_abs, FitsSigned}
 use mir.Syntax.{w64}
 use Rattle.std.proofs.lemmas.Int.{to_z-of_z}
-use Rattle.opl_expr.specs.Forms.{Fact, term, fact, facts_of, all_different, capacity_at}
+use Rattle.opl_expr.specs.Forms.{term, fact, capacity_at}
 use Rattle.opl_expr.specs.Sound.{greatest_abs}
 use Rattle.opl_expr.proofs.Plain.{fact_AllDifferent, fact_Capacity}
 use Rattle.opl_sound.specs.Measures.{measure, measure_pairs, fits, is_some, added, at_least_one, fits_capacity}

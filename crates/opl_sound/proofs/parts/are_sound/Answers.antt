@@ -1,4 +1,4 @@
-use Rattle.std.proofs.Common.{◌≡◌, map, sym, ◌∙◌, false}
+use Rattle.std.proofs.Common.{map, sym, ◌∙◌, false}
 use Rattle.opl_expr.specs.Forms.{fact, facts_of}
 use Rattle.opl_sound.specs.Measures.{all_fit}
 use Rattle.opl_sound.proofs.Tells.{tells_true, true_tells}

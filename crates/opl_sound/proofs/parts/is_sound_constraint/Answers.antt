@@ -1,4 +1,4 @@
-use Rattle.std.proofs.Common.{◌≡◌, sym, ◌∙◌, false}
+use Rattle.std.proofs.Common.{sym, ◌∙◌, false}
 use Rattle.opl_expr.specs.Forms.{fact}
 use Rattle.opl_sound.specs.Measures.{fits}
 use Rattle.opl_sound.proofs.Tells.{tells_true, true_tells}

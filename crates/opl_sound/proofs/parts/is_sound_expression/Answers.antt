@@ -1,4 +1,4 @@
-use Rattle.std.proofs.Common.{◌≡◌, ap, sym, ◌∙◌, false}
+use Rattle.std.proofs.Common.{ap, sym, ◌∙◌, false}
 use Rattle.opl_expr.specs.Forms.{term}
 use Rattle.opl_expr.specs.Sound.{term_magnitude}
 use Rattle.opl_sound.specs.Measures.{is_some, measure}

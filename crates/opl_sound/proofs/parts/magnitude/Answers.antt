@@ -1,4 +1,4 @@
-use Rattle.std.proofs.Common.{◌≡◌, sym, subst}
+use Rattle.std.proofs.Common.{sym, subst}
 use Rattle.std.specs.Prelude.{SomeIff}
 use Rattle.opl_expr.specs.Forms.{term}
 use Rattle.opl_expr.specs.Sound.{term_magnitude, IsSoundTerm}

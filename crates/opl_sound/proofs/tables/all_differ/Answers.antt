@@ -1,4 +1,4 @@
-use Rattle.std.proofs.Common.{◌≡◌, ◌-◌, ◌+◌, sym, ◌∙◌, ap, subst, get_or, pos, drop, arith, true}
+use Rattle.std.proofs.Common.{◌-◌, sym, ◌∙◌, ap, drop, arith}
 use Rattle.opl_expr.specs.Laws.{all_differ}
 use Rattle.opl_expr.proofs.Parts.{one_less}
 use Rattle.opl_sound.proofs.Lists.{one_again, none_again}

@@ -1,4 +1,4 @@
-use Rattle.std.proofs.Common.{◌≡◌, ◌<◌, ◌^◌, ap, sym, ◌∙◌, length, rules}
+use Rattle.std.proofs.Common.{◌<◌, ◌^◌, ap, ◌∙◌, length, rules}
 use Rattle.std.specs.Prelude.{nat_eq}
 use Rattle.opl_expr.specs.Sound.{keys}
 use Rattle.opl_sound.specs.Measures.{counted}

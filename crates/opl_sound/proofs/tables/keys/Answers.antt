@@ -1,4 +1,4 @@
-use Rattle.std.proofs.Common.{◌≡◌, drop, ap, sym, ◌∙◌, arith}
+use Rattle.std.proofs.Common.{ap, sym, ◌∙◌, arith}
 use Rattle.opl_expr.specs.Sound.{keys}
 use Rattle.opl_expr.proofs.Parts.{drop_none}
 use Rattle.opl_sound.specs.Measures.{counted}

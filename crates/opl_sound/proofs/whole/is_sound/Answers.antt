@@ -1,4 +1,4 @@
-use Rattle.std.proofs.Common.{◌≡◌, sym, ◌∙◌}
+use Rattle.std.proofs.Common.{sym, ◌∙◌}
 use Rattle.opl_sound.specs.Cores.{fits_core}
 use Rattle.opl_sound.proofs.Tells.{tells_true, true_tells}
 use Rattle.opl_sound.proofs.Cores.{core_told}
