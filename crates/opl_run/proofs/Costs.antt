@@ -1,5 +1,5 @@
 -- What comes next costs less.
-use Rattle.std.proofs.Common.{◌≡◌, ℕ, zero, suc, ◌+◌, ◌*◌, ◌<◌, ◌≤◌, max, Bool, true, false, cond, refl, List, [], ◌∷◌, ◌++◌, map, length, ℤ, ap, sym, ◌∙◌, subst, arith}
+use Rattle.std.proofs.Common.{◌≡◌, ℕ, zero, suc, ◌+◌, ◌*◌, ◌<◌, ◌≤◌, max, Bool, true, false, cond, refl, List, [], ◌∷◌, ◌++◌, map, length, ℤ, ap, arith}
 use Rattle.std.proofs.Math.Nat.{mul-le-mul}
 use Rattle.opl_domain.specs.Family.{Family, set_of}
 use Rattle.opl_expr.specs.Forms.{Fact}

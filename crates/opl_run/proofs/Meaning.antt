@@ -1,6 +1,6 @@
 -- What comes next makes what the tasks make.
-use Rattle.std.proofs.Common.{◌≡◌, ℕ, zero, suc, ◌++◌, Bool, true, false, cond, refl, List, [], ◌∷◌, map, length, ℤ, ap, sym, ◌∙◌, subst}
-use Rattle.std.specs.Prelude.{Option, Some, None}
+use Rattle.std.proofs.Common.{◌≡◌, ℕ, zero, suc, ◌++◌, Bool, true, false, cond, refl, List, [], ◌∷◌, map, length, ℤ, ap, sym, ◌∙◌}
+use Rattle.std.specs.Prelude.{Option, Some}
 use Rattle.opl_domain.specs.Family.{Family, set_of}
 use Rattle.opl_expr.specs.declared.model.Core.{Core}
 use Rattle.opl_expr.specs.Forms.{Fact}
@@ -19,9 +19,9 @@ use Rattle.opl_trace.specs.Run.{Out, Rest, stopped, marked, behind, after, alter
 use Rattle.opl_marks.specs.Moments.{core_sets}
 use Rattle.opl_run.specs.declared.task.End.{End}
 use Rattle.opl_run.specs.declared.task.End.TheVariants.{Inner}
-use Rattle.opl_run.specs.Tasks.{Task, performing, done, all_done, end_of, doing}
+use Rattle.opl_run.specs.Tasks.{Task, performing, all_done, end_of, doing}
 use Rattle.opl_run.specs.Tasks.Task.{act, values, orders, elements, turns}
-use Rattle.opl_run.specs.Steps.{Way, Next, on, acts_then, each_then, element_of, elements_of, bodies_then, first_then, performed, labelled, both_then, ranked, visited, turned, looped, started, next_step}
+use Rattle.opl_run.specs.Steps.{Way, Next, on, acts_then, each_then, element_of, elements_of, bodies_then, first_then, performed, labelled, both_then, ranked, visited, turned, started, next_step}
 use Rattle.opl_run.specs.Steps.Next.{finished, nothing, spent, go, choose, commit}
 use Rattle.opl_run.specs.Made.{rests}
 use Rattle.opl_run.proofs.ElementLists.{length_mapped}

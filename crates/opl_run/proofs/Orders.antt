@@ -6,8 +6,7 @@ use Rattle.opl_expr.specs.declared.forms.Expr.TheVariants as E
 use Rattle.opl_expr.specs.declared.forms.Cons.TheVariants as C
 use Rattle.opl_expr.specs.declared.tables.Table.{Table}
 use Rattle.opl_expr.specs.declared.tables.Resource.{Resource}
-use Rattle.opl_expr.specs.Forms.{Term, Fact, term, fact, terms_of, compared, plus}
-use Rattle.opl_expr.specs.Forms.Relation.{at_most}
+use Rattle.opl_expr.specs.Forms.{Term, term, fact, terms_of, compared, plus}
 use Rattle.opl_expr.proofs.Plain.{term_Var, term_Sum, fact_Cmp}
 use Rattle.opl_trace.specs.Answers.{precedes}
 

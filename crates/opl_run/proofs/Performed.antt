@@ -1,5 +1,5 @@
 -- What the program makes of each statement.
-use Rattle.std.proofs.Common.{◌≡◌, ℕ, zero, suc, ◌<◌, cond, refl, List, [], ◌∷◌, ◌++◌, map, length, get_or, ap, sym, ◌∙◌, subst, arith}
+use Rattle.std.proofs.Common.{◌≡◌, ℕ, ◌<◌, cond, refl, List, [], ◌∷◌, ◌++◌, map, length, get_or, ap, sym, ◌∙◌, subst, arith}
 use Rattle.opl_domain.specs.Family.{Family}
 use Rattle.opl_expr.specs.declared.forms.Cons.{Cons}
 use Rattle.opl_expr.specs.declared.model.Core.{Core}
@@ -8,14 +8,14 @@ use Rattle.opl_expr.specs.declared.search.Step.{Step}
 use Rattle.opl_expr.specs.declared.search.Step.TheVariants as S
 use Rattle.opl_expr.specs.Forms.{Fact, fact}
 use Rattle.opl_trace.specs.Answers.{answered, is_met}
-use Rattle.opl_trace.specs.Elements.{Arm, ordered, taken, pick}
+use Rattle.opl_trace.specs.Elements.{Arm, ordered, taken}
 use Rattle.opl_trace.specs.Statements.{Statement, statements_of, branches_of}
 use Rattle.opl_marks.specs.Questions.{IsOpenFact}
 use Rattle.opl_marks.specs.Sound.{IsSoundStatement}
 use Rattle.opl_run.specs.Tasks.{Task, statement_in, element, acts}
 use Rattle.opl_run.specs.Tasks.Task.{act, values, orders, elements, turns}
 use Rattle.opl_run.specs.Steps.{Way, Next, on, acts_then, each_then, element_of, elements_of, bodies_then, first_then, performed, visited}
-use Rattle.opl_run.specs.Steps.Next.{nothing, go, choose, commit}
+use Rattle.opl_run.specs.Steps.Next.{go, choose, commit}
 use Rattle.opl_run.specs.Sound.{AreSoundElements}
 use Rattle.opl_run.specs.Picked.{without, place_in}
 use Rattle.opl_run.proofs.ElementLists.{length_mapped, picked_at}

@@ -1,7 +1,7 @@
 -- One moment after another.
-use Rattle.std.proofs.Common.{◌≡◌, ℕ, zero, suc, ◌+◌, ◌-◌, ◌*◌, ◌<◌, ◌≤◌, max, true, false, refl, List, [], ◌∷◌, ◌++◌, map, length, drop, get_or, ℤ, ap, sym, ◌∙◌, subst, arith}
+use Rattle.std.proofs.Common.{◌≡◌, ℕ, zero, suc, ◌+◌, ◌-◌, ◌*◌, ◌<◌, ◌≤◌, true, false, refl, List, [], ◌∷◌, ◌++◌, map, length, drop, get_or, ℤ, ap, sym, ◌∙◌, subst, arith}
 use Rattle.std.specs.Prelude.{Option, Some, None}
-use Rattle.opl_domain.specs.Family.{Family, IsFamily, Below}
+use Rattle.opl_domain.specs.Family.{Family, IsFamily}
 use Rattle.opl_expr.specs.declared.model.Core.{Core}
 use Rattle.opl_expr.specs.Forms.{Fact}
 use Rattle.opl_expr.specs.Solutions.{declared, goal_term}
@@ -12,17 +12,17 @@ use Rattle.opl_trace.specs.Run as run
 use Rattle.opl_trace.specs.Run.{Mark, Out, Rest, stopped, behind, alternatives, first_leaf, committed, choices, entered, within}
 use Rattle.opl_marks.specs.declared.outcome.Outcome as code
 use Rattle.opl_marks.specs.Moments.{core_sets}
-use Rattle.opl_marks.specs.Sound.{IsSoundCore, IsSoundStatement}
+use Rattle.opl_marks.specs.Sound.{IsSoundCore}
 use Rattle.opl_marks.specs.Outcomes.{AreSound, AreSoundMarks, IsBest, IsSoundOut, IsMade, outcome}
 use Rattle.opl_marks.specs.Labelling.{labelling}
 use Rattle.opl_marks.proofs.Labels.{below_at, solution_label, made_as, IsUnderWay, cut_way, next_way, sound_turn}
 use Rattle.opl_run.specs.declared.task.End.{End}
 use Rattle.opl_run.specs.declared.task.End.TheVariants.{Whole, Inner}
-use Rattle.opl_run.specs.Tasks.{Task, doing, end_of, all_done, performing}
+use Rattle.opl_run.specs.Tasks.{Task, doing, end_of, all_done}
 use Rattle.opl_run.specs.Tasks.Task.{act, values, orders, elements, turns}
 use Rattle.opl_run.specs.Steps.{Way, Next, next_step}
-use Rattle.opl_run.specs.Steps.Next.{finished, nothing, spent, go, choose, commit}
-use Rattle.opl_run.specs.Costs.{cost, cost_tasks, cost_ways, cost_choice}
+use Rattle.opl_run.specs.Steps.Next.{nothing, choose}
+use Rattle.opl_run.specs.Costs.{cost_tasks, cost_ways, cost_choice}
 use Rattle.opl_run.specs.Sound.{AreSoundTasks, IsSoundWay, AreSoundWays}
 use Rattle.opl_run.specs.Made.{rests, once_then, IsRun}
 use Rattle.opl_run.proofs.Meaning.{Means, step_means}

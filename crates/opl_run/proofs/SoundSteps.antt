@@ -1,5 +1,5 @@
 -- What comes next is sound.
-use Rattle.std.proofs.Common.{◌≡◌, ℕ, zero, suc, ◌+◌, ◌<◌, ◌≤◌, ◌^◌, Bool, true, false, cond, refl, List, [], ◌∷◌, ◌++◌, map, length, ℤ, ap, sym, ◌∙◌, subst, arith}
+use Rattle.std.proofs.Common.{◌≡◌, ℕ, zero, suc, ◌+◌, ◌<◌, Bool, true, false, cond, List, [], ◌∷◌, ◌++◌, map, length, ℤ, arith}
 use Rattle.std.proofs.lemmas.List.Elements.{All-push}
 use Rattle.std.proofs.lemmas.List.{length-map}
 use Rattle.opl_trace.specs.Between.{values_between}
@@ -17,13 +17,13 @@ use Rattle.opl_trace.specs.Statements.Statements.{no_statements, more_statements
 use Rattle.opl_trace.specs.Statements.Branch.{branch}
 use Rattle.opl_trace.specs.Statements.Branches.{no_branches, more_branches}
 use Rattle.opl_marks.specs.Questions.{IsOpenFact}
-use Rattle.opl_marks.specs.Sound.{IsSoundCore, AreThere, ArePairs, IsOpenKey, IsSoundStatement, AreSoundStatements, AreSoundBranches}
+use Rattle.opl_marks.specs.Sound.{IsSoundCore, AreThere, ArePairs, IsSoundStatement, AreSoundStatements, AreSoundBranches}
 use Rattle.opl_marks.specs.Outcomes.{AreSound}
 use Rattle.opl_marks.proofs.AnswersSound.{are_bounded, fact_sound}
 use Rattle.opl_marks.proofs.Labels.{magnitude_small, value_sound}
 use Rattle.opl_run.specs.Tasks.{Task}
 use Rattle.opl_run.specs.Tasks.Task.{act, values, orders, elements, turns}
-use Rattle.opl_run.specs.Steps.{Way, Next, on, acts_then, each_then, elements_of, bodies_then, first_then, performed, labelled, both_then, ranked, visited, turned, started, next_step}
+use Rattle.opl_run.specs.Steps.{Next, on, acts_then, each_then, elements_of, bodies_then, first_then, performed, labelled, both_then, ranked, visited, turned, started, next_step}
 use Rattle.opl_run.specs.Steps.Next.{finished, nothing, spent, go, choose, commit}
 use Rattle.opl_run.specs.Sound.{AreSoundElements, IsSoundTask, AreSoundTasks, IsSoundWay, AreSoundWays}
 

@@ -1,16 +1,15 @@
 -- The plain data of each statement.
-use Rattle.std.proofs.Common.{◌≡◌, List, [], ◌∷◌, map, ℕ, refl, ap, sym, ◌∙◌}
+use Rattle.std.proofs.Common.{◌≡◌, List, [], map, ℕ, ap, sym, ◌∙◌}
 use Rattle.opl_expr.specs.declared.forms.Cons.{Cons}
-use Rattle.opl_expr.specs.declared.model.Core.{Core}
 use Rattle.opl_expr.specs.declared.search.Step.{Step}
 use Rattle.opl_expr.specs.declared.search.Step.TheVariants as S
 use Rattle.opl_expr.specs.declared.search.Step.TheOpen.{Step-F, Branch-F}
-use Rattle.opl_expr.specs.declared.search.Step.TheFolds.{fold-Step, fold-Branch, fold-roll-Step, fold-roll-Branch, map-Step, map-Branch}
+use Rattle.opl_expr.specs.declared.search.Step.TheFolds.{fold-Branch, fold-roll-Step, fold-roll-Branch, map-Step, map-Branch}
 use Rattle.opl_expr.specs.declared.search.Step.TheViews.{roll-Step, roll-Branch, out-Branch, roll-out-Branch}
 use Rattle.opl_expr.specs.declared.search.Branch as code
 use Rattle.opl_expr.specs.declared.tables.Table.{Table}
 use Rattle.opl_expr.specs.declared.tables.Resource.{Resource}
-use Rattle.opl_expr.specs.Forms.{Term, Fact, term, fact}
+use Rattle.opl_expr.specs.Forms.{term, fact}
 use Rattle.opl_expr.specs.Options.{lift1}
 use Rattle.opl_trace.specs.Statements.{Statement, Branch, step_layer, branch_layer, statement, statements_of, branches_of}
 use Rattle.opl_trace.specs.Statements.Statement.{post, block, try, try_all, for_all, select, once, while, decide, generate, rank}

@@ -1,5 +1,5 @@
 -- What comes next, by the sets of a moment and what is to be done.
-use Rattle.std.specs.Prelude.{ℕ, zero, suc, cond, List, [], ◌∷◌, ◌++◌, map, length, ℤ}
+use Rattle.std.specs.Prelude.{ℕ, zero, suc, cond, List, [], ◌∷◌, ◌++◌, map, length}
 use Rattle.opl_domain.specs.Family.{Family, set_of}
 use Rattle.opl_expr.specs.declared.model.Core.{Core}
 use Rattle.opl_expr.specs.Forms.{Fact}

@@ -1,5 +1,5 @@
 -- What a search still has to do, and what that makes.
-use Rattle.std.specs.Prelude.{ℕ, List, [], ◌∷◌, map, length, ℤ, Option}
+use Rattle.std.specs.Prelude.{ℕ, List, [], ◌∷◌, map, length}
 use Rattle.opl_expr.specs.declared.model.Core.{Core}
 use Rattle.opl_expr.specs.declared.search.Branch.{Branch}
 use Rattle.opl_expr.specs.declared.search.Step.{Step}

@@ -51,7 +51,6 @@ fn is_choice(mark: &Mark) -> bool
 pub fn choices(core: &Core, marks: &[Mark]) -> u64
     ensures { result ≡ choices (marks_in core.now marks.now) }
 {
-    let _ = core;
     let mut count = 0;
     for mark in marks {
         if is_choice(mark) {
@@ -82,7 +81,6 @@ pub fn behind(
 ) -> Result<Outcome, OutOfMemory>
     ensures { IfOk result (λ o. outcome core.now o ≡ behind (marks_in core.now before.now) (outcome core.now next)) }
 {
-    let _ = core;
     let mut first = Seq::new(alloc);
     for mark in before {
         first.push(copy(alloc, mark)?)?;

@@ -1,5 +1,5 @@
 //! What a search still has to do.
-ghost use Rattle.std.specs.Prelude.{◌≡◌, ◌++◌, ◌∷◌, map, IfOk};
+ghost use Rattle.std.specs.Prelude.{◌≡◌, ◌++◌, ◌∷◌, IfOk};
 ghost use Rattle.opl_run.specs.Tasks.{acts, tasks_in};
 
 use opl_expr::{Branch, Cons, Core, OutOfMemory, Step};

@@ -1,9 +1,8 @@
-use Rattle.std.proofs.Common.{◌≡◌, ◌<◌, ◌-◌, ◌+◌, ◌∷◌, [], take, drop, ap, sym, ◌∙◌, subst, arith, refl}
+use Rattle.std.proofs.Common.{◌≡◌, ◌<◌, ◌-◌, ◌+◌, [], take, drop, ap, sym, ◌∙◌, subst, arith, refl}
 use Rattle.std.specs.Prelude.{Some}
 use Rattle.opl_trace.specs.Run.{alternatives, behind, choices, first_leaf}
 use Rattle.opl_marks.specs.Outcomes.{facts_in, marks_in, outcome, AreSound, IsSoundOut}
 use Rattle.opl_marks.proofs.Labels.{IsUnderWay, below_at}
-use Rattle.opl_run.specs.declared.task.End.TheVariants.{Inner}
 use Rattle.opl_run.specs.Costs.{cost_tasks, cost_choice}
 use Rattle.opl_run.specs.Made.{rests, once_then}
 use Rattle.opl_run.specs.Sound.{AreSoundTasks, AreSoundWays}

@@ -1,4 +1,4 @@
-use Rattle.std.proofs.Common.{ℕ, suc, ◌*◌, ◌≤◌, max, [], drop}
+use Rattle.std.proofs.Common.{suc, ◌*◌, ◌≤◌, max, [], drop}
 use Rattle.opl_marks.specs.Outcomes.{outcome}
 use Rattle.opl_marks.proofs.Labels.{IsUnderWay}
 use Rattle.opl_run.specs.Costs.{cost, cost_tasks, cost_choice}

@@ -1,4 +1,4 @@
-use Rattle.std.proofs.Common.{◌≡◌, ◌++◌, ◌∷◌, [], ap, ◌∙◌, arith}
+use Rattle.std.proofs.Common.{◌++◌, ◌∷◌, [], ap, ◌∙◌, arith}
 use Rattle.opl_expr.specs.declared.forms.Expr.TheVariants as E
 use Rattle.opl_run.proofs.Orders.{order_made}
 use Rattle.opl_run.proofs.step.precedes.Goals as goal

@@ -1,9 +1,9 @@
-use Rattle.std.proofs.Common.{◌≡◌, ◌++◌, ◌∷◌, [], length, refl, ap, sym, ◌∙◌, subst, arith, rules, append_assoc}
+use Rattle.std.proofs.Common.{◌++◌, ◌∷◌, [], ap, sym, ◌∙◌, subst, rules, append_assoc}
 use Rattle.std.specs.Prelude.{FitsSigned, Some}
 use Rattle.std.proofs.lemmas.Int.{to_z-of_z}
 use mir.Syntax.{w64}
 use Rattle.opl_domain.specs.Family.{set_of}
-use Rattle.opl_marks.proofs.Values.{from_on, from_least, above, rest_is, from_next, IsIn, next_in, shorter}
+use Rattle.opl_marks.proofs.Values.{from_on, from_least, from_next, IsIn, next_in, shorter}
 use Rattle.opl_run.proofs.step.values_of.Goals as goal
 
 pub loop-next-init : goal.loop-next-init
