@@ -7,8 +7,6 @@ mod model;
 mod next_items;
 mod next_statements;
 mod statement;
-#[cfg(test)]
-mod tests;
 mod wanted_items;
 mod wanted_statements;
 
