@@ -1,3 +1,6 @@
+pub mod Declarations
+pub mod Expressions
 pub mod Forms
+pub mod Models
 pub mod Scope
 pub mod Types
