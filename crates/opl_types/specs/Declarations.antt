@@ -37,7 +37,7 @@ use Rattle.opl_types.specs.Forms.{Form, Forms, Pairs, form_add, form_set}
 use Rattle.opl_types.specs.Forms.Form.{cells, keyed_cells}
 use Rattle.opl_types.specs.Forms.Forms.{no_forms, more_forms}
 use Rattle.opl_types.specs.Forms.Pairs.{no_pairs, more_pairs}
-use Rattle.opl_types.specs.Expressions.{Opened, kinds_in, used, data_number, typing, typed_set, is_set, or_anything}
+use Rattle.opl_types.specs.Expressions.{Opened, kinds, kinds_in, used, data_number, typing, typed_set, is_set, or_anything}
 use Rattle.opl_types.specs.Expressions.Need.{data_alone}
 
 -- ---- types
@@ -115,7 +115,7 @@ unfoldable mutual
     Ok (shaped (i ∷ is) s ∷ inner)
   initial sc s is f = do
     n ← typing sc f >>= used data_alone (fits_in sc (shaped is s))
-    Ok n.kinds
+    Ok (kinds n)
 
   pub initial_cells : Scope → Sort → List Sort → Forms → Checked (List Sort)
   initial_cells sc s is no_forms = Ok []
@@ -131,7 +131,7 @@ unfoldable mutual
     n ← typing sc key >>= used data_alone (fits_in sc i)
     first ← initial sc s is cell
     rest ← initial_pairs sc s i is others
-    Ok (n.kinds ++ (first ++ rest))
+    Ok (kinds n ++ (first ++ rest))
 
 -- a value in the data files has nothing to look at
 abbrev pub initial_kinds : Scope → Sort → List Sort → InitialTree → Checked (List Sort)
@@ -156,7 +156,7 @@ makes sc name thing kinds = Ok (record { scope = declared name.text thing sc; ki
 abbrev pub number_kinds : Scope → AddTree → Checked (List Sort)
 number_kinds sc t = do
   n ← typing sc (form_add t) >>= data_number
-  Ok n.kinds
+  Ok (kinds n)
 
 abbrev pub maybe_number : Scope → Option AddTree → Checked (List Sort)
 maybe_number sc None = Ok []

@@ -38,8 +38,12 @@ pub record Node : Type 0 where
   -- its own rule: it takes data alone; its parts have the types that it takes
   pub takes_data : Bool
   pub is_right : Bool
-  -- its type, then those of the expressions in it, each before the expressions inside it, in the order of the text
-  pub kinds : List Sort
+  -- the types of the expressions in it, each before those of the expressions inside it, in the order of the text
+  pub inner : List Sort
+
+-- its type, and then those of the expressions in it
+abbrev pub kinds : Node → List Sort
+kinds n = n.sort ∷ n.inner
 
 -- it names no decision variable, no activity and no question
 abbrev pub is_data : Node → Bool
@@ -48,10 +52,10 @@ is_data n = not n.decides && not n.asks
 -- an expression with these parts; of `inner` are the types of the expressions in it
 abbrev pub node : ℕ → Sort → List Node → Bool → List Sort → Node
 node at s parts is_right inner =
-    record { place = at; sort = s; decides = list_any (λ n. n.decides) parts; asks = list_any (λ n. n.asks) parts; is_one = false; is_whole = false; takes_data = false; is_right = is_right; kinds = s ∷ inner }
+    record { place = at; sort = s; decides = list_any (λ n. n.decides) parts; asks = list_any (λ n. n.asks) parts; is_one = false; is_whole = false; takes_data = false; is_right = is_right; inner = inner }
 
 abbrev pub kinds_in : List Node → List Sort
-kinds_in = flat_map (λ n. n.kinds)
+kinds_in = flat_map kinds
 
 -- the parts stand one behind the other
 abbrev pub made : ℕ → Sort → List Node → Bool → Node
@@ -98,11 +102,11 @@ data_number = used data_alone is_number
 abbrev pub name_node : NameTree → Option Thing → Checked Node
 name_node name None = Err (Unknown name.at)
 name_node name (Some thing) =
-    Ok (record { place = name.at; sort = sort_of thing; decides = is_decided thing; asks = false; is_one = is_variable thing && is_single (sort_of thing); is_whole = is_decided thing; takes_data = false; is_right = true; kinds = sort_of thing ∷ [] })
+    Ok (record { place = name.at; sort = sort_of thing; decides = is_decided thing; asks = false; is_one = is_variable thing && is_single (sort_of thing); is_whole = is_decided thing; takes_data = false; is_right = true; inner = [] })
 
 -- a bracket is what stands in it
 abbrev pub bracketed : ℕ → Node → Node
-bracketed at n = record n { place = at; kinds = n.sort ∷ n.kinds }
+bracketed at n = record n { place = at; inner = kinds n }
 
 abbrev pub all_sorts : (Sort → Bool) → List Node → Bool
 all_sorts test = list_all (λ n. test n.sort)
@@ -278,7 +282,7 @@ unfoldable mutual
   typing sc (aggregate at p f) = do
     opened ← open_params data_alone sc p
     n ← typing opened.scope f >>= part
-    Ok (node at int (n ∷ []) (is_number n.sort) (opened.kinds ++ n.kinds))
+    Ok (node at int (n ∷ []) (is_number n.sort) (opened.kinds ++ kinds n))
   typing sc (cardinality at f) = do
     n ← typing sc f >>= part
     Ok (made at int (n ∷ []) (is_set n.sort))
@@ -301,7 +305,7 @@ unfoldable mutual
   typing sc (described at f p) = do
     n ← typing (scope_within sc p (open_params data_alone sc p)) f >>= part
     opened ← open_params data_alone sc p
-    Ok (of_data (node at (set n.sort) (n ∷ []) (is_storable n.sort) (n.kinds ++ opened.kinds)))
+    Ok (of_data (node at (set n.sort) (n ∷ []) (is_storable n.sort) (kinds n ++ opened.kinds)))
   -- the cells of an array stand only as the initial value of one
   typing sc (cells at fs) = do
     ns ← typed_parts sc fs
@@ -353,4 +357,4 @@ unfoldable mutual
   open_params need sc (those_of groups condition) = do
     opened ← open_groups sc groups
     n ← typing opened.scope condition >>= used need is_truth
-    Ok (record { scope = opened.scope; kinds = opened.kinds ++ n.kinds })
+    Ok (record { scope = opened.scope; kinds = opened.kinds ++ kinds n })

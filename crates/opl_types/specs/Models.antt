@@ -31,7 +31,7 @@ use Rattle.opl_types.specs.Types.Sort.{array}
 use Rattle.opl_types.specs.Scope.{Checked, ◌>>=◌, ◌>>◌, unless, Scope, Thing, empty_scope, lookup}
 use Rattle.opl_types.specs.Scope.Thing.{resource}
 use Rattle.opl_types.specs.Forms.{form_expr, form_add, form_post, form_subscripts, form_params, forms_of}
-use Rattle.opl_types.specs.Expressions.{Node, Need, used, part, any_type, kinds_in, is_data, subscripts_fit, typing, typed_parts, open_params}
+use Rattle.opl_types.specs.Expressions.{Node, Need, used, part, any_type, kinds, kinds_in, is_data, subscripts_fit, typing, typed_parts, open_params}
 use Rattle.opl_types.specs.Expressions.Need.{nothing, data_alone, data_or_questions}
 use Rattle.opl_types.specs.Declarations.{all_decls, maybe_number}
 
@@ -55,14 +55,14 @@ if_written (Some l) sc = l sc
 abbrev pub within : Need → ParamsTree → Looked → Looked
 within need params inner sc = do
   opened ← open_params need sc (form_params params)
-  kinds ← inner opened.scope
-  Ok (opened.kinds ++ kinds)
+  rest ← inner opened.scope
+  Ok (opened.kinds ++ rest)
 
 -- an expression that is a condition
 abbrev pub condition : Need → ExprTree → Looked
 condition need t sc = do
   n ← typing sc (form_expr t) >>= used need is_truth
-  Ok n.kinds
+  Ok (kinds n)
 
 -- `a precedes b`, of two activities
 abbrev pub precedes : ℕ → PostTree → PostTree → Looked
@@ -70,7 +70,7 @@ precedes at first second sc = do
   m ← typing sc (form_post first) >>= part
   n ← typing sc (form_post second) >>= part
   unless (is_activity m.sort && is_activity n.sort) (Mismatch at)
-  Ok (m.kinds ++ n.kinds)
+  Ok (kinds m ++ kinds n)
 
 -- ---- resources
 
@@ -106,7 +106,7 @@ requires t sc = do
   thing ← known t.resource (lookup sc t.resource.text)
   ns ← subscript_nodes sc t.subscripts
   unless (is_activity n.sort && is_resource sc t ns thing) (Mismatch t.at)
-  Ok (n.kinds ++ (demand ++ kinds_in ns))
+  Ok (kinds n ++ (demand ++ kinds_in ns))
 
 -- ---- items
 
@@ -145,14 +145,14 @@ abbrev pub label : ℕ → LabelOp → PostTree → Looked
 label at op t sc = do
   n ← typing sc (form_post t) >>= part
   unless (is_labelled op n) (Mismatch at)
-  Ok n.kinds
+  Ok (kinds n)
 
 -- the key of an order is a number, and may ask
 abbrev pub order : Option OrderTree → Looked
 order None sc = Ok []
 order (Some t) sc = do
   n ← typing sc (form_add t.key) >>= used data_or_questions is_number
-  Ok n.kinds
+  Ok (kinds n)
 
 abbrev pub statement_layer : StatementTree-F Looked Looked Looked → Looked
 statement_layer (StatementTree-F.Block inner) = inner
@@ -193,13 +193,13 @@ abbrev pub instr : InstrTree → Looked
 instr (instrs.Solve at t) sc = block t sc
 instr (instrs.Optimize at optimum objective t) sc = do
   n ← typing sc (form_expr objective) >>= used nothing is_number
-  kinds ← block t sc
-  Ok (n.kinds ++ kinds)
+  rest ← block t sc
+  Ok (kinds n ++ rest)
 
 -- the types of all expressions of a model, or its first fault
 unfoldable pub model : ModelTree → Checked (List Sort)
 model t = do
   opened ← all_decls 0 empty_scope t.decls
-  kinds ← instr t.instr opened.scope
-  rest ← search t.search opened.scope
-  Ok (opened.kinds ++ (kinds ++ rest))
+  middle ← instr t.instr opened.scope
+  last ← search t.search opened.scope
+  Ok (opened.kinds ++ (middle ++ last))
