@@ -2,7 +2,10 @@
 #![tactic(auto)]
 
 mod fault;
+mod fit;
 mod kind;
+mod names;
+mod node;
 
 pub use fault::TypeFault;
 pub use kind::Ty;
