@@ -9,7 +9,7 @@ use Rattle.opl_types.specs.Scope.{Checked, ◌>>=◌, Text, Scope, Thing, empty_
 use Rattle.opl_types.specs.Scope.Thing.{range, variable, value}
 use Rattle.opl_types.specs.Forms.{Form, Forms, forms_of}
 use Rattle.opl_types.specs.Forms.Form.{number, named, arithmetic, listed, tuple, negative}
-use Rattle.opl_types.specs.Expressions.{Node, Need, used, any_type, kinds, typing, typed_parts, data_number}
+use Rattle.opl_types.specs.Expressions.{Node, Need, settled, used, any_type, kinds, typing, typed_parts, data_number}
 use Rattle.opl_types.specs.Expressions.Need.{nothing, data_alone}
 
 -- `R` a range, `x` a variable and `k` a number
@@ -24,17 +24,20 @@ name at text = named (record { at = at; text = text })
 
 -- `1 + k`
 one_plus : types_of (arithmetic 0 (forms_of (number 0 ∷ name 4 (codes "k") ∷ []))) ≡ Ok (int ∷ int ∷ int ∷ [])
-unfolding sc typing used lookup declared
+unfolding sc typing settled lookup declared
 one_plus = refl
+
 -- `1 + y`
 unknown : types_of (arithmetic 0 (forms_of (number 0 ∷ name 4 (codes "y") ∷ []))) ≡ Err (Unknown 4)
-unfolding sc typing used lookup declared
+unfolding sc typing settled lookup declared
 unknown = refl
+
 -- `1 + R`
 range_as_value : types_of (arithmetic 0 (forms_of (number 0 ∷ name 4 (codes "R") ∷ []))) ≡ Err (Mismatch 0)
-unfolding sc typing used lookup declared
+unfolding sc typing settled lookup declared
 range_as_value = refl
+
 -- `{1,x}`
 variable_in_set : types_of (listed 0 (forms_of (number 1 ∷ name 3 (codes "x") ∷ []))) ≡ Err (NotData 0)
-unfolding sc typing used lookup declared
+unfolding sc typing settled lookup declared
 variable_in_set = refl

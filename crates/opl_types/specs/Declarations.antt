@@ -29,7 +29,7 @@ use Rattle.opl_tree.specs.declared.declaration.VariableTypeTree.TheVariants as t
 use Rattle.opl_tree.specs.declared.expression.AddTree.{AddTree}
 use Rattle.opl_tree.specs.declared.expression.NameTree.{NameTree}
 use Rattle.opl_types.specs.declared.fault.TypeFault.TheVariants.{Unknown, Duplicate, Mismatch}
-use Rattle.opl_types.specs.Types.{Sort, is_single, sorts_of}
+use Rattle.opl_types.specs.Types.{Sort, is_single, is_set, sorts_of}
 use Rattle.opl_types.specs.Types.Sort.{int, set, array, activity, unary, discrete, anything}
 use Rattle.opl_types.specs.Scope.{Checked, ◌>>=◌, ◌>>◌, unless, Scope, Thing, Field, empty_scope, lookup, declared, fresh, all_fresh, with_values, fits_in, type_of}
 use Rattle.opl_types.specs.Scope.Thing.{range, enum_type, enum_name, struct_type, value, variable, activities, resource}
@@ -37,7 +37,7 @@ use Rattle.opl_types.specs.Forms.{Form, Forms, Pairs, form_add, form_set}
 use Rattle.opl_types.specs.Forms.Form.{cells, keyed_cells}
 use Rattle.opl_types.specs.Forms.Forms.{no_forms, more_forms}
 use Rattle.opl_types.specs.Forms.Pairs.{no_pairs, more_pairs}
-use Rattle.opl_types.specs.Expressions.{Opened, kinds, kinds_in, used, data_number, typing, typed_set, is_set, or_anything}
+use Rattle.opl_types.specs.Expressions.{Opened, kinds, kinds_in, used, data_number, typing, typed_set, or_anything}
 use Rattle.opl_types.specs.Expressions.Need.{data_alone}
 
 -- ---- types

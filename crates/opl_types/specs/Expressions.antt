@@ -10,7 +10,7 @@ use Rattle.opl_tree.specs.declared.expression.QuestionOp.TheVariants as question
 use Rattle.opl_tree.specs.declared.expression.Relation.{Relation}
 use Rattle.opl_tree.specs.declared.expression.Relation.TheVariants as relations
 use Rattle.opl_types.specs.declared.fault.TypeFault.TheVariants.{Unknown, Mismatch, NotData}
-use Rattle.opl_types.specs.Types.{Sort, Sorts, sorts_of, sort_list, is_number, is_truth, is_anything, is_single, is_storable, elements}
+use Rattle.opl_types.specs.Types.{Sort, Sorts, sorts_of, sort_list, is_number, is_truth, is_anything, is_single, is_storable, is_set, is_chosen, is_array_of_single, are_names, elements}
 use Rattle.opl_types.specs.Types.Sort.{int, bool, enumeration, structure, row, set, empty_set, array, activity, anything}
 use Rattle.opl_types.specs.Types.Sorts.{no_sorts, more_sorts}
 use Rattle.opl_types.specs.Scope.{Checked, ◌>>=◌, ◌>>◌, unless, Text, Thing, Scope, lookup, declared, all_fresh, with_values, fields, field_sort, fits_in, joined_in, parts_in, fit_one_struct, sort_of, is_decided, is_variable}
@@ -79,11 +79,14 @@ is_met data_alone n = is_data n
 is_met data_or_questions n = not n.decides
 
 -- an expression that meets the need of its place, its own rule, and has a type that its place takes
-unfoldable pub used : Need → (Sort → Bool) → Node → Checked Node
-used need takes n = do
+unfoldable pub settled : Need → Bool → Node → Checked Node
+settled need is_taken n = do
   unless (is_met need n && (not n.takes_data || is_data n)) (NotData n.place)
-  unless (n.is_right && takes n.sort) (Mismatch n.place)
+  unless (n.is_right && is_taken) (Mismatch n.place)
   Ok n
+
+abbrev pub used : Need → (Sort → Bool) → Node → Checked Node
+used need takes n = settled need (takes n.sort) n
 
 abbrev pub any_type : Sort → Bool
 any_type s = true
@@ -111,10 +114,6 @@ bracketed at n = record n { place = at; inner = kinds n }
 abbrev pub all_sorts : (Sort → Bool) → List Node → Bool
 all_sorts test = list_all (λ n. test n.sort)
 
-abbrev pub are_names : Sort → Sort → Bool
-are_names (enumeration k) (enumeration l) = nat_eq k l
-are_names a b = false
-
 -- two numbers or two names of one enumeration
 abbrev pub are_ordered : Sort → Sort → Bool
 are_ordered a b = (is_number a && is_number b) || (is_anything a || (is_anything b || are_names a b))
@@ -130,20 +129,11 @@ abbrev pub is_member : Scope → Option Sort → Sort → Bool
 is_member sc None a = false
 is_member sc (Some element) a = is_storable a && is_some (joined_in sc element a)
 
--- an array of numbers or of names of an enumeration
-abbrev pub is_array_of_single : Sort → Bool
-is_array_of_single (array indices element) = is_single element
-is_array_of_single s = is_anything s
-
 -- as many subscripts as dimensions, each of the type of its index
 abbrev pub subscripts_fit : Scope → Sorts → List Node → Bool
 subscripts_fit sc no_sorts [] = true
 subscripts_fit sc (more_sorts want wants) (n ∷ ns) = fits_in sc want n.sort && subscripts_fit sc wants ns
 subscripts_fit sc wants ns = false
-
--- a number or a name of an enumeration, which a decision variable may choose
-abbrev pub is_chosen : Sort → Bool
-is_chosen s = is_single s || is_anything s
 
 -- where a subscript isn't data, the subscripts and the element are numbers or names of enumerations
 abbrev pub may_be_decided : List Node → Sort → Bool
@@ -204,9 +194,6 @@ pub record Opened : Type 0 where
 pub record Range : Type 0 where
   pub nodes : List Node
   pub element : Option Sort
-
-abbrev pub is_set : Sort → Bool
-is_set s = is_some (elements s)
 
 abbrev pub or_anything : Option Sort → Sort
 or_anything None = anything

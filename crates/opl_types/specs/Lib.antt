@@ -4,3 +4,4 @@ pub mod Forms
 pub mod Models
 pub mod Scope
 pub mod Types
+pub mod Values

@@ -1,5 +1,5 @@
 -- The types of expressions xs plain data, and which of them fit together.
-use Rattle.std.specs.Prelude.{ℕ, Bool, true, false, cond, ◌&&◌, List, [], ◌∷◌, nat_eq, Option, Some, None}
+use Rattle.std.specs.Prelude.{ℕ, Bool, true, false, cond, ◌&&◌, ◌||◌, List, [], ◌∷◌, nat_eq, Option, Some, None, is_some}
 use Rattle.std.specs.Option.{option_map}
 use Rattle.opl_types.specs.declared.kind.Ty.{Ty}
 use Rattle.opl_types.specs.declared.kind.Ty.TheOpen.{Ty-F}
@@ -118,7 +118,25 @@ elements empty_set = Some anything
 elements anything = Some anything
 elements s = None
 
--- ---- which types are the same
+-- what stands for a set
+abbrev pub is_set : Sort → Bool
+is_set s = is_some (elements s)
+
+-- a number or a name of an enumeration, which a decision variable may choose
+abbrev pub is_chosen : Sort → Bool
+is_chosen s = is_single s || is_anything s
+
+-- an array of numbers or of names of an enumeration
+abbrev pub is_array_of_single : Sort → Bool
+is_array_of_single (array indices element) = is_single element
+is_array_of_single s = is_anything s
+
+-- two names of one enumeration
+abbrev pub are_names : Sort → Sort → Bool
+are_names (enumeration k) (enumeration l) = nat_eq k l
+are_names a b = false
+
+-- ---- which types of values are the same
 
 abbrev mutual
   pub same : Sort → Sort → Bool
@@ -130,11 +148,6 @@ abbrev mutual
   same (set a) (set b) = same a b
   same empty_set empty_set = true
   same (array indices a) (array others b) = all_same indices others && same a b
-  same activity activity = true
-  same unary unary = true
-  same discrete discrete = true
-  same (index a) (index b) = same a b
-  same struct_name struct_name = true
   same anything anything = true
   same a b = false
 

@@ -1,0 +1,160 @@
+//! The names that patterns give to the elements of a set.
+use crate::fault::TypeFault;
+use crate::kind::Ty;
+use crate::names::{Local, Names, add_local, copied, fresh};
+use opl_list::Seq;
+use opl_tree::{GroupTree, NameTree, ParamsTree, PatternTree};
+use std::alloc::Global;
+
+/// The name is visible neither outside nor beside itself; it is taken from then on.
+fn take_name(
+    alloc: Global,
+    model: &Names,
+    taken: &mut Seq<Local>,
+    name: &NameTree,
+) -> Result<(), TypeFault> {
+    fresh(model, taken.as_slice(), name)?;
+    add_local(alloc, taken, name.text.as_slice(), Ty::Any)
+}
+
+/// The names of a pattern.
+fn take_pattern(
+    alloc: Global,
+    model: &Names,
+    taken: &mut Seq<Local>,
+    pattern: &PatternTree,
+) -> Result<(), TypeFault> {
+    match pattern {
+        PatternTree::Single(name) => take_name(alloc, model, taken, name),
+        PatternTree::Record(_, first, rest) => {
+            take_name(alloc, model, taken, first)?;
+            for name in rest.as_slice() {
+                take_name(alloc, model, taken, name)?;
+            }
+            Ok(())
+        }
+    }
+}
+
+/// The names of the patterns of a group are visible neither outside nor twice.
+pub(crate) fn all_fresh(
+    alloc: Global,
+    model: &Names,
+    locals: &[Local],
+    first: &PatternTree,
+    rest: &[PatternTree],
+) -> Result<(), TypeFault> {
+    let mut taken = copied(alloc, locals)?;
+    take_pattern(alloc, model, &mut taken, first)?;
+    for pattern in rest {
+        take_pattern(alloc, model, &mut taken, pattern)?;
+    }
+    Ok(())
+}
+
+/// The names of a pattern for the elements of a set.
+pub(crate) fn bind_pattern(
+    alloc: Global,
+    model: &Names,
+    locals: &mut Seq<Local>,
+    element: &Ty,
+    pattern: &PatternTree,
+) -> Result<(), TypeFault> {
+    match pattern {
+        PatternTree::Single(name) => {
+            add_local(alloc, locals, name.text.as_slice(), element.copy(alloc)?)
+        }
+        PatternTree::Record(at, first, rest) => {
+            let Some(parts) = parts_of(alloc, model, element, rest.len() + 1)? else {
+                return Err(TypeFault::Mismatch(*at));
+            };
+            if parts.len() != rest.len() + 1 {
+                return Err(TypeFault::Mismatch(*at));
+            }
+            let mut parts = parts.into_vec().into_iter();
+            if let Some(ty) = parts.next() {
+                add_local(alloc, locals, first.text.as_slice(), ty)?;
+            }
+            for name in rest.as_slice() {
+                if let Some(ty) = parts.next() {
+                    add_local(alloc, locals, name.text.as_slice(), ty)?;
+                }
+            }
+            Ok(())
+        }
+    }
+}
+
+/// The types of the parts of a record, if it is one. What ranges over `{}` has as many as are asked for.
+fn parts_of(
+    alloc: Global,
+    model: &Names,
+    element: &Ty,
+    count: usize,
+) -> Result<Option<Seq<Ty>>, TypeFault> {
+    let mut parts = Seq::new(alloc);
+    match element {
+        Ty::Any => {
+            for _ in 0..count {
+                parts.push(Ty::Any)?;
+            }
+        }
+        Ty::Record(k) => {
+            for field in model.fields(*k) {
+                parts.push(field.ty.copy(alloc)?)?;
+            }
+        }
+        Ty::Row(inner) => {
+            for ty in inner.as_slice() {
+                parts.push(ty.copy(alloc)?)?;
+            }
+        }
+        _ => return Ok(None),
+    }
+    Ok(Some(parts))
+}
+
+/// The names of a pattern, as what may be anything.
+fn unknown_pattern(
+    alloc: Global,
+    locals: &mut Seq<Local>,
+    pattern: &PatternTree,
+) -> Result<(), TypeFault> {
+    match pattern {
+        PatternTree::Single(name) => add_local(alloc, locals, name.text.as_slice(), Ty::Any),
+        PatternTree::Record(_, first, rest) => {
+            add_local(alloc, locals, first.text.as_slice(), Ty::Any)?;
+            for name in rest.as_slice() {
+                add_local(alloc, locals, name.text.as_slice(), Ty::Any)?;
+            }
+            Ok(())
+        }
+    }
+}
+
+/// The names of a group, as what may be anything.
+fn unknown_group(
+    alloc: Global,
+    locals: &mut Seq<Local>,
+    group: &GroupTree,
+) -> Result<(), TypeFault> {
+    unknown_pattern(alloc, locals, &group.first)?;
+    for pattern in group.rest.as_slice() {
+        unknown_pattern(alloc, locals, pattern)?;
+    }
+    Ok(())
+}
+
+/// The names of parameters that have a fault, as what may be anything.
+pub(crate) fn unknown_params(
+    alloc: Global,
+    locals: &[Local],
+    params: &ParamsTree,
+) -> Result<Seq<Local>, TypeFault> {
+    let mut found = copied(alloc, locals)?;
+    unknown_group(alloc, &mut found, &params.first)?;
+    for step in params.rest.as_slice() {
+        unknown_group(alloc, &mut found, &step.group)?;
+    }
+    Ok(found)
+}
