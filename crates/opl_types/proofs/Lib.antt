@@ -1,3 +1,4 @@
 pub mod Examples
 pub mod Forms
+pub mod Lookup
 pub mod Sorts

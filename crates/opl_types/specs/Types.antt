@@ -156,6 +156,30 @@ abbrev mutual
   all_same (more_sorts a xs) (more_sorts b ys) = same a b && all_same xs ys
   all_same xs ys = false
 
+-- the type of the elements of a set that is declared
+abbrev pub set_element : Sort → Option Sort
+set_element (set element) = Some element
+set_element s = None
+
+abbrev pub if_some : (Sort → Bool) → Option Sort → Bool
+if_some test None = false
+if_some test (Some s) = test s
+
+-- the parts of a row
+abbrev pub row_parts : Sort → Option Sorts
+row_parts (row inner) = Some inner
+row_parts s = None
+
+-- what the function gives, else the other
+abbrev pub pick : {A : Type 0} → (A → Option Sort) → Option Sort → Option A → Option Sort
+pick f other None = other
+pick f other (Some a) = f a
+
+-- a row's first part and its others
+abbrev pub both : Option Sort → Option Sorts → Option Sorts
+both (Some s) (Some ss) = Some (more_sorts s ss)
+both a b = None
+
 -- ---- which types fit, where `fields` tells the types of each struct's fields
 
 module _ (fields : ℕ → Sorts) where
@@ -169,34 +193,29 @@ module _ (fields : ℕ → Sorts) where
     -- a value of the second type may stand where the first is declared
     pub fits : Sort → Sort → Bool
     fits want anything = true
-    fits anything have = true
-    fits want (row inner) = fits_parts (parts want) inner
-    fits (set want) (set have) = fits want have
-    fits (set want) empty_set = true
-    fits want have = same want have
+    fits want (row inner) = is_anything want || fits_parts (parts want) inner
+    fits want (set have) = is_anything want || if_some (λ w. fits w have) (set_element want)
+    fits want empty_set = is_anything want || (is_some (set_element want) || same want empty_set)
+    fits want have = is_anything want || same want have
 
     pub fits_parts : Option Sorts → Sorts → Bool
     fits_parts (Some no_sorts) no_sorts = true
     fits_parts (Some (more_sorts want wants)) (more_sorts have haves) = fits want have && fits_parts (Some wants) haves
     fits_parts wants haves = false
 
-  -- a row's first part and its others
-  abbrev both : Option Sort → Option Sorts → Option Sorts
-  both (Some s) (Some ss) = Some (more_sorts s ss)
-  both a b = None
+  -- the one of two types that values of the other fit
+  abbrev pub one_of : Sort → Sort → Option Sort
+  one_of a b = cond (fits a b) (Some a) (cond (fits b a) (Some b) None)
 
   abbrev mutual
-    -- the one type of two elements of a set
+    -- the one type of two elements of a set; of rows and of sets, part by part
     pub joined : Sort → Sort → Option Sort
     joined anything b = Some b
-    joined a anything = Some a
-    joined (row xs) (row ys) = option_map row (all_joined xs ys)
-    joined (set a) (set b) = option_map set (joined a b)
-    joined (set a) empty_set = Some (set a)
-    joined empty_set (set b) = Some (set b)
-    joined a b = cond (fits a b) (Some a) (cond (fits b a) (Some b) None)
+    joined (row xs) b = pick (λ ys. option_map row (all_joined xs ys)) (one_of (row xs) b) (row_parts b)
+    joined (set x) b = pick (λ y. option_map set (joined x y)) (one_of (set x) b) (set_element b)
+    joined a b = one_of a b
 
     pub all_joined : Sorts → Sorts → Option Sorts
     all_joined no_sorts no_sorts = Some no_sorts
-    all_joined (more_sorts a xs) (more_sorts b ys) = both (joined a b) (all_joined xs ys)
+    all_joined (more_sorts x xs) (more_sorts y ys) = both (joined x y) (all_joined xs ys)
     all_joined xs ys = None

@@ -1,5 +1,5 @@
 -- What the program's values stand for in the definitions.
-use Rattle.std.specs.Prelude.{◌≡◌, ℕ, Bool, List, [], ◌∷◌, map, cond, Option, Some, None, Result, Ok, Err}
+use Rattle.std.specs.Prelude.{◌≡◌, ℕ, Bool, List, [], ◌∷◌, map, cond, nat_eq, Option, Some, None, Result, Ok, Err}
 use Rattle.std.specs.Option.{option_map}
 use Rattle.std.specs.Str.{bytes_eq}
 use Rattle.opl_types.specs.declared.fault.TypeFault.{TypeFault}
@@ -14,7 +14,7 @@ use Rattle.opl_types.specs.declared.names.Thing.TheVariants as thing
 use Rattle.opl_types.specs.declared.node.Need as needs
 use Rattle.opl_types.specs.declared.node.Need.TheVariants as need
 use Rattle.opl_types.specs.declared.node.Node as nodes
-use Rattle.opl_types.specs.Types.{Sort, sort}
+use Rattle.opl_types.specs.Types.{Sort, Sorts, sort, sorts_of}
 use Rattle.opl_types.specs.Scope.{Checked, Text, Field, Thing, Entry, Scope, declared}
 use Rattle.opl_types.specs.Scope.Thing.{range, enum_type, enum_name, struct_type, value, variable, activities, resource}
 use Rattle.opl_types.specs.Expressions.{Node, Need}
@@ -29,8 +29,14 @@ Gives reading checked (Err (Duplicate at)) = checked ≡ Err (Duplicate at)
 Gives reading checked (Err (Mismatch at)) = checked ≡ Err (Mismatch at)
 Gives reading checked (Err (NotData at)) = checked ≡ Err (NotData at)
 
+abbrev pub sorts_in : List Ty → Sorts
+sorts_in tys = sorts_of (map sort tys)
+
 abbrev pub field_of : fields.Field → Field
 field_of f = record { name = f.name; sort = sort f.ty }
+
+abbrev pub field_sort_of : fields.Field → Sort
+field_sort_of f = sort f.ty
 
 abbrev pub thing_of : things.Thing → Thing
 thing_of thing.Range = range
@@ -61,15 +67,21 @@ within n ls = with_locals ls (scope_of n)
 -- the thing of the latest entry of a name, else the one before
 abbrev pub latest_or : Option things.Thing → Text → List entries.Entry → Option things.Thing
 latest_or before name [] = before
-latest_or before name (e ∷ es) = latest_or (cond (bytes_eq e.name name) (Some e.thing) before) name es
+latest_or before name (e ∷ es) = latest_or (cond (bytes_eq name e.name) (Some e.thing) before) name es
 
-abbrev pub latest : Text → List entries.Entry → Option things.Thing
-latest = latest_or None
+-- the fields of the struct with that number, else those before
+abbrev pub fields_of_thing : List fields.Field → ℕ → things.Thing → List fields.Field
+fields_of_thing before k (thing.StructType l fs) = cond (nat_eq k l) fs before
+fields_of_thing before k t = before
+
+abbrev pub latest_fields : List fields.Field → ℕ → List entries.Entry → List fields.Field
+latest_fields before k [] = before
+latest_fields before k (e ∷ es) = latest_fields (fields_of_thing before k e.thing) k es
 
 -- the type of the latest parameter of a name, else the one before
 abbrev pub local_or : Option Ty → Text → List locals.Local → Option Ty
 local_or before name [] = before
-local_or before name (l ∷ ls) = local_or (cond (bytes_eq l.name name) (Some l.ty) before) name ls
+local_or before name (l ∷ ls) = local_or (cond (bytes_eq name l.name) (Some l.ty) before) name ls
 
 abbrev pub node_of : nodes.Node → Node
 node_of n = record { place = n.place; sort = sort n.ty; decides = n.decides; asks = n.asks; is_one = n.is_one; is_whole = n.is_whole; takes_data = n.takes_data; is_right = n.is_right; inner = map sort n.inner }

@@ -125,7 +125,7 @@ fn initial(
                 kinds.push(shaped(alloc, indices, element)?)?;
                 for cell in cells {
                     let key = add(alloc, model, locals, &cell.key)?;
-                    let is_taken = fits(model, first, &key.ty);
+                    let is_taken = fits(model, &key.ty, first);
                     add_kinds(kinds, key.settled(Need::DataAlone, is_taken)?)?;
                     initial(alloc, model, locals, element, rest, &cell.value, kinds)?;
                 }
@@ -136,7 +136,7 @@ fn initial(
     }
     let want = shaped(alloc, indices, element)?;
     let node = add(alloc, model, locals, t)?;
-    let is_taken = fits(model, &want, &node.ty);
+    let is_taken = fits(model, &node.ty, &want);
     add_kinds(kinds, node.settled(Need::DataAlone, is_taken)?)
 }
 

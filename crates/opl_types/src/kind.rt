@@ -544,5 +544,8 @@ pub(crate) fn are_same(types: &[Ty], others: &[Ty]) -> bool
         }
         left = rest;
     }
-    left.is_empty()
+    match left.split_first() {
+        Some(_) => false,
+        None => true,
+    }
 }

@@ -6,6 +6,7 @@ mod expression;
 mod fault;
 mod fit;
 mod item;
+mod join;
 mod kind;
 mod names;
 mod node;

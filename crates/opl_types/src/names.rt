@@ -1,4 +1,11 @@
 //! The names of a model, and what they stand for.
+ghost use Rattle.std.specs.Prelude.{◌≡◌, ◌++◌, ◌∷◌, [], None, Some, Ok, IfOk, map};
+ghost use Rattle.std.specs.Option.{option_copied, option_map};
+ghost use Rattle.opl_types.specs.Scope as scope;
+ghost use Rattle.opl_types.specs.Types.{sort, sorts_of};
+ghost use Rattle.opl_types.specs.Values as spec;
+ghost use Rattle.opl_types.specs.Values.{Gives};
+
 use crate::fault::TypeFault;
 use crate::kind::Ty;
 use opl_list::{Boxed, Seq};
@@ -60,13 +67,46 @@ pub(crate) struct Local {
 
 /// What the latest entry of that name stands for.
 fn latest<'a>(entries: &'a [Entry], name: &[u8]) -> Option<&'a Thing>
-    ensures { option_copied result ≡ spec.latest name.now entries.now }
+    ensures { option_copied result ≡ spec.latest_or None name.now entries.now }
 {
     let mut found = None;
     for entry in entries {
-        if entry.name.as_slice() == name {
+        if name == entry.name.as_slice() {
             found = Some(&entry.thing);
         }
+    }
+    found
+}
+
+/// The fields of a struct, if it is the one with that number; else those before.
+fn fields_of<'a>(before: &'a [Field], thing: &'a Thing, number: u32) -> &'a [Field]
+    ensures { result.now ≡ spec.fields_of_thing before.now number thing.now }
+{
+    match thing {
+        Thing::StructType(k, fields) => {
+            if number == *k {
+                fields.as_slice()
+            } else {
+                before
+            }
+        }
+        Thing::Range
+        | Thing::EnumType(_)
+        | Thing::EnumName(_)
+        | Thing::Value(_)
+        | Thing::Variable(_)
+        | Thing::Activities(_)
+        | Thing::Resource(_) => before,
+    }
+}
+
+/// The fields of the latest struct with that number.
+fn latest_fields(entries: &[Entry], number: u32) -> &[Field]
+    ensures { result.now ≡ spec.latest_fields [] number entries.now }
+{
+    let mut found: &[Field] = &[];
+    for entry in entries {
+        found = fields_of(found, &entry.thing, number);
     }
     found
 }
@@ -77,7 +117,7 @@ pub(crate) fn local_type<'a>(locals: &'a [Local], name: &[u8]) -> Option<&'a Ty>
 {
     let mut found = None;
     for local in locals {
-        if local.name.as_slice() == name {
+        if name == local.name.as_slice() {
             found = Some(&local.ty);
         }
     }
@@ -85,7 +125,10 @@ pub(crate) fn local_type<'a>(locals: &'a [Local], name: &[u8]) -> Option<&'a Ty>
 }
 
 /// Whether the name is visible already.
-fn is_visible(model: &Names, locals: &[Local], name: &[u8]) -> bool {
+#[tactic(auto, using(crate::proofs::Lookup::locals_found))]
+fn is_visible(model: &Names, locals: &[Local], name: &[u8]) -> bool
+    ensures { result ≡ scope.is_visible (scope.lookup (spec.within model.now locals.now) name.now) }
+{
     local_type(locals, name).is_some() || model.lookup(name).is_some()
 }
 
@@ -95,9 +138,12 @@ pub(crate) fn field_type(
     model: &Names,
     number: u32,
     name: &[u8],
-) -> Result<Option<Ty>, TypeFault> {
-    for field in model.fields(number) {
-        if field.name.as_slice() == name {
+) -> Result<Option<Ty>, TypeFault>
+    ensures { Gives (option_map sort) (Ok (scope.field_sort name.now (scope.fields (spec.scope_of model.now) number))) result }
+{
+    let fields = model.fields(number);
+    for field in fields {
+        if name == field.name.as_slice() {
             return Ok(Some(field.ty.copy(alloc)?));
         }
     }
@@ -106,7 +152,10 @@ pub(crate) fn field_type(
 
 impl Names {
     /// The names of a model's beginning.
-    pub(crate) fn new(alloc: Global) -> Names {
+    #[tactic(auto, unfolding(crate::specs::Values::scope_of))]
+    pub(crate) fn new(alloc: Global) -> Names
+        ensures { spec.scope_of result ≡ scope.empty_scope }
+    {
         Names {
             entries: Seq::new(alloc),
             is_search: false,
@@ -116,39 +165,44 @@ impl Names {
     }
 
     /// What the name stands for.
-    pub(crate) fn lookup(&self, name: &[u8]) -> Option<&Thing> {
+    #[tactic(auto, using(crate::proofs::Lookup::names_found))]
+    pub(crate) fn lookup(&self, name: &[u8]) -> Option<&Thing>
+        ensures { option_map spec.thing_of (option_copied result) ≡ scope.lookup (spec.scope_of self.now) name.now }
+    {
         latest(self.entries.as_slice(), name)
     }
 
     /// One more visible name.
+    #[tactic(auto, using(crate::proofs::Lookup::names_added))]
     pub(crate) fn declare(
         &mut self,
         alloc: Global,
         name: &[u8],
         thing: Thing,
-    ) -> Result<(), TypeFault> {
+    ) -> Result<(), TypeFault>
+        ensures { IfOk result (λ u. spec.scope_of self.new ≡ scope.declared name.now (spec.thing_of thing) (spec.scope_of self.old)) }
+    {
         let name = Seq::from_slice(alloc, name)?;
         self.entries.push(Entry { name, thing })?;
         Ok(())
     }
 
     /// The fields of the struct with that number.
-    pub(crate) fn fields(&self, number: u32) -> &[Field] {
-        let mut found: &[Field] = &[];
-        for entry in self.entries.as_slice() {
-            if let Thing::StructType(k, fields) = &entry.thing {
-                if *k == number {
-                    found = fields.as_slice();
-                }
-            }
-        }
-        found
+    #[tactic(auto, using(crate::proofs::Lookup::fields_found))]
+    pub(crate) fn fields(&self, number: u32) -> &[Field]
+        ensures fields { map spec.field_of result.now ≡ scope.fields (spec.scope_of self.now) number }
+        ensures sorts { sorts_of (map spec.field_sort_of result.now) ≡ scope.field_sorts (spec.scope_of self.now) number }
+    {
+        latest_fields(self.entries.as_slice(), number)
     }
 }
 
 impl Thing {
     /// The type of the name as an expression.
-    pub(crate) fn ty(&self, alloc: Global) -> Result<Ty, TypeFault> {
+    #[tactic(auto, using(crate::proofs::Sorts::sorts))]
+    pub(crate) fn ty(&self, alloc: Global) -> Result<Ty, TypeFault>
+        ensures { Gives sort (Ok (scope.sort_of (spec.thing_of self.now))) result }
+    {
         match self {
             Thing::Range => Ok(Ty::Index(Boxed::new(alloc, Ty::Int)?)),
             Thing::EnumType(k) => Ok(Ty::Index(Boxed::new(alloc, Ty::Enum(*k))?)),
@@ -162,7 +216,10 @@ impl Thing {
     }
 
     /// The type that the name stands for where a type is written.
-    pub(crate) fn named_type(&self) -> Option<Ty> {
+    #[tactic(auto, using(crate::proofs::Sorts::sorts))]
+    pub(crate) fn named_type(&self) -> Option<Ty>
+        ensures { option_map sort result ≡ scope.type_of (Some (spec.thing_of self.now)) }
+    {
         match self {
             Thing::Range => Some(Ty::Int),
             Thing::EnumType(k) => Some(Ty::Enum(*k)),
@@ -176,7 +233,9 @@ impl Thing {
     }
 
     /// Whether it is a decision variable or an activity, or an array of such.
-    pub(crate) fn is_decided(&self) -> bool {
+    pub(crate) fn is_decided(&self) -> bool
+        ensures { result ≡ scope.is_decided (spec.thing_of self.now) }
+    {
         match self {
             Thing::Variable(_) | Thing::Activities(_) => true,
             Thing::Range
@@ -189,7 +248,9 @@ impl Thing {
     }
 
     /// Whether it is a decision variable or an array of such.
-    pub(crate) fn is_variable(&self) -> bool {
+    pub(crate) fn is_variable(&self) -> bool
+        ensures { result ≡ scope.is_variable (spec.thing_of self.now) }
+    {
         match self {
             Thing::Variable(_) => true,
             Thing::Range
@@ -209,14 +270,19 @@ pub(crate) fn add_local(
     locals: &mut Seq<Local>,
     name: &[u8],
     ty: Ty,
-) -> Result<(), TypeFault> {
+) -> Result<(), TypeFault>
+    ensures { IfOk result (λ u. locals.new ≡ locals.old ++ record { name = name.now; ty = ty } ∷ []) }
+{
     let name = Seq::from_slice(alloc, name)?;
     locals.push(Local { name, ty })?;
     Ok(())
 }
 
 /// A name that is declared may not be visible already.
-pub(crate) fn fresh(model: &Names, locals: &[Local], name: &NameTree) -> Result<(), TypeFault> {
+#[tactic(auto, unfolding(crate::specs::Scope::fresh))]
+pub(crate) fn fresh(model: &Names, locals: &[Local], name: &NameTree) -> Result<(), TypeFault>
+    ensures { Gives (λ u. u) (scope.fresh (spec.within model.now locals.now) name.now) result }
+{
     if is_visible(model, locals, name.text.as_slice()) {
         Err(TypeFault::Duplicate(name.at))
     } else {
@@ -225,7 +291,9 @@ pub(crate) fn fresh(model: &Names, locals: &[Local], name: &NameTree) -> Result<
 }
 
 /// The same parameters, to which others may be added.
-pub(crate) fn copied(alloc: Global, locals: &[Local]) -> Result<Seq<Local>, TypeFault> {
+pub(crate) fn copied(alloc: Global, locals: &[Local]) -> Result<Seq<Local>, TypeFault>
+    ensures { IfOk result (λ r. r ≡ locals.now) }
+{
     let mut found = Seq::new(alloc);
     for local in locals {
         add_local(

@@ -1,8 +1,11 @@
 //! What is known of an expression, and what its place asks of it.
+ghost use Rattle.std.specs.Prelude.{◌≡◌};
+ghost use Rattle.opl_types.specs.Expressions as spec;
+ghost use Rattle.opl_types.specs.Values.{Gives, node_of, need_of};
+
 use crate::fault::TypeFault;
 use crate::kind::Ty;
 use opl_list::Seq;
-use std::alloc::{AllocError, Global};
 
 /// What is known of an expression.
 #[derive(Drop)]
@@ -54,6 +57,7 @@ impl Node {
     }
 
     /// The expression in a place that needs this of it, and may or may not take its type.
+    #[tactic(auto, unfolding(crate::specs::Expressions::settled))]
     pub(crate) fn settled(self, need: Need, is_taken: bool) -> Result<Node, TypeFault>
         ensures { Gives node_of (spec.settled (need_of need) is_taken (node_of self)) result }
     {

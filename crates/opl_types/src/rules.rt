@@ -1,6 +1,7 @@
 //! The rules of the forms: what an expression is, once its parts are known.
 use crate::fault::TypeFault;
-use crate::fit::{are_related, element_type, fits_subscripts, is_member};
+use crate::fit::fits_subscripts;
+use crate::join::{are_related, element_type, is_member};
 use crate::kind::Ty;
 use crate::names::{Local, Names, field_type, local_type};
 use crate::node::Node;
