@@ -14,10 +14,12 @@ use Rattle.opl_types.specs.declared.names.Thing.TheVariants as thing
 use Rattle.opl_types.specs.declared.node.Need as needs
 use Rattle.opl_types.specs.declared.node.Need.TheVariants as need
 use Rattle.opl_types.specs.declared.node.Node as nodes
+use Rattle.opl_types.specs.declared.expression.Opened as opened
+use Rattle.opl_types.specs.declared.rules.Range as ranges
 use Rattle.opl_types.specs.Types.{Sort, Sorts, sort, sorts_of}
 use Rattle.opl_types.specs.Scope.{Checked, Text, Field, Thing, Entry, Scope, declared}
 use Rattle.opl_types.specs.Scope.Thing.{range, enum_type, enum_name, struct_type, value, variable, activities, resource}
-use Rattle.opl_types.specs.Expressions.{Node, Need}
+use Rattle.opl_types.specs.Expressions.{Node, Need, Range, Opened}
 use Rattle.opl_types.specs.Expressions.Need.{nothing, data_alone, data_or_questions}
 
 -- what a function answers that finds something, unless memory fails
@@ -90,3 +92,9 @@ abbrev pub need_of : needs.Need → Need
 need_of need.Nothing = nothing
 need_of need.DataAlone = data_alone
 need_of need.DataOrQuestions = data_or_questions
+
+abbrev pub range_of : ranges.Range → Range
+range_of r = record { nodes = map node_of r.nodes; element = option_map sort r.element }
+
+abbrev pub opened_in : Names → opened.Opened → Opened
+opened_in n o = record { scope = within n o.locals; kinds = map sort o.kinds }

@@ -1,9 +1,12 @@
 //! The one type of the elements of a set, and the types of the sides of comparisons.
 ghost use Rattle.std.specs.Prelude.{◌≡◌, map, Some, Ok};
 ghost use Rattle.std.specs.Option.{option_map};
+ghost use Rattle.opl_types.specs.Expressions as rule;
+ghost use Rattle.opl_types.specs.Scope as scope;
 ghost use Rattle.opl_types.specs.Types as spec;
+ghost use Rattle.opl_types.specs.Types.Sort.{anything};
 ghost use Rattle.opl_types.specs.Scope.{joined_in, field_sorts};
-ghost use Rattle.opl_types.specs.Values.{Gives, scope_of, sorts_in};
+ghost use Rattle.opl_types.specs.Values.{Gives, node_of, scope_of, sorts_in};
 
 use crate::fault::TypeFault;
 use crate::fit::fits;
@@ -117,11 +120,14 @@ fn all_joined(
 }
 
 /// The one type of the elements of a set, if they have one.
+#[tactic(auto, using(crate::proofs::Sorts::sorts))]
 pub(crate) fn element_type(
     alloc: Global,
     model: &Names,
     elements: &[Node],
-) -> Result<Option<Ty>, TypeFault> {
+) -> Result<Option<Ty>, TypeFault>
+    ensures { Gives (option_map spec.sort) (Ok (rule.element_type (scope_of model.now) (Some anything) (map node_of elements.now))) result }
+{
     let mut found = Ty::Any;
     for element in elements {
         match joined(alloc, model, &found, &element.ty)? {
@@ -133,12 +139,15 @@ pub(crate) fn element_type(
 }
 
 /// Whether the elements of a set and a value are of one type.
+#[tactic(auto, using(crate::proofs::Sorts::sorts))]
 pub(crate) fn is_member(
     alloc: Global,
     model: &Names,
     element: &Option<Ty>,
     value: &Ty,
-) -> Result<bool, TypeFault> {
+) -> Result<bool, TypeFault>
+    ensures { Gives (λ b. b) (Ok (rule.is_member (scope_of model.now) (option_map spec.sort element.now) (spec.sort value.now))) result }
+{
     match element {
         None => Ok(false),
         Some(element) => {
@@ -148,7 +157,9 @@ pub(crate) fn is_member(
 }
 
 /// Whether the types may stand on the sides of the comparison.
-pub(crate) fn are_related(model: &Names, relation: Relation, a: &Ty, b: &Ty) -> bool {
+pub(crate) fn are_related(model: &Names, relation: Relation, a: &Ty, b: &Ty) -> bool
+    ensures { result ≡ rule.are_related (scope_of model.now) relation (spec.sort a.now) (spec.sort b.now) }
+{
     let are_ordered = a.is_number() && b.is_number()
         || a.is_anything()
         || b.is_anything()
@@ -162,7 +173,10 @@ pub(crate) fn are_related(model: &Names, relation: Relation, a: &Ty, b: &Ty) -> 
 }
 
 /// Whether there is a struct that both fit.
-fn fit_one_struct(model: &Names, a: &Ty, b: &Ty) -> bool {
+#[tactic(auto, using(crate::proofs::Sorts::sorts))]
+fn fit_one_struct(model: &Names, a: &Ty, b: &Ty) -> bool
+    ensures { result ≡ scope.fit_one_struct (scope_of model.now) (spec.sort a.now) (spec.sort b.now) }
+{
     for entry in model.entries.as_slice() {
         if let Thing::StructType(k, _) = &entry.thing {
             let want = Ty::Record(*k);
