@@ -3,5 +3,6 @@ pub mod Expressions
 pub mod Forms
 pub mod Models
 pub mod Scope
+pub mod Steps
 pub mod Types
 pub mod Values

@@ -1,4 +1,11 @@
 //! The types of declarations.
+ghost use Rattle.std.specs.Prelude.{◌≡◌, [], Ok, map};
+ghost use Rattle.opl_types.specs.Declarations as spec;
+ghost use Rattle.opl_types.specs.Forms.{form_add};
+ghost use Rattle.opl_types.specs.Steps.{front, behind};
+ghost use Rattle.opl_types.specs.Types.{sort};
+ghost use Rattle.opl_types.specs.Values.{Gives, scope_of, within};
+
 use crate::expression::{add, set};
 use crate::fault::TypeFault;
 use crate::fit::fits;
@@ -16,7 +23,9 @@ use opl_tree::{
 use std::alloc::Global;
 
 /// The type that a name stands for.
-fn named_type(model: &Names, name: &NameTree) -> Result<Ty, TypeFault> {
+fn named_type(model: &Names, name: &NameTree) -> Result<Ty, TypeFault>
+    ensures { Gives sort (spec.named_type (scope_of model.now) name.now) result }
+{
     let found = match model.lookup(name.text.as_slice()) {
         Some(thing) => thing.named_type(),
         None => None,
@@ -29,7 +38,9 @@ fn named_type(model: &Names, name: &NameTree) -> Result<Ty, TypeFault> {
 
 /// The type that is written.
 #[cycle(types)]
-fn written_type(alloc: Global, model: &Names, t: &TypeTree) -> Result<Ty, TypeFault> {
+fn written_type(alloc: Global, model: &Names, t: &TypeTree) -> Result<Ty, TypeFault>
+    ensures { Gives sort (spec.written_type t.now (scope_of model.now)) result }
+{
     match t {
         TypeTree::Int(_) => Ok(Ty::Int),
         TypeTree::Named(name) => named_type(model, name),
@@ -93,7 +104,9 @@ fn dims_of(alloc: Global, model: &Names, dims: &Option<DimsTree>) -> Result<Dime
 }
 
 /// An item, or an array of such with these indices.
-fn shaped(alloc: Global, indices: &[Ty], element: &Ty) -> Result<Ty, TypeFault> {
+fn shaped(alloc: Global, indices: &[Ty], element: &Ty) -> Result<Ty, TypeFault>
+    ensures { Gives sort (Ok (spec.shaped (map sort indices.now) (sort element.now))) result }
+{
     let element = element.copy(alloc)?;
     if indices.is_empty() {
         return Ok(element);
@@ -111,7 +124,9 @@ fn initial(
     indices: &[Ty],
     t: &AddTree,
     kinds: &mut Seq<Ty>,
-) -> Result<(), TypeFault> {
+) -> Result<(), TypeFault>
+    ensures { Gives (λ u. map sort kinds.new) (front (map sort kinds.old) (spec.initial (within model.now locals.now) (sort element.now) (map sort indices.now) (form_add t.now))) result }
+{
     if let Some((first, rest)) = indices.split_first() {
         match cells_of(t) {
             Cells::Listed(cells) => {
@@ -147,7 +162,9 @@ fn number(
     locals: &[Local],
     t: &AddTree,
     kinds: &mut Seq<Ty>,
-) -> Result<(), TypeFault> {
+) -> Result<(), TypeFault>
+    ensures { Gives (λ u. map sort kinds.new) (front (map sort kinds.old) (spec.number_kinds (within model.now locals.now) t.now)) result }
+{
     let node = add(alloc, model, locals, t)?.data_number()?;
     add_kinds(kinds, node)
 }
@@ -158,7 +175,9 @@ fn data(
     model: &mut Names,
     t: &DataTree,
     kinds: &mut Seq<Ty>,
-) -> Result<(), TypeFault> {
+) -> Result<(), TypeFault>
+    ensures { Gives (λ u. record { scope = scope_of model.new; kinds = map sort kinds.new }) (behind (map sort kinds.old) (spec.data_decl (scope_of model.old) t.now)) result }
+{
     let element = written_type(alloc, model, &t.kind)?;
     fresh(model, &[], &t.name)?;
     let dims = dims_of(alloc, model, &t.dims)?;
@@ -182,7 +201,9 @@ fn range(
     model: &mut Names,
     t: &RangeTree,
     kinds: &mut Seq<Ty>,
-) -> Result<(), TypeFault> {
+) -> Result<(), TypeFault>
+    ensures { Gives (λ u. record { scope = scope_of model.new; kinds = map sort kinds.new }) (behind (map sort kinds.old) (spec.range_decl (scope_of model.old) t.now)) result }
+{
     fresh(model, &[], &t.name)?;
     number(alloc, model, &[], &t.low, kinds)?;
     number(alloc, model, &[], &t.high, kinds)?;
@@ -201,12 +222,9 @@ fn enum_name(
 }
 
 /// `enum NAME NAMES;`
-fn enumeration(
-    alloc: Global,
-    model: &mut Names,
-    number: u32,
-    t: &EnumTree,
-) -> Result<(), TypeFault> {
+fn enumeration(alloc: Global, model: &mut Names, number: u32, t: &EnumTree) -> Result<(), TypeFault>
+    ensures { Gives (λ u. record { scope = scope_of model.new; kinds = [] }) (spec.enum_decl number (scope_of model.old) t.now) result }
+{
     fresh(model, &[], &t.name)?;
     model.declare(alloc, t.name.text.as_slice(), Thing::EnumType(number))?;
     if let EnumNamesTree::Listed(_, first, rest) = &t.names {
@@ -237,12 +255,9 @@ fn field(
 }
 
 /// `struct NAME {FIELD FIELD ..};`
-fn structure(
-    alloc: Global,
-    model: &mut Names,
-    number: u32,
-    t: &StructTree,
-) -> Result<(), TypeFault> {
+fn structure(alloc: Global, model: &mut Names, number: u32, t: &StructTree) -> Result<(), TypeFault>
+    ensures { Gives (λ u. record { scope = scope_of model.new; kinds = [] }) (spec.struct_decl number (scope_of model.old) t.now) result }
+{
     fresh(model, &[], &t.name)?;
     let mut fields = Seq::new(alloc);
     field(alloc, model, &mut fields, &t.first)?;
@@ -262,7 +277,9 @@ fn variable(
     model: &mut Names,
     t: &VariableTree,
     kinds: &mut Seq<Ty>,
-) -> Result<(), TypeFault> {
+) -> Result<(), TypeFault>
+    ensures { Gives (λ u. record { scope = scope_of model.new; kinds = map sort kinds.new }) (behind (map sort kinds.old) (spec.variable_decl (scope_of model.old) t.now)) result }
+{
     let element = match &t.kind {
         VariableTypeTree::Int(_) => Ty::Int,
         VariableTypeTree::Named(name) => named_type(model, name)?,
@@ -291,7 +308,9 @@ fn activity(
     model: &mut Names,
     t: &ActivityTree,
     kinds: &mut Seq<Ty>,
-) -> Result<(), TypeFault> {
+) -> Result<(), TypeFault>
+    ensures { Gives (λ u. record { scope = scope_of model.new; kinds = map sort kinds.new }) (behind (map sort kinds.old) (spec.activity_decl (scope_of model.old) t.now)) result }
+{
     fresh(model, &[], &t.name)?;
     let dims = dims_of(alloc, model, &t.dims)?;
     append(kinds, dims.kinds)?;
@@ -309,7 +328,9 @@ fn unary(
     model: &mut Names,
     t: &UnaryTree,
     kinds: &mut Seq<Ty>,
-) -> Result<(), TypeFault> {
+) -> Result<(), TypeFault>
+    ensures { Gives (λ u. record { scope = scope_of model.new; kinds = map sort kinds.new }) (behind (map sort kinds.old) (spec.unary_decl (scope_of model.old) t.now)) result }
+{
     fresh(model, &[], &t.name)?;
     let dims = dims_of(alloc, model, &t.dims)?;
     append(kinds, dims.kinds)?;
@@ -323,7 +344,9 @@ fn discrete(
     model: &mut Names,
     t: &DiscreteTree,
     kinds: &mut Seq<Ty>,
-) -> Result<(), TypeFault> {
+) -> Result<(), TypeFault>
+    ensures { Gives (λ u. record { scope = scope_of model.new; kinds = map sort kinds.new }) (behind (map sort kinds.old) (spec.discrete_decl (scope_of model.old) t.now)) result }
+{
     fresh(model, &[], &t.name)?;
     let dims = dims_of(alloc, model, &t.dims)?;
     append(kinds, dims.kinds)?;
@@ -338,7 +361,9 @@ fn schedule(
     model: &mut Names,
     t: &ScheduleTree,
     kinds: &mut Seq<Ty>,
-) -> Result<(), TypeFault> {
+) -> Result<(), TypeFault>
+    ensures { Gives (λ u. record { scope = scope_of model.new; kinds = map sort kinds.new }) (behind (map sort kinds.old) (spec.schedule_decl (scope_of model.old) t.now)) result }
+{
     number(alloc, model, &[], &t.value, kinds)?;
     let is_given = match t.end {
         ScheduleEnd::Origin => model.has_origin,
@@ -361,7 +386,9 @@ fn decl(
     number: u32,
     t: &DeclTree,
     kinds: &mut Seq<Ty>,
-) -> Result<(), TypeFault> {
+) -> Result<(), TypeFault>
+    ensures { Gives (λ u. record { scope = scope_of model.new; kinds = map sort kinds.new }) (behind (map sort kinds.old) (spec.decl number (scope_of model.old) t.now)) result }
+{
     match t {
         DeclTree::Data(t) => data(alloc, model, t, kinds),
         DeclTree::Range(t) => range(alloc, model, t, kinds),
@@ -381,7 +408,9 @@ pub(crate) fn all_decls(
     model: &mut Names,
     decls: &[DeclTree],
     kinds: &mut Seq<Ty>,
-) -> Result<(), TypeFault> {
+) -> Result<(), TypeFault>
+    ensures { Gives (λ u. record { scope = scope_of model.new; kinds = map sort kinds.new }) (behind (map sort kinds.old) (spec.all_decls 0 (scope_of model.old) decls.now)) result }
+{
     let mut number: u32 = 0;
     for t in decls {
         decl(alloc, model, number, t, kinds)?;

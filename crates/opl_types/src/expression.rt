@@ -1,9 +1,14 @@
 //! The types of expressions.
-ghost use Rattle.std.specs.Prelude.{◌≡◌, ◌∷◌, map};
+ghost use Rattle.std.specs.Prelude.{◌≡◌, ◌∷◌, Ok, map};
 ghost use Rattle.opl_types.specs.Expressions as spec;
-ghost use Rattle.opl_types.specs.Forms.{forms_of, pairs_of, with_suffixes};
+ghost use Rattle.opl_types.specs.Forms.{forms_of, pairs_of};
 ghost use Rattle.opl_types.specs.Forms as form;
-ghost use Rattle.opl_types.specs.Values.{Gives, node_of, within};
+ghost use Rattle.opl_types.specs.Expressions.Need as need;
+ghost use Rattle.opl_types.specs.Forms.Form.{described};
+ghost use Rattle.opl_types.specs.Scope.{and_then};
+ghost use Rattle.opl_types.specs.Steps as step;
+ghost use Rattle.opl_types.specs.Types.{is_set};
+ghost use Rattle.opl_types.specs.Values.{Gives, need_of, node_of, opened_in, range_of, within};
 
 use crate::fault::TypeFault;
 use crate::kind::Ty;
@@ -381,6 +386,7 @@ pub(crate) fn post(
 
 /// An expression with subscripts, or a field, behind it.
 #[cycle(expressions)]
+#[tactic(auto, using(crate::proofs::Forms::suffix_form))]
 fn with_suffix(
     alloc: Global,
     model: &Names,
@@ -388,7 +394,9 @@ fn with_suffix(
     at: u32,
     base: Node,
     suffix: &SuffixTree,
-) -> Result<Node, TypeFault> {
+) -> Result<Node, TypeFault>
+    ensures { Gives node_of (step.suffix_node (within model.now locals.now) at (node_of base) (form.form_suffix suffix.now)) result }
+{
     match suffix {
         SuffixTree::Subscripts(t) => {
             let parts = subscripts(alloc, model, locals, t)?;
@@ -400,12 +408,15 @@ fn with_suffix(
 
 /// The subscripts of an element.
 #[cycle(expressions)]
+#[tactic(auto, using(crate::proofs::Forms::subscripts_form))]
 pub(crate) fn subscripts(
     alloc: Global,
     model: &Names,
     locals: &[Local],
     t: &SubscriptsTree,
-) -> Result<Seq<Node>, TypeFault> {
+) -> Result<Seq<Node>, TypeFault>
+    ensures { Gives (map node_of) (spec.typed_parts (within model.now locals.now) (forms_of (form.form_subscripts t.now))) result }
+{
     let first = add(alloc, model, locals, t.first.get())?;
     adds(alloc, model, locals, first, t.rest.as_slice())
 }
@@ -436,7 +447,9 @@ pub(crate) fn all_adds(
     model: &Names,
     locals: &[Local],
     parts: &[AddTree],
-) -> Result<Seq<Node>, TypeFault> {
+) -> Result<Seq<Node>, TypeFault>
+    ensures { Gives (map node_of) (spec.typed_parts (within model.now locals.now) (forms_of (map form.form_add parts.now))) result }
+{
     let mut found = Seq::new(alloc);
     for t in parts {
         found.push(add(alloc, model, locals, t)?.part()?)?;
@@ -446,12 +459,15 @@ pub(crate) fn all_adds(
 
 /// Keys and values in their order.
 #[cycle(expressions)]
+#[tactic(auto, using(crate::proofs::Forms::keyed_form))]
 fn pairs(
     alloc: Global,
     model: &Names,
     locals: &[Local],
     parts: &[KeyedTree],
-) -> Result<Seq<Node>, TypeFault> {
+) -> Result<Seq<Node>, TypeFault>
+    ensures { Gives (map node_of) (spec.typed_pairs (within model.now locals.now) (pairs_of (map form.form_keyed parts.now))) result }
+{
     let mut found = Seq::new(alloc);
     for t in parts {
         found.push(add(alloc, model, locals, &t.key)?.part()?)?;
@@ -462,12 +478,15 @@ fn pairs(
 
 /// The set behind `in`: its expressions, and the type of its elements if it is one.
 #[cycle(expressions)]
+#[tactic(auto, using(crate::proofs::Forms::set_form))]
 fn set_of_member(
     alloc: Global,
     model: &Names,
     locals: &[Local],
     t: &SetTree,
-) -> Result<Range, TypeFault> {
+) -> Result<Range, TypeFault>
+    ensures { Gives range_of (spec.typed_set need.nothing spec.any_type (within model.now locals.now) (form.form_set t.now)) result }
+{
     match &t.high {
         None => {
             let only = add(alloc, model, locals, &t.low)?.part()?;
@@ -483,12 +502,15 @@ fn set_of_member(
 
 /// The set that parameters or a dimension range over.
 #[cycle(expressions)]
+#[tactic(auto, using(crate::proofs::Forms::set_form))]
 pub(crate) fn set(
     alloc: Global,
     model: &Names,
     locals: &[Local],
     t: &SetTree,
-) -> Result<Range, TypeFault> {
+) -> Result<Range, TypeFault>
+    ensures { Gives range_of (spec.typed_set need.data_alone is_set (within model.now locals.now) (form.form_set t.now)) result }
+{
     match &t.high {
         None => {
             let only = add(alloc, model, locals, &t.low)?;
@@ -512,7 +534,9 @@ fn described_set(
     at: u32,
     value: &AddTree,
     params: &ParamsTree,
-) -> Result<Node, TypeFault> {
+) -> Result<Node, TypeFault>
+    ensures { Gives node_of (spec.typing (within model.now locals.now) (described at (form.form_add value.now) (form.form_params params.now))) result }
+{
     match open_params(alloc, model, locals, Need::DataAlone, params) {
         Ok(opened) => {
             let value = add(alloc, model, opened.locals.as_slice(), value)?.part()?;
@@ -592,12 +616,15 @@ pub(crate) struct Opened {
 
 /// The parameters of a group, added to those before.
 #[cycle(expressions)]
+#[tactic(auto, using(crate::proofs::Forms::group_form))]
 fn open_group(
     alloc: Global,
     model: &Names,
     opened: &mut Opened,
     t: &GroupTree,
-) -> Result<(), TypeFault> {
+) -> Result<(), TypeFault>
+    ensures { Gives (λ u. opened_in model.now opened.new) (step.open_one (opened_in model.now opened.old) (form.form_group t.now)) result }
+{
     all_fresh(
         alloc,
         model,
@@ -620,13 +647,16 @@ fn open_group(
 
 /// Parameters inside those of `locals`. Their condition meets the need.
 #[cycle(expressions)]
+#[tactic(auto, using(crate::proofs::Forms::params_form))]
 pub(crate) fn open_params(
     alloc: Global,
     model: &Names,
     locals: &[Local],
     need: Need,
     t: &ParamsTree,
-) -> Result<Opened, TypeFault> {
+) -> Result<Opened, TypeFault>
+    ensures { Gives (opened_in model.now) (spec.open_params (need_of need) (within model.now locals.now) (form.form_params t.now)) result }
+{
     let mut opened = Opened {
         locals: copied(alloc, locals)?,
         kinds: Seq::new(alloc),

@@ -1,4 +1,10 @@
 //! The types of the items of an instruction.
+ghost use Rattle.std.specs.Prelude.{◌≡◌, map};
+ghost use Rattle.opl_types.specs.Models as spec;
+ghost use Rattle.opl_types.specs.Steps.{front};
+ghost use Rattle.opl_types.specs.Types.{sort};
+ghost use Rattle.opl_types.specs.Values.{Gives, need_of, node_of, scope_of, thing_of, within};
+
 use crate::expression::{add, expr, open_params, post, subscripts};
 use crate::fault::TypeFault;
 use crate::fit::fits_subscripts;
@@ -20,7 +26,9 @@ pub(crate) fn condition(
     need: Need,
     t: &ExprTree,
     kinds: &mut Seq<Ty>,
-) -> Result<(), TypeFault> {
+) -> Result<(), TypeFault>
+    ensures { Gives (λ u. map sort kinds.new) (front (map sort kinds.old) (spec.condition (need_of need) t.now (within model.now locals.now))) result }
+{
     let node = expr(alloc, model, locals, t)?;
     let is_taken = node.ty.is_truth();
     add_kinds(kinds, node.settled(need, is_taken)?)
@@ -35,7 +43,9 @@ pub(crate) fn precedes(
     first: &PostTree,
     second: &PostTree,
     kinds: &mut Seq<Ty>,
-) -> Result<(), TypeFault> {
+) -> Result<(), TypeFault>
+    ensures { Gives (λ u. map sort kinds.new) (front (map sort kinds.old) (spec.precedes at first.now second.now (within model.now locals.now))) result }
+{
     let first = post(alloc, model, locals, first)?.part()?;
     let second = post(alloc, model, locals, second)?.part()?;
     if !(first.ty.is_activity() && second.ty.is_activity()) {
@@ -46,7 +56,9 @@ pub(crate) fn precedes(
 }
 
 /// Whether the type is that of a resource that may be required: unary without a demand, discrete with one.
-fn is_demanded(demand: &Option<AddTree>, ty: &Ty) -> bool {
+fn is_demanded(demand: &Option<AddTree>, ty: &Ty) -> bool
+    ensures { result ≡ spec.is_demanded demand.now (sort ty.now) }
+{
     match demand {
         None => ty.is_unary(),
         Some(_) => ty.is_discrete(),
@@ -54,7 +66,9 @@ fn is_demanded(demand: &Option<AddTree>, ty: &Ty) -> bool {
 }
 
 /// Whether the resource, or its element with these subscripts, may be required.
-fn is_resource(model: &Names, t: &RequiresTree, subscripts: &[Node], thing: &Thing) -> bool {
+fn is_resource(model: &Names, t: &RequiresTree, subscripts: &[Node], thing: &Thing) -> bool
+    ensures { result ≡ spec.is_resource (scope_of model.now) t.now (map node_of subscripts.now) (thing_of thing.now) }
+{
     let Thing::Resource(ty) = thing else {
         return false;
     };
@@ -78,7 +92,9 @@ fn required(
     locals: &[Local],
     t: &RequiresTree,
     kinds: &mut Seq<Ty>,
-) -> Result<(), TypeFault> {
+) -> Result<(), TypeFault>
+    ensures { Gives (λ u. map sort kinds.new) (front (map sort kinds.old) (spec.requires t.now (within model.now locals.now))) result }
+{
     let activity = post(alloc, model, locals, &t.activity)?.part()?;
     let is_activity = activity.ty.is_activity();
     add_kinds(kinds, activity)?;
@@ -113,7 +129,9 @@ fn item(
     locals: &[Local],
     t: &ItemTree,
     kinds: &mut Seq<Ty>,
-) -> Result<(), TypeFault> {
+) -> Result<(), TypeFault>
+    ensures { Gives (λ u. map sort kinds.new) (front (map sort kinds.old) (spec.item t.now (within model.now locals.now))) result }
+{
     match t {
         ItemTree::Block(inner) => block(alloc, model, locals, inner, kinds),
         ItemTree::ForAll(_, params, body) => {
@@ -145,7 +163,9 @@ fn items(
     locals: &[Local],
     t: &ItemsTree,
     kinds: &mut Seq<Ty>,
-) -> Result<(), TypeFault> {
+) -> Result<(), TypeFault>
+    ensures { Gives (λ u. map sort kinds.new) (front (map sort kinds.old) (spec.items t.now (within model.now locals.now))) result }
+{
     if let ItemsTree::Several(_, first, rest, _) = t {
         item(alloc, model, locals, first.get(), kinds)?;
         for other in rest.as_slice() {
@@ -163,7 +183,9 @@ fn block(
     locals: &[Local],
     t: &BlockTree,
     kinds: &mut Seq<Ty>,
-) -> Result<(), TypeFault> {
+) -> Result<(), TypeFault>
+    ensures { Gives (λ u. map sort kinds.new) (front (map sort kinds.old) (spec.block t.now (within model.now locals.now))) result }
+{
     items(alloc, model, locals, &t.items, kinds)
 }
 
@@ -173,7 +195,9 @@ pub(crate) fn instr(
     model: &Names,
     t: &InstrTree,
     kinds: &mut Seq<Ty>,
-) -> Result<(), TypeFault> {
+) -> Result<(), TypeFault>
+    ensures { Gives (λ u. map sort kinds.new) (front (map sort kinds.old) (spec.instr t.now (scope_of model.now))) result }
+{
     match t {
         InstrTree::Solve(_, inner) => block(alloc, model, &[], inner, kinds),
         InstrTree::Optimize(_, _, objective, inner) => {

@@ -1,4 +1,12 @@
 //! The names that patterns give to the elements of a set.
+ghost use Rattle.std.specs.Prelude.{◌≡◌, ◌∷◌, []};
+ghost use Rattle.std.specs.List.{flat_map};
+ghost use Rattle.opl_types.specs.Expressions as spec;
+ghost use Rattle.opl_types.specs.Scope as scope;
+ghost use Rattle.opl_types.specs.Steps as step;
+ghost use Rattle.opl_types.specs.Types.{sort};
+ghost use Rattle.opl_types.specs.Values.{Gives, within};
+
 use crate::fault::TypeFault;
 use crate::kind::Ty;
 use crate::names::{Local, Names, add_local, copied, fresh};
@@ -12,7 +20,9 @@ fn take_name(
     model: &Names,
     taken: &mut Seq<Local>,
     name: &NameTree,
-) -> Result<(), TypeFault> {
+) -> Result<(), TypeFault>
+    ensures { Gives (λ u. within model.now taken.new) (step.taken (within model.now taken.old) (name.now ∷ [])) result }
+{
     fresh(model, taken.as_slice(), name)?;
     add_local(alloc, taken, name.text.as_slice(), Ty::Any)
 }
@@ -23,7 +33,9 @@ fn take_pattern(
     model: &Names,
     taken: &mut Seq<Local>,
     pattern: &PatternTree,
-) -> Result<(), TypeFault> {
+) -> Result<(), TypeFault>
+    ensures { Gives (λ u. within model.now taken.new) (step.taken (within model.now taken.old) (spec.pattern_names pattern.now)) result }
+{
     match pattern {
         PatternTree::Single(name) => take_name(alloc, model, taken, name),
         PatternTree::Record(_, first, rest) => {
@@ -43,7 +55,9 @@ pub(crate) fn all_fresh(
     locals: &[Local],
     first: &PatternTree,
     rest: &[PatternTree],
-) -> Result<(), TypeFault> {
+) -> Result<(), TypeFault>
+    ensures { Gives (λ u. u) (scope.all_fresh (within model.now locals.now) (flat_map spec.pattern_names (first.now ∷ rest.now))) result }
+{
     let mut taken = copied(alloc, locals)?;
     take_pattern(alloc, model, &mut taken, first)?;
     for pattern in rest {
@@ -59,7 +73,9 @@ pub(crate) fn bind_pattern(
     locals: &mut Seq<Local>,
     element: &Ty,
     pattern: &PatternTree,
-) -> Result<(), TypeFault> {
+) -> Result<(), TypeFault>
+    ensures { Gives (λ u. within model.now locals.new) (spec.bind_pattern (within model.now locals.old) (sort element.now) pattern.now) result }
+{
     match pattern {
         PatternTree::Single(name) => {
             add_local(alloc, locals, name.text.as_slice(), element.copy(alloc)?)

@@ -1,4 +1,10 @@
 //! The types of the statements of a search section.
+ghost use Rattle.std.specs.Prelude.{◌≡◌, map};
+ghost use Rattle.opl_types.specs.Models as spec;
+ghost use Rattle.opl_types.specs.Steps.{front};
+ghost use Rattle.opl_types.specs.Types.{sort};
+ghost use Rattle.opl_types.specs.Values.{Gives, within};
+
 use crate::expression::{add, open_params, post};
 use crate::fault::TypeFault;
 use crate::item::{condition, precedes};
@@ -19,7 +25,9 @@ fn label(
     op: LabelOp,
     t: &PostTree,
     kinds: &mut Seq<Ty>,
-) -> Result<(), TypeFault> {
+) -> Result<(), TypeFault>
+    ensures { Gives (λ u. map sort kinds.new) (front (map sort kinds.old) (spec.label at op t.now (within model.now locals.now))) result }
+{
     let node = post(alloc, model, locals, t)?.part()?;
     let is_right = match op {
         LabelOp::Generate => node.is_whole,
@@ -38,7 +46,9 @@ fn order(
     locals: &[Local],
     t: &Option<OrderTree>,
     kinds: &mut Seq<Ty>,
-) -> Result<(), TypeFault> {
+) -> Result<(), TypeFault>
+    ensures { Gives (λ u. map sort kinds.new) (front (map sort kinds.old) (spec.order t.now (within model.now locals.now))) result }
+{
     match t {
         None => Ok(()),
         Some(t) => {
@@ -57,7 +67,9 @@ fn statement(
     locals: &[Local],
     t: &StatementTree,
     kinds: &mut Seq<Ty>,
-) -> Result<(), TypeFault> {
+) -> Result<(), TypeFault>
+    ensures { Gives (λ u. map sort kinds.new) (front (map sort kinds.old) (spec.statement t.now (within model.now locals.now))) result }
+{
     match t {
         StatementTree::Block(inner) => search_block(alloc, model, locals, inner, kinds),
         StatementTree::Try(_, first, second, others) => {
@@ -103,7 +115,9 @@ fn statements(
     locals: &[Local],
     t: &StatementsTree,
     kinds: &mut Seq<Ty>,
-) -> Result<(), TypeFault> {
+) -> Result<(), TypeFault>
+    ensures { Gives (λ u. map sort kinds.new) (front (map sort kinds.old) (spec.statements t.now (within model.now locals.now))) result }
+{
     if let StatementsTree::Several(_, first, rest, _) = t {
         statement(alloc, model, locals, first.get(), kinds)?;
         for other in rest.as_slice() {
@@ -121,6 +135,8 @@ pub(crate) fn search_block(
     locals: &[Local],
     t: &SearchBlockTree,
     kinds: &mut Seq<Ty>,
-) -> Result<(), TypeFault> {
+) -> Result<(), TypeFault>
+    ensures { Gives (λ u. map sort kinds.new) (front (map sort kinds.old) (spec.search_block t.now (within model.now locals.now))) result }
+{
     statements(alloc, model, locals, &t.statements, kinds)
 }

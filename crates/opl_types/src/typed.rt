@@ -1,4 +1,9 @@
 //! Models with the types of their expressions.
+ghost use Rattle.std.specs.Prelude.{◌≡◌, IfOk, map};
+ghost use Rattle.opl_types.specs.Models as spec;
+ghost use Rattle.opl_types.specs.Types.{sort};
+ghost use Rattle.opl_types.specs.Values.{Gives};
+
 use crate::declaration::all_decls;
 use crate::fault::TypeFault;
 use crate::item::instr;
@@ -18,7 +23,9 @@ pub struct Typed {
 }
 
 /// The types of a model's expressions.
-fn kinds_of(alloc: Global, model: &ModelTree) -> Result<Seq<Ty>, TypeFault> {
+fn kinds_of(alloc: Global, model: &ModelTree) -> Result<Seq<Ty>, TypeFault>
+    ensures { Gives (map sort) (spec.model model.now) result }
+{
     let mut names = Names::new(alloc);
     let mut kinds = Seq::new(alloc);
     all_decls(alloc, &mut names, model.decls.as_slice(), &mut kinds)?;
@@ -31,13 +38,10 @@ fn kinds_of(alloc: Global, model: &ModelTree) -> Result<Seq<Ty>, TypeFault> {
 }
 
 /// The model with the types of its expressions.
-pub fn check(alloc: Global, model: ModelTree) -> Result<Typed, TypeFault> {
+pub fn check(alloc: Global, model: ModelTree) -> Result<Typed, TypeFault>
+    ensures { Gives (λ t. map sort t.kinds) (spec.model model) result }
+    ensures tree { IfOk result (λ t. t.tree ≡ model) }
+{
     let kinds = kinds_of(alloc, &model)?;
     Ok(Typed { tree: model, kinds })
-}
-
-#[cfg(test)]
-mod tests {
-    #[test]
-    fn nothing() {}
 }
