@@ -542,6 +542,7 @@ fn described_set(
             let value = add(alloc, model, opened.locals.as_slice(), value)?.part()?;
             described(alloc, at, value, opened.kinds)
         }
+        Err(TypeFault::OutOfMemory) => Err(TypeFault::OutOfMemory),
         Err(fault) => {
             let unknown = unknown_params(alloc, locals, params)?;
             add(alloc, model, unknown.as_slice(), value)?.part()?;
