@@ -2,3 +2,4 @@ pub mod Examples
 pub mod Forms
 pub mod Lookup
 pub mod Sorts
+pub mod Steps
