@@ -265,46 +265,46 @@ unfolding form_post form_prim
 form_prim-Question at op argument = ap form_prim (sym (prims.rolls-Question at op argument)) ∙ rw fold-roll-PrimTree refl
 
 -- the equations of each kind
-pub ruleset compare_form = (form_compare-Single, form_compare-Related, form_compare-Member)
+pub ruleset compare_forms = (form_compare-Single, form_compare-Related, form_compare-Member)
 
-pub ruleset mul_form = (form_mul-Opened, form_mul-Product)
+pub ruleset mul_forms = (form_mul-Opened, form_mul-Product)
 
-pub ruleset neg_form = (form_neg-Not, form_neg-Compare)
+pub ruleset neg_forms = (form_neg-Not, form_neg-Compare)
 
-pub ruleset open_form = (form_open-NegativeOpen, form_open-Aggregate)
+pub ruleset open_forms = (form_open-NegativeOpen, form_open-Aggregate)
 
-pub ruleset prim_form = (form_prim-Number, form_prim-Named, form_prim-Bracket, form_prim-Record, form_prim-Listed, form_prim-Described, form_prim-Array, form_prim-KeyedArray, form_prim-Call, form_prim-AllDifferent, form_prim-Question)
+pub ruleset prim_forms = (form_prim-Number, form_prim-Named, form_prim-Bracket, form_prim-Record, form_prim-Listed, form_prim-Described, form_prim-Array, form_prim-KeyedArray, form_prim-Call, form_prim-AllDifferent, form_prim-Question)
 
-pub ruleset sign_form = (form_sign-Negative, form_sign-Postfix)
+pub ruleset sign_forms = (form_sign-Negative, form_sign-Postfix)
 
-pub ruleset suffix_form = (form_suffix-Subscripts, form_suffix-Field)
+pub ruleset suffix_forms = (form_suffix-Subscripts, form_suffix-Field)
 
-pub ruleset add_step_form = (form_add_step-is)
+pub ruleset add_step_forms = (form_add_step-is)
 
-pub ruleset add_form = (form_add-is)
+pub ruleset add_forms = (form_add-is)
 
-pub ruleset and_form = (form_and-is)
+pub ruleset and_forms = (form_and-is)
 
-pub ruleset expr_form = (form_expr-is)
+pub ruleset expr_forms = (form_expr-is)
 
-pub ruleset group_step_form = (form_group_step-is)
+pub ruleset group_step_forms = (form_group_step-is)
 
-pub ruleset group_form = (form_group-is)
+pub ruleset group_forms = (form_group-is)
 
-pub ruleset imp_form = (form_imp-is)
+pub ruleset imp_forms = (form_imp-is)
 
-pub ruleset keyed_form = (form_keyed-is)
+pub ruleset keyed_forms = (form_keyed-is)
 
-pub ruleset last_step_form = (form_last_step-is)
+pub ruleset last_step_forms = (form_last_step-is)
 
-pub ruleset mul_step_form = (form_mul_step-is)
+pub ruleset mul_step_forms = (form_mul_step-is)
 
-pub ruleset or_form = (form_or-is)
+pub ruleset or_forms = (form_or-is)
 
-pub ruleset params_form = (form_params-is)
+pub ruleset params_forms = (form_params-is)
 
-pub ruleset post_form = (form_post-is)
+pub ruleset post_forms = (form_post-is)
 
-pub ruleset set_form = (form_set-is)
+pub ruleset set_forms = (form_set-is)
 
-pub ruleset subscripts_form = (form_subscripts-is)
+pub ruleset subscripts_forms = (form_subscripts-is)

@@ -29,7 +29,7 @@ use opl_tree::{
 use std::alloc::Global;
 
 /// `a <=> b <=> ..`
-#[tactic(auto, using(crate::proofs::Forms::expr_form))]
+#[tactic(auto, using(crate::proofs::Forms::expr_forms))]
 #[cycle(expressions)]
 pub(crate) fn expr(
     alloc: Global,
@@ -67,7 +67,7 @@ fn imps(
 }
 
 /// `a => b`
-#[tactic(auto, using(crate::proofs::Forms::imp_form))]
+#[tactic(auto, using(crate::proofs::Forms::imp_forms))]
 #[cycle(expressions)]
 pub(crate) fn imp(
     alloc: Global,
@@ -89,7 +89,7 @@ pub(crate) fn imp(
 }
 
 /// `a \/ b \/ ..`
-#[tactic(auto, using(crate::proofs::Forms::or_form))]
+#[tactic(auto, using(crate::proofs::Forms::or_forms))]
 #[cycle(expressions)]
 pub(crate) fn or(
     alloc: Global,
@@ -127,7 +127,7 @@ fn ands(
 }
 
 /// `a & b & ..`
-#[tactic(auto, using(crate::proofs::Forms::and_form))]
+#[tactic(auto, using(crate::proofs::Forms::and_forms))]
 #[cycle(expressions)]
 pub(crate) fn and(
     alloc: Global,
@@ -165,7 +165,7 @@ fn negs(
 }
 
 /// `not a`, or a comparison
-#[tactic(auto, using(crate::proofs::Forms::neg_form))]
+#[tactic(auto, using(crate::proofs::Forms::neg_forms))]
 #[cycle(expressions)]
 pub(crate) fn neg(
     alloc: Global,
@@ -185,7 +185,7 @@ pub(crate) fn neg(
 }
 
 /// a comparison, or one side alone
-#[tactic(auto, using(crate::proofs::Forms::compare_form))]
+#[tactic(auto, using(crate::proofs::Forms::compare_forms))]
 #[cycle(expressions)]
 pub(crate) fn compare(
     alloc: Global,
@@ -211,7 +211,7 @@ pub(crate) fn compare(
 }
 
 /// `a + b - ..`
-#[tactic(auto, using(crate::proofs::Forms::add_form))]
+#[tactic(auto, using(crate::proofs::Forms::add_forms))]
 #[cycle(expressions)]
 pub(crate) fn add(
     alloc: Global,
@@ -249,7 +249,7 @@ fn add_steps(
 }
 
 /// a part of a sum
-#[tactic(auto, using(crate::proofs::Forms::add_step_form))]
+#[tactic(auto, using(crate::proofs::Forms::add_step_forms))]
 #[cycle(expressions)]
 pub(crate) fn add_step(
     alloc: Global,
@@ -263,7 +263,7 @@ pub(crate) fn add_step(
 }
 
 /// `a * b div ..`
-#[tactic(auto, using(crate::proofs::Forms::mul_form))]
+#[tactic(auto, using(crate::proofs::Forms::mul_forms))]
 #[cycle(expressions)]
 pub(crate) fn mul(
     alloc: Global,
@@ -309,7 +309,7 @@ fn mul_steps(
 }
 
 /// a factor of a product
-#[tactic(auto, using(crate::proofs::Forms::mul_step_form))]
+#[tactic(auto, using(crate::proofs::Forms::mul_step_forms))]
 #[cycle(expressions)]
 pub(crate) fn mul_step(
     alloc: Global,
@@ -323,7 +323,7 @@ pub(crate) fn mul_step(
 }
 
 /// `sum (PARAMS) a` and the like, with signs in front
-#[tactic(auto, using(crate::proofs::Forms::open_form))]
+#[tactic(auto, using(crate::proofs::Forms::open_forms))]
 #[cycle(expressions)]
 pub(crate) fn open(
     alloc: Global,
@@ -347,7 +347,7 @@ pub(crate) fn open(
 }
 
 /// `- a`
-#[tactic(auto, using(crate::proofs::Forms::sign_form))]
+#[tactic(auto, using(crate::proofs::Forms::sign_forms))]
 #[cycle(expressions)]
 pub(crate) fn sign(
     alloc: Global,
@@ -367,7 +367,7 @@ pub(crate) fn sign(
 }
 
 /// a primary with subscripts and fields behind it
-#[tactic(auto, using(crate::proofs::Forms::post_form))]
+#[tactic(auto, using(crate::proofs::Forms::post_forms))]
 #[cycle(expressions)]
 pub(crate) fn post(
     alloc: Global,
@@ -386,7 +386,7 @@ pub(crate) fn post(
 
 /// An expression with subscripts, or a field, behind it.
 #[cycle(expressions)]
-#[tactic(auto, using(crate::proofs::Forms::suffix_form))]
+#[tactic(auto, using(crate::proofs::Forms::suffix_forms))]
 fn with_suffix(
     alloc: Global,
     model: &Names,
@@ -408,7 +408,7 @@ fn with_suffix(
 
 /// The subscripts of an element.
 #[cycle(expressions)]
-#[tactic(auto, using(crate::proofs::Forms::subscripts_form))]
+#[tactic(auto, using(crate::proofs::Forms::subscripts_forms))]
 pub(crate) fn subscripts(
     alloc: Global,
     model: &Names,
@@ -459,7 +459,7 @@ pub(crate) fn all_adds(
 
 /// Keys and values in their order.
 #[cycle(expressions)]
-#[tactic(auto, using(crate::proofs::Forms::keyed_form))]
+#[tactic(auto, using(crate::proofs::Forms::keyed_forms))]
 fn pairs(
     alloc: Global,
     model: &Names,
@@ -478,7 +478,7 @@ fn pairs(
 
 /// The set behind `in`: its expressions, and the type of its elements if it is one.
 #[cycle(expressions)]
-#[tactic(auto, using(crate::proofs::Forms::set_form))]
+#[tactic(auto, using(crate::proofs::Forms::set_forms))]
 fn set_of_member(
     alloc: Global,
     model: &Names,
@@ -502,7 +502,7 @@ fn set_of_member(
 
 /// The set that parameters or a dimension range over.
 #[cycle(expressions)]
-#[tactic(auto, using(crate::proofs::Forms::set_form))]
+#[tactic(auto, using(crate::proofs::Forms::set_forms))]
 pub(crate) fn set(
     alloc: Global,
     model: &Names,
@@ -552,7 +552,7 @@ fn described_set(
 }
 
 /// what an expression begins with
-#[tactic(auto, using(crate::proofs::Forms::prim_form))]
+#[tactic(auto, using(crate::proofs::Forms::prim_forms))]
 #[cycle(expressions)]
 pub(crate) fn prim(
     alloc: Global,
@@ -617,7 +617,7 @@ pub(crate) struct Opened {
 
 /// The parameters of a group, added to those before.
 #[cycle(expressions)]
-#[tactic(auto, using(crate::proofs::Forms::group_form))]
+#[tactic(auto, using(crate::proofs::Forms::group_forms))]
 fn open_group(
     alloc: Global,
     model: &Names,
@@ -648,7 +648,7 @@ fn open_group(
 
 /// Parameters inside those of `locals`. Their condition meets the need.
 #[cycle(expressions)]
-#[tactic(auto, using(crate::proofs::Forms::params_form))]
+#[tactic(auto, using(crate::proofs::Forms::params_forms))]
 pub(crate) fn open_params(
     alloc: Global,
     model: &Names,

@@ -129,7 +129,13 @@ pub(crate) fn local_type<'a>(locals: &'a [Local], name: &[u8]) -> Option<&'a Ty>
 fn is_visible(model: &Names, locals: &[Local], name: &[u8]) -> bool
     ensures { result ≡ scope.is_visible (scope.lookup (spec.within model.now locals.now) name.now) }
 {
-    local_type(locals, name).is_some() || model.lookup(name).is_some()
+    match local_type(locals, name) {
+        Some(_) => true,
+        None => match model.lookup(name) {
+            Some(_thing) => true,
+            None => false,
+        },
+    }
 }
 
 /// The type of a field of the struct with that number, if it is there.
