@@ -1,8 +1,7 @@
 -- Expressions with their types, or with their first fault, as they are read off the rules by hand.
-use Rattle.std.proofs.Common.{◌≡◌, ℕ, Bool, true, false, List, [], ◌∷◌, ◌++◌, map, Ok, Err, refl}
+use Rattle.std.proofs.Common.{◌≡◌, ℕ, true, List, [], ◌∷◌, map, Ok, Err, refl}
 use Rattle.std.specs.Prelude.{codes}
 use Rattle.opl_tree.specs.declared.expression.NameTree.{NameTree}
-use Rattle.opl_tree.specs.declared.expression.PatternTree.{PatternTree}
 use Rattle.opl_tree.specs.declared.expression.PatternTree.TheVariants as patterns
 use Rattle.opl_tree.specs.declared.expression.QuestionOp.TheVariants as questions
 use Rattle.opl_tree.specs.declared.expression.Relation.TheVariants as relations

@@ -41,7 +41,7 @@ use Rattle.opl_tree.specs.declared.expression.SuffixTree.TheVariants as suffixes
 use Rattle.opl_tree.specs.declared.expression.PrimTree.TheVariants as prims
 use Rattle.opl_tree.specs.declared.expression.CompareTree.TheViews.{out-ExprTree, roll-ExprTree, roll-out-ExprTree, out-ImpTree, roll-ImpTree, roll-out-ImpTree, out-OrTree, roll-OrTree, roll-out-OrTree, out-AndTree, roll-AndTree, roll-out-AndTree, out-AddTree, roll-AddTree, roll-out-AddTree, out-AddStep, roll-AddStep, roll-out-AddStep, out-MulStep, roll-MulStep, roll-out-MulStep, out-LastStep, roll-LastStep, roll-out-LastStep, out-PostTree, roll-PostTree, roll-out-PostTree, out-SubscriptsTree, roll-SubscriptsTree, roll-out-SubscriptsTree, out-KeyedTree, roll-KeyedTree, roll-out-KeyedTree, out-SetTree, roll-SetTree, roll-out-SetTree, out-GroupTree, roll-GroupTree, roll-out-GroupTree, out-GroupStep, roll-GroupStep, roll-out-GroupStep, out-ParamsTree, roll-ParamsTree, roll-out-ParamsTree}
 use Rattle.opl_tree.specs.declared.expression.CompareTree.TheFolds.{fold-roll-CompareTree, fold-roll-MulTree, fold-roll-NegTree, fold-roll-OpenTree, fold-roll-PrimTree, fold-roll-SignTree, fold-roll-SuffixTree, fold-roll-AddStep, fold-roll-AddTree, fold-roll-AndTree, fold-roll-ExprTree, fold-roll-GroupStep, fold-roll-GroupTree, fold-roll-ImpTree, fold-roll-KeyedTree, fold-roll-LastStep, fold-roll-MulStep, fold-roll-OrTree, fold-roll-ParamsTree, fold-roll-PostTree, fold-roll-SetTree, fold-roll-SubscriptsTree}
-use Rattle.opl_types.specs.Forms.{Form, forms_of, pairs_of, groups_of, chain, with_suffixes, or_none, call, implied, set_form, params_form, form_compare, form_mul, form_neg, form_open, form_prim, form_sign, form_suffix, form_add_step, form_add, form_and, form_expr, form_group_step, form_group, form_imp, form_keyed, form_last_step, form_mul_step, form_or, form_params, form_post, form_set, form_subscripts}
+use Rattle.opl_types.specs.Forms.{forms_of, pairs_of, groups_of, chain, with_suffixes, or_none, call, implied, set_form, params_form, form_compare, form_mul, form_neg, form_open, form_prim, form_sign, form_suffix, form_add_step, form_add, form_and, form_expr, form_group_step, form_group, form_imp, form_keyed, form_last_step, form_mul_step, form_or, form_params, form_post, form_set, form_subscripts}
 use Rattle.opl_types.specs.Forms.Form.{number, named, bracket, negative, arithmetic, related, member, connected, aggregate, all_different, tuple, listed, described, cells, keyed_cells, question}
 use Rattle.opl_types.specs.Forms.Suffix.{subscripts, field_of}
 

@@ -10,7 +10,7 @@ use Rattle.opl_types.specs.declared.names.Local.{Local}
 use Rattle.opl_types.specs.declared.names.Names.{Names}
 use Rattle.opl_types.specs.declared.names.Thing as things
 use Rattle.opl_types.specs.declared.names.Thing.TheVariants as thing
-use Rattle.opl_types.specs.Scope.{Text, Field, Thing, Scope, lookup, declared, fields, fields_or, field_sorts}
+use Rattle.opl_types.specs.Scope.{Text, Thing, Scope, lookup, is_visible, declared, fields, fields_or, field_sorts}
 use Rattle.opl_types.specs.Scope.Thing.{value}
 use Rattle.opl_types.specs.Types.{sort, sorts_of}
 use Rattle.opl_types.specs.Values.{field_of, field_sort_of, fields_of_thing, latest_fields, thing_of, with_entries, with_locals, scope_of, within, latest_or, local_or}
@@ -104,6 +104,9 @@ lookup-within n ls name = lookup-locals name ls None _ _ refl
 -- a parameter hides what its name stands for outside
 pub visible-within : (n : Names) (ls : List Local) (name : Text) (ty : Ty) → local_or None name ls ≡ Some ty → lookup (within n ls) name ≡ Some (value (sort ty))
 visible-within n ls name ty h = sym (lookup-within n ls name) ∙ ap (λ l. inside l (lookup (scope_of n) name)) h
+
+pub parameter-visible : (n : Names) (ls : List Local) (name : Text) (ty : Ty) → Some ty ≡ local_or None name ls → true ≡ is_visible (lookup (within n ls) name)
+parameter-visible n ls name ty h = sym (ap is_visible (visible-within n ls name ty (sym h)))
 
 pub outside-within : (n : Names) (ls : List Local) (name : Text) → local_or None name ls ≡ None → lookup (within n ls) name ≡ lookup (scope_of n) name
 outside-within n ls name h = sym (lookup-within n ls name) ∙ ap (λ l. inside l (lookup (scope_of n) name)) h

@@ -1,5 +1,5 @@
 -- The types of expressions: one rule for each form, and the first fault, inner expressions before outer ones.
-use Rattle.std.specs.Prelude.{ℕ, Bool, true, false, cond, ◌&&◌, ◌||◌, not, List, [], ◌∷◌, ◌++◌, map, codes, length, nat_eq, Option, Some, None, is_some, Ok, Err}
+use Rattle.std.specs.Prelude.{ℕ, Bool, true, false, ◌&&◌, ◌||◌, not, List, [], ◌∷◌, ◌++◌, map, codes, length, nat_eq, Option, Some, None, is_some, Ok, Err}
 use Rattle.std.specs.List.{list_any, list_all, flat_map}
 use Rattle.std.specs.Str.{bytes_eq}
 use Rattle.opl_tree.specs.declared.expression.NameTree.{NameTree}
@@ -11,7 +11,7 @@ use Rattle.opl_tree.specs.declared.expression.Relation.{Relation}
 use Rattle.opl_tree.specs.declared.expression.Relation.TheVariants as relations
 use Rattle.opl_types.specs.declared.fault.TypeFault.TheVariants.{Unknown, Mismatch, NotData}
 use Rattle.opl_types.specs.Types.{Sort, Sorts, sorts_of, sort_list, is_number, is_truth, is_anything, is_single, is_storable, is_set, is_chosen, is_array_of_single, are_names, elements}
-use Rattle.opl_types.specs.Types.Sort.{int, bool, enumeration, structure, row, set, empty_set, array, activity, anything}
+use Rattle.opl_types.specs.Types.Sort.{int, bool, structure, row, set, empty_set, array, activity, anything}
 use Rattle.opl_types.specs.Types.Sorts.{no_sorts, more_sorts}
 use Rattle.opl_types.specs.Scope.{Checked, ◌>>=◌, ◌>>◌, unless, Text, Thing, Scope, lookup, declared, all_fresh, with_values, fields, field_sort, fits_in, joined_in, parts_in, fit_one_struct, sort_of, is_decided, is_variable}
 use Rattle.opl_types.specs.Scope.Thing.{value}

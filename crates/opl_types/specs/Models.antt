@@ -1,5 +1,5 @@
 -- The types of the instruction, of the search section, and of whole models.
-use Rattle.std.specs.Prelude.{ℕ, Bool, true, false, ◌&&◌, List, [], ◌∷◌, ◌++◌, map, length, nat_eq, Option, Some, None, Ok, Err}
+use Rattle.std.specs.Prelude.{ℕ, Bool, true, false, ◌&&◌, List, [], ◌∷◌, ◌++◌, Option, Some, None, Ok, Err}
 use Rattle.std.specs.List.{list_all}
 use Rattle.opl_tree.specs.declared.expression.AddTree.{AddTree}
 use Rattle.opl_tree.specs.declared.expression.ExprTree.{ExprTree}
@@ -31,7 +31,7 @@ use Rattle.opl_types.specs.Types.Sort.{array}
 use Rattle.opl_types.specs.Scope.{Checked, ◌>>=◌, ◌>>◌, unless, Scope, Thing, empty_scope, lookup}
 use Rattle.opl_types.specs.Scope.Thing.{resource}
 use Rattle.opl_types.specs.Forms.{form_expr, form_add, form_post, form_subscripts, form_params, forms_of}
-use Rattle.opl_types.specs.Expressions.{Node, Need, used, part, any_type, kinds, kinds_in, is_data, subscripts_fit, typing, typed_parts, open_params}
+use Rattle.opl_types.specs.Expressions.{Node, Need, used, part, kinds, kinds_in, is_data, subscripts_fit, typing, typed_parts, open_params}
 use Rattle.opl_types.specs.Expressions.Need.{nothing, data_alone, data_or_questions}
 use Rattle.opl_types.specs.Declarations.{all_decls, maybe_number}
 
