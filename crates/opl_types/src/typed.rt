@@ -39,7 +39,7 @@ fn kinds_of(alloc: Global, model: &ModelTree) -> Result<Seq<Ty>, TypeFault>
 
 /// The model with the types of its expressions.
 pub fn check(alloc: Global, model: ModelTree) -> Result<Typed, TypeFault>
-    ensures { Gives (λ t. map sort t.kinds) (spec.model model) result }
+    ensures gives { Gives (λ t. map sort t.kinds) (spec.model model) result }
     ensures tree { IfOk result (λ t. t.tree ≡ model) }
 {
     let kinds = kinds_of(alloc, &model)?;
