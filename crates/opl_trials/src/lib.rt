@@ -8,6 +8,8 @@ mod default_search;
 #[cfg(test)]
 mod models;
 #[cfg(test)]
+mod programmed_search;
+#[cfg(test)]
 mod ranges;
 #[cfg(test)]
 mod reader;
