@@ -1,3 +1,4 @@
 pub mod Added
 pub mod Items
 pub mod Readings
+pub mod FirstForms

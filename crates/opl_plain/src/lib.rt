@@ -8,8 +8,10 @@ mod model;
 mod operand;
 mod places;
 mod plain;
+mod unread;
 mod variable;
 
 pub use fault::PlainFault;
 pub use model::{Comparison, Condition, Number, Operand, PlainModel, PlainVariable};
 pub use plain::plain_model;
+pub use unread::not_yet;

@@ -1,7 +1,8 @@
 //! Expressions as operands of comparisons.
-ghost use Rattle.std.specs.Prelude.{◌≡◌};
+ghost use Rattle.std.specs.Prelude.{◌≡◌, Ok};
 ghost use Rattle.opl_plain.specs.Reading as spec;
 ghost use Rattle.opl_plain.specs.Reading.{Gives};
+ghost use Rattle.opl_plain.specs.Sides.{side_of, place_of};
 
 use crate::fault::PlainFault;
 use crate::model::{Number, Operand};
@@ -9,6 +10,14 @@ use crate::places::open_at;
 use opl_list::Seq;
 use opl_tree::{AddTree, MulTree, NameTree, PostTree, PrimTree, SignTree};
 use std::alloc::Global;
+
+/// A side of a comparison where it is written, or the place of its first form that does not run yet.
+#[derive(Clone, Copy)]
+pub enum Side<'a> {
+    Variable(&'a NameTree),
+    Number(Number),
+    NotYet(u32),
+}
 
 /// Minus a number's absolute value.
 fn minus(number: i128) -> i128
@@ -70,83 +79,105 @@ pub fn name(alloc: Global, t: &NameTree) -> Result<NameTree, PlainFault>
     })
 }
 
-/// The operand that a primary is.
+/// The side that a primary is.
 #[tactic(auto, using(crate::proofs::Readings::prim_reading))]
-fn prim(alloc: Global, t: &PrimTree) -> Result<Operand, PlainFault>
-    ensures { Gives (spec.reading_prim t.now).operand result }
+fn prim(t: &PrimTree) -> Side<'_>
+    ensures { side_of result ≡ (spec.reading_prim t.now).operand }
 {
     match t {
-        PrimTree::Number(at, n) => Ok(Operand::Number(Number { at: *at, value: *n })),
-        PrimTree::Named(found) => Ok(Operand::Variable(name(alloc, found)?)),
-        PrimTree::Bracket(at, _) => Err(PlainFault::NotYet(*at)),
-        PrimTree::Record(at, ..) => Err(PlainFault::NotYet(*at)),
-        PrimTree::Listed(at, _) => Err(PlainFault::NotYet(*at)),
-        PrimTree::Described(at, ..) => Err(PlainFault::NotYet(*at)),
-        PrimTree::Array(at, _) => Err(PlainFault::NotYet(*at)),
-        PrimTree::KeyedArray(at, _) => Err(PlainFault::NotYet(*at)),
-        PrimTree::Call(at, ..) => Err(PlainFault::NotYet(*at)),
-        PrimTree::AllDifferent(at, _) => Err(PlainFault::NotYet(*at)),
-        PrimTree::Question(at, ..) => Err(PlainFault::NotYet(*at)),
+        PrimTree::Number(at, n) => Side::Number(Number { at: *at, value: *n }),
+        PrimTree::Named(name) => Side::Variable(name),
+        PrimTree::Bracket(at, _) => Side::NotYet(*at),
+        PrimTree::Record(at, ..) => Side::NotYet(*at),
+        PrimTree::Listed(at, _) => Side::NotYet(*at),
+        PrimTree::Described(at, ..) => Side::NotYet(*at),
+        PrimTree::Array(at, _) => Side::NotYet(*at),
+        PrimTree::KeyedArray(at, _) => Side::NotYet(*at),
+        PrimTree::Call(at, ..) => Side::NotYet(*at),
+        PrimTree::AllDifferent(at, _) => Side::NotYet(*at),
+        PrimTree::Question(at, ..) => Side::NotYet(*at),
     }
 }
 
-/// The operand that a postfix expression is.
+/// The side that a postfix expression is.
 #[tactic(auto, using(crate::proofs::Readings::post_reading))]
-fn post(alloc: Global, t: &PostTree) -> Result<Operand, PlainFault>
-    ensures { Gives (spec.reading_post t.now).operand result }
+fn post(t: &PostTree) -> Side<'_>
+    ensures { side_of result ≡ (spec.reading_post t.now).operand }
 {
     if t.suffixes.is_empty() {
-        prim(alloc, &t.prim)
+        prim(&t.prim)
     } else {
-        Err(PlainFault::NotYet(t.at))
+        Side::NotYet(t.at)
     }
 }
 
-/// The operand that an expression with signs is.
+/// The side that an expression with signs is.
 #[tactic(auto, using(crate::proofs::Readings::sign_reading))]
-fn sign(alloc: Global, t: &SignTree) -> Result<Operand, PlainFault>
-    ensures { Gives (spec.reading_sign t.now).operand result }
+fn sign(t: &SignTree) -> Side<'_>
+    ensures { side_of result ≡ (spec.reading_sign t.now).operand }
 {
     match t {
         SignTree::Negative(at, inner) => match sign_number(inner.get()) {
-            Some(n) => Ok(Operand::Number(Number {
+            Some(n) => Side::Number(Number {
                 at: *at,
                 value: minus(n),
-            })),
-            None => Err(PlainFault::NotYet(*at)),
+            }),
+            None => Side::NotYet(*at),
         },
-        SignTree::Postfix(inner) => post(alloc, inner),
+        SignTree::Postfix(inner) => post(inner),
     }
 }
 
-/// The operand that a product is.
+/// The side that a product is.
 #[tactic(auto, using(crate::proofs::Readings::mul_reading))]
-fn mul(alloc: Global, t: &MulTree) -> Result<Operand, PlainFault>
-    ensures { Gives (spec.reading_mul t.now).operand result }
+fn mul(t: &MulTree) -> Side<'_>
+    ensures { side_of result ≡ (spec.reading_mul t.now).operand }
 {
     match t {
-        MulTree::Opened(inner) => Err(PlainFault::NotYet(open_at(inner))),
+        MulTree::Opened(inner) => Side::NotYet(open_at(inner)),
         MulTree::Product(at, first, steps, last) => match last {
-            Some(_) => Err(PlainFault::NotYet(*at)),
+            Some(_) => Side::NotYet(*at),
             None => {
                 if steps.is_empty() {
-                    sign(alloc, first)
+                    sign(first)
                 } else {
-                    Err(PlainFault::NotYet(*at))
+                    Side::NotYet(*at)
                 }
             }
         },
     }
 }
 
-/// The operand that a sum is.
+/// The side that a sum is.
 #[tactic(auto, using(crate::proofs::Readings::add_reading))]
+pub fn read_side(t: &AddTree) -> Side<'_>
+    ensures { side_of result ≡ (spec.reading_add t.now).operand }
+{
+    if t.rest.is_empty() {
+        mul(&t.first)
+    } else {
+        Side::NotYet(t.at)
+    }
+}
+
+/// Where a side has a form that does not run yet.
+pub fn side_not_yet(t: &AddTree) -> Option<u32>
+    ensures { result ≡ place_of (spec.reading_add t.now).operand }
+{
+    match read_side(t) {
+        Side::Variable(_) => None,
+        Side::Number(_) => None,
+        Side::NotYet(at) => Some(at),
+    }
+}
+
+/// The operand that a sum is.
 pub fn add(alloc: Global, t: &AddTree) -> Result<Operand, PlainFault>
     ensures { Gives (spec.reading_add t.now).operand result }
 {
-    if t.rest.is_empty() {
-        mul(alloc, &t.first)
-    } else {
-        Err(PlainFault::NotYet(t.at))
+    match read_side(t) {
+        Side::Variable(found) => Ok(Operand::Variable(name(alloc, found)?)),
+        Side::Number(number) => Ok(Operand::Number(number)),
+        Side::NotYet(at) => Err(PlainFault::NotYet(at)),
     }
 }

@@ -1,5 +1,5 @@
 //! Declarations as variables with ranges.
-ghost use Rattle.std.specs.Prelude.{◌≡◌, IfOk, All};
+ghost use Rattle.std.specs.Prelude.{◌≡◌, ◌^◌, IfOk, All, nat_le, unsigned_abs};
 ghost use Rattle.opl_plain.specs.Plain as spec;
 ghost use Rattle.opl_plain.specs.Reading.{Gives};
 
@@ -13,12 +13,19 @@ use std::alloc::Global;
 /// The greatest absolute value of an end of a declared set.
 const MAX_END: u128 = 1 << 62;
 
+/// Whether a declared set may end there.
+pub fn is_near(number: Number) -> bool
+    ensures { result ≡ nat_le (unsigned_abs number.value) (2 ^ 62) }
+{
+    number.value.unsigned_abs() <= MAX_END
+}
+
 /// The number itself, where a declared set may end there.
 fn near(number: Number) -> Result<Number, PlainFault>
     ensures gives { Gives (spec.near number) result }
     ensures near { IfOk result spec.IsNear }
 {
-    if number.value.unsigned_abs() <= MAX_END {
+    if is_near(number) {
         Ok(number)
     } else {
         Err(PlainFault::NotYet(number.at))
