@@ -1,7 +1,10 @@
 //! Texts with their tree, spelt again, and texts that have none, worked out by hand.
 use crate::{depth_model, parse_model, scan, spell_model};
 use opl_token::{Kind, Seq, Token};
-use opl_tree::{ModelTree, SyntaxFault};
+use opl_tree::{
+    AddOp, AddStep, AddTree, CompareTree, ExprTree, ImpTree, InstrTree, ItemTree, ItemsTree,
+    ModelTree, MulTree, NegTree, PrimTree, SignTree, SyntaxFault,
+};
 use std::alloc::Global;
 use std::process::Abort;
 use std::test::Fail;
@@ -97,4 +100,103 @@ fn stops(rt: HostRuntime) {
         let outcome = parse_model(rt.alloc(), tokens.as_slice(), text.len() as u32);
         assert!(rt; matches!(&outcome, Err(SyntaxFault::Syntax(found)) if found == at));
     }
+}
+
+/// The tree of a text that has one.
+fn tree_of(rt: &impl Abort, alloc: Global, text: &[u8]) -> ModelTree {
+    let tokens = tokens_of(rt, alloc, text);
+    match parse_model(alloc, tokens.as_slice(), text.len() as u32) {
+        Ok(tree) => tree,
+        Err(_) => panic!(rt; "no tree"),
+    }
+}
+
+/// The first item, where it is an expression.
+fn first_item(model: &ModelTree) -> Option<&ExprTree> {
+    let InstrTree::Solve(_, block) = &model.instr else {
+        return None;
+    };
+    let ItemsTree::Several(_, first, ..) = &block.items else {
+        return None;
+    };
+    match first.get() {
+        ItemTree::Constraint(t) => Some(t),
+        _ => None,
+    }
+}
+
+/// The left side of a comparison.
+fn left_side(t: &ExprTree) -> Option<&AddTree> {
+    match &t.first.premise.first.first {
+        NegTree::Compare(CompareTree::Related(_, left, ..)) => Some(left.get()),
+        _ => None,
+    }
+}
+
+/// What a product of one factor begins with.
+fn primary(t: &MulTree) -> Option<&PrimTree> {
+    match t {
+        MulTree::Product(_, SignTree::Postfix(post), ..) => Some(&post.prim),
+        _ => None,
+    }
+}
+
+fn is_number(t: &MulTree, value: i128) -> bool {
+    matches!(primary(t), Some(PrimTree::Number(_, found)) if *found == value)
+}
+
+fn is_bracket(t: &MulTree) -> bool {
+    matches!(primary(t), Some(PrimTree::Bracket(..)))
+}
+
+fn is_minus(step: &AddStep) -> bool {
+    matches!(step.op, AddOp::Minus)
+}
+
+/// `7 - (5 - 3) - 1`: from 7 a bracket is taken away, and then 1.
+fn is_from_the_left(t: &AddTree) -> bool {
+    match t.rest.as_slice() {
+        [first, second] => {
+            is_number(&t.first, 7)
+                && is_minus(first)
+                && is_bracket(&first.term)
+                && is_minus(second)
+                && is_number(&second.term, 1)
+        }
+        _ => false,
+    }
+}
+
+/// The conclusion of an implication.
+fn conclusion(t: &ImpTree) -> Option<&ImpTree> {
+    match &t.conclusion {
+        Some(inner) => Some(inner.get()),
+        None => None,
+    }
+}
+
+/// A chain of differences goes from the left, and a bracket in it stays one.
+#[test]
+fn differences_go_from_the_left(rt: HostRuntime) {
+    let tree = tree_of(&rt, rt.alloc(), b"solve { 7 - (5 - 3) - 1 = 4; };");
+    let Some(left) = first_item(&tree).and_then(left_side) else {
+        panic!(rt; "no comparison")
+    };
+    assert!(rt; is_from_the_left(left));
+}
+
+/// Of `a => b => c` the conclusion is `b => c`.
+#[test]
+fn implications_go_from_the_right(rt: HostRuntime) {
+    let tree = tree_of(&rt, rt.alloc(), b"solve { 1 = 1 => 2 = 2 => 3 = 3; };");
+    let Some(first) = first_item(&tree) else {
+        panic!(rt; "no item")
+    };
+    let Some(second) = conclusion(&first.first) else {
+        panic!(rt; "no implication")
+    };
+    let Some(third) = conclusion(second) else {
+        panic!(rt; "from the left")
+    };
+    assert!(rt; third.conclusion.is_none());
 }

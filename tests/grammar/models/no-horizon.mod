@@ -1,0 +1,1 @@
+Activity a(1); solve { };
