@@ -10,7 +10,7 @@ use Rattle.opl_token.specs.declared.fault.ScanFault.TheVariants as scan
 use Rattle.opl_token.specs.declared.token.Token.{Token}
 use Rattle.opl_plain.specs.declared.model.PlainModel.{PlainModel}
 use Rattle.opl_types.specs.Models.{model}
-use Rattle.opl_types.specs.Scope.{Fault}
+use Rattle.opl_types.specs.declared.fault.TypeFault.{TypeFault}
 use Rattle.opl_types.specs.Types.{Sort}
 use Rattle.opl_tool.specs.declared.refusal.Refusal.{Refusal}
 use Rattle.opl_tool.specs.declared.refusal.Refusal.TheVariants.{Syntax, NotYet}
@@ -136,11 +136,13 @@ parsed_one tokens end (Err e) (Err f) p q = syntax_faults tokens end e f p q
 
 typed_one : (tree : ModelTree) → IsOne (HasTypes tree)
 typed_one tree (Ok t) (Ok u) p q = inl (ap Ok (p.0 ∙ sym q.0))
-typed_one tree (Ok t) (Err e) p q = let no : ◌≡◌ {A = Result (List Sort) Fault} (Ok p.1) (Err q.0) = sym p.2 ∙ q.2 in absurd (cc)
-typed_one tree (Err e) (Ok u) p q = let no : ◌≡◌ {A = Result (List Sort) Fault} (Ok q.1) (Err p.0) = sym q.2 ∙ p.2 in absurd (cc)
+typed_one tree (Ok t) (Err e) p q = let no : ◌≡◌ {A = Result (List Sort) TypeFault} (Ok p.1) (Err q.0) = sym p.2 ∙ q.2 in absurd (cc)
+typed_one tree (Err e) (Ok u) p q = let no : ◌≡◌ {A = Result (List Sort) TypeFault} (Ok q.1) (Err p.0) = sym q.2 ∙ p.2 in absurd (cc)
 typed_one tree (Err e) (Err f) p q =
-    let both : ◌≡◌ {A = Result (List Sort) Fault} (Err p.0) (Err q.0) = sym p.2 ∙ q.2 in
-    let same : p.0 ≡ q.0 = cc in inl (ap Err (p.1 ∙ (ap refusal_of_type same ∙ sym q.1)))
+    let both : ◌≡◌ {A = Result (List Sort) TypeFault} (Err p.0) (Err q.0) = sym p.2 ∙ q.2 in
+    let same : p.0 ≡ q.0 = cc in
+    let told : Some e ≡ Some f = sym p.1 ∙ (ap refusal_of_type same ∙ q.1) in
+    let one : e ≡ f = cc in inl (ap Err one)
 
 plain_one : (tree : ModelTree) → IsOne (Plain tree)
 plain_one tree (Ok m) (Ok n) p q = let e : ◌≡◌ {A = Result PlainModel ℕ} (Ok m) (Ok n) = sym p ∙ q in let same : m ≡ n = cc in inl (ap Ok same)

@@ -11,8 +11,8 @@ use Rattle.opl_tree.specs.Depth.{depth_model}
 use Rattle.opl_tree.specs.Reading.{IsTreeOf, StopsAt, OpensAt}
 use Rattle.opl_plain.specs.Plain.{plain_of}
 use Rattle.opl_types.specs.Models.{model}
-use Rattle.opl_types.specs.Scope.{Fault}
-use Rattle.opl_types.specs.Scope.Fault.{Unknown, Duplicate, NotData, Mismatch}
+use Rattle.opl_types.specs.declared.fault.TypeFault.{TypeFault}
+use Rattle.opl_types.specs.declared.fault.TypeFault.TheVariants as types
 use Rattle.opl_types.specs.Types.{Sort}
 use Rattle.opl_types.specs.declared.typed.Typed.{Typed}
 use Rattle.opl_tool.specs.declared.refusal.Refusal.{Refusal}
@@ -59,17 +59,18 @@ abbrev pub Parsed : List Token → (end : ℕ) → Stage ModelTree
 Parsed tokens end (Ok tree) = IsTreeOf tree tokens end × (depth_model tree ≤ 256)
 Parsed tokens end (Err e) = IsSyntaxFault tokens end e
 
--- the refusal at a fault of typing
-abbrev pub refusal_of_type : Fault → Refusal
-refusal_of_type (Unknown at) = refusals.Unknown at
-refusal_of_type (Duplicate at) = refusals.Duplicate at
-refusal_of_type (NotData at) = refusals.NotData at
-refusal_of_type (Mismatch at) = refusals.Mismatch at
+-- the refusal at a fault of typing; want of memory is none
+abbrev pub refusal_of_type : TypeFault → Option Refusal
+refusal_of_type (types.Unknown at) = Some (refusals.Unknown at)
+refusal_of_type (types.Duplicate at) = Some (refusals.Duplicate at)
+refusal_of_type (types.NotData at) = Some (refusals.NotData at)
+refusal_of_type (types.Mismatch at) = Some (refusals.Mismatch at)
+refusal_of_type types.OutOfMemory = None
 
 -- the tree itself, where its expressions have types; else the first fault of typing
 abbrev pub HasTypes : ModelTree → Stage ModelTree
 HasTypes tree (Ok t) = (t ≡ tree) × (kinds : List Sort) × (model tree ≡ Ok kinds)
-HasTypes tree (Err e) = (fault : Fault) × (e ≡ refusal_of_type fault) × (model tree ≡ Err fault)
+HasTypes tree (Err e) = (fault : TypeFault) × (refusal_of_type fault ≡ Some e) × (model tree ≡ Err fault)
 
 -- the tree of a typed model
 abbrev pub tree_of : Result Typed Stop → Result ModelTree Stop
