@@ -1,0 +1,5 @@
+pub mod Examples
+pub mod Forms
+pub mod Lookup
+pub mod Sorts
+pub mod Steps

@@ -1,0 +1,52 @@
+-- The rules as the program goes through them, one part after the other. The laws between these and the rules stand in proofs.
+use Rattle.std.specs.Prelude.{ℕ, List, [], ◌∷◌, ◌++◌, map, Ok, Err}
+use Rattle.std.specs.List.{flat_map}
+use Rattle.opl_tree.specs.declared.expression.NameTree.{NameTree}
+use Rattle.opl_types.specs.Types.{Sort, is_set}
+use Rattle.opl_types.specs.Types.Sort.{anything}
+use Rattle.opl_types.specs.Scope.{Checked, ◌>>=◌, ◌>>◌, Scope, declared, fresh, all_fresh}
+use Rattle.opl_types.specs.Scope.Thing.{value}
+use Rattle.opl_types.specs.Forms.{Suffix, Group, forms_of}
+use Rattle.opl_types.specs.Forms.Suffix.{subscripts, field_of}
+use Rattle.opl_types.specs.Expressions.{Node, Opened, part, kinds_in, element_node, field_node, typed_parts, typed_set, pattern_names, bind_patterns, or_anything}
+use Rattle.opl_types.specs.Expressions.Need.{data_alone}
+
+-- an expression with subscripts, or a field, behind it, and with several of them
+abbrev pub suffix_node : Scope → ℕ → Node → Suffix → Checked Node
+suffix_node sc at base (subscripts es) = do
+  ns ← typed_parts sc (forms_of es)
+  Ok (element_node sc at base ns base.sort)
+suffix_node sc at base (field_of name) = field_node sc at base name base.sort
+
+abbrev pub suffixed : Scope → ℕ → Checked Node → List Suffix → Checked Node
+suffixed sc at c [] = c
+suffixed sc at c (s ∷ ss) = suffixed sc at (c >>= part >>= (λ base. suffix_node sc at base s)) ss
+
+-- the scope in which names are taken, one after the other
+abbrev pub taken : Scope → List NameTree → Checked Scope
+taken sc [] = Ok sc
+taken sc (n ∷ ns) = fresh sc n >> taken (declared n.text (value anything) sc) ns
+
+-- one group of parameters behind those before, and several
+abbrev pub open_one : Opened → Group → Checked Opened
+open_one o g = do
+  all_fresh o.scope (flat_map pattern_names g.patterns)
+  over ← typed_set data_alone is_set o.scope g.over
+  inner ← bind_patterns o.scope (or_anything over.element) g.patterns
+  Ok (record { scope = inner; kinds = o.kinds ++ kinds_in over.nodes })
+
+abbrev pub open_each : Opened → List Group → Checked Opened
+open_each o [] = Ok o
+open_each o (g ∷ gs) = open_one o g >>= (λ more. open_each more gs)
+
+-- types behind those before
+abbrev pub front : List Sort → Checked (List Sort) → Checked (List Sort)
+front ks c = do
+  more ← c
+  Ok (ks ++ more)
+
+-- what a declaration makes, behind what those before have made
+abbrev pub behind : List Sort → Checked Opened → Checked Opened
+behind ks c = do
+  o ← c
+  Ok (record { scope = o.scope; kinds = ks ++ o.kinds })
