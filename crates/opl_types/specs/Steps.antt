@@ -2,7 +2,7 @@
 use Rattle.std.specs.Prelude.{ℕ, List, [], ◌∷◌, ◌++◌, map, replicate, Option, Some, Ok, Err}
 use Rattle.std.specs.List.{flat_map}
 use Rattle.opl_tree.specs.declared.expression.NameTree.{NameTree}
-use Rattle.opl_types.specs.Types.{Sort, Sorts, sorts_of, is_set}
+use Rattle.opl_types.specs.Types.{Sort, Sorts, sorts_of, is_set, both}
 use Rattle.opl_types.specs.Types.Sort.{anything}
 use Rattle.opl_types.specs.Scope.{Checked, ◌>>=◌, ◌>>◌, Scope, declared, fresh, all_fresh, with_values, parts_in}
 use Rattle.opl_types.specs.Scope.Thing.{value}
@@ -59,3 +59,8 @@ unknown ns sc = with_values ns (map (λ n. anything) ns) sc
 abbrev pub parts_of : Scope → ℕ → Sort → Option Sorts
 parts_of sc count anything = Some (sorts_of (replicate count anything))
 parts_of sc count s = parts_in sc s
+
+-- these types, and then the others, if there are such
+abbrev pub sorts_before : List Sort → Option Sorts → Option Sorts
+sorts_before [] o = o
+sorts_before (s ∷ ss) o = both (Some s) (sorts_before ss o)

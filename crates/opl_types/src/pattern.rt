@@ -1,5 +1,5 @@
 //! The names that patterns give to the elements of a set.
-ghost use Rattle.std.specs.Prelude.{◌≡◌, ◌∷◌, [], map, IfOk, Ok};
+ghost use Rattle.std.specs.Prelude.{◌≡◌, ◌∷◌, [], map, Ok};
 ghost use Rattle.std.specs.List.{flat_map};
 ghost use Rattle.std.specs.Option.{option_map};
 ghost use Rattle.opl_types.specs.Expressions as spec;
@@ -8,7 +8,7 @@ ghost use Rattle.opl_types.specs.Scope as scope;
 ghost use Rattle.opl_types.specs.Steps as step;
 ghost use Rattle.opl_types.specs.Types.{sort};
 ghost use Rattle.opl_types.specs.Types.Sort.{anything};
-ghost use Rattle.opl_types.specs.Values.{Gives, scope_of, sorts_in, within};
+ghost use Rattle.opl_types.specs.Values.{Does, Gives, scope_of, sorts_in, within};
 
 use crate::fault::TypeFault;
 use crate::kind::Ty;
@@ -143,7 +143,7 @@ fn unknown_pattern(
     locals: &mut Seq<Local>,
     pattern: &PatternTree,
 ) -> Result<(), TypeFault>
-    ensures { IfOk result (λ u. within model.now locals.new ≡ step.unknown (spec.pattern_names pattern.now) (within model.now locals.old)) }
+    ensures { Does (λ u. within model.now locals.new ≡ step.unknown (spec.pattern_names pattern.now) (within model.now locals.old)) result }
 {
     match pattern {
         PatternTree::Single(name) => add_local(alloc, locals, name.text.as_slice(), Ty::Any),
@@ -164,7 +164,7 @@ fn unknown_group(
     locals: &mut Seq<Local>,
     group: &GroupTree,
 ) -> Result<(), TypeFault>
-    ensures { IfOk result (λ u. within model.now locals.new ≡ step.unknown (flat_map spec.pattern_names (form_group group.now).patterns) (within model.now locals.old)) }
+    ensures { Does (λ u. within model.now locals.new ≡ step.unknown (flat_map spec.pattern_names (form_group group.now).patterns) (within model.now locals.old)) result }
 {
     unknown_pattern(alloc, model, locals, &group.first)?;
     for pattern in group.rest.as_slice() {
@@ -180,7 +180,7 @@ pub(crate) fn unknown_params(
     locals: &[Local],
     params: &ParamsTree,
 ) -> Result<Seq<Local>, TypeFault>
-    ensures { IfOk result (λ r. within model.now r ≡ scope.with_values (spec.names_of_params (form_params params.now)) (map (λ n. anything) (spec.names_of_params (form_params params.now))) (within model.now locals.now)) }
+    ensures { Does (λ r. within model.now r ≡ scope.with_values (spec.names_of_params (form_params params.now)) (map (λ n. anything) (spec.names_of_params (form_params params.now))) (within model.now locals.now)) result }
 {
     let mut found = copied(alloc, locals)?;
     unknown_group(alloc, model, &mut found, &params.first)?;
