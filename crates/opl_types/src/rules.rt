@@ -411,6 +411,20 @@ fn element_of(
     Ok(node.with_one(is_one))
 }
 
+/// An element of what is no array.
+#[tactic(auto, using(crate::proofs::Sorts::sorts))]
+fn unknown_element(
+    alloc: Global,
+    at: u32,
+    base: Node,
+    subscripts: Seq<Node>,
+    is_right: bool,
+) -> Result<Node, TypeFault>
+    ensures { Gives node_of (Ok (spec.made at anything (node_of base ∷ map node_of subscripts) is_right)) result }
+{
+    made(alloc, at, Ty::Any, before(alloc, base, subscripts)?, is_right)
+}
+
 /// An element of an array.
 #[tactic(auto, using(crate::proofs::Sorts::sorts))]
 pub(crate) fn element(
@@ -433,7 +447,7 @@ pub(crate) fn element(
             indices.as_slice(),
             element.get(),
         ),
-        Ty::Any => made(alloc, at, Ty::Any, before(alloc, base, subscripts)?, true),
+        Ty::Any => unknown_element(alloc, at, base, subscripts, true),
         Ty::Int
         | Ty::Bool
         | Ty::Enum(_)
@@ -445,7 +459,7 @@ pub(crate) fn element(
         | Ty::Unary
         | Ty::Discrete
         | Ty::Index(_)
-        | Ty::Structure => made(alloc, at, Ty::Any, before(alloc, base, subscripts)?, false),
+        | Ty::Structure => unknown_element(alloc, at, base, subscripts, false),
     }
 }
 
@@ -492,6 +506,14 @@ fn known_field(
     }
 }
 
+/// A field of what is no record.
+#[tactic(auto, using(crate::proofs::Sorts::sorts))]
+fn unknown_field(alloc: Global, at: u32, base: Node, is_right: bool) -> Result<Node, TypeFault>
+    ensures { Gives node_of (Ok (spec.made at anything (node_of base ∷ []) is_right)) result }
+{
+    made(alloc, at, Ty::Any, one(alloc, base)?, is_right)
+}
+
 /// A field of a record, or a time of an activity.
 #[tactic(auto, using(crate::proofs::Sorts::sorts))]
 pub(crate) fn field(
@@ -510,7 +532,7 @@ pub(crate) fn field(
             let found = field_type(alloc, model, *k, name.text.as_slice())?;
             known_field(alloc, at, base, name, found)
         }
-        Ty::Any => made(alloc, at, Ty::Any, one(alloc, base)?, true),
+        Ty::Any => unknown_field(alloc, at, base, true),
         Ty::Int
         | Ty::Bool
         | Ty::Enum(_)
@@ -521,7 +543,7 @@ pub(crate) fn field(
         | Ty::Unary
         | Ty::Discrete
         | Ty::Index(_)
-        | Ty::Structure => made(alloc, at, Ty::Any, one(alloc, base)?, false),
+        | Ty::Structure => unknown_field(alloc, at, base, false),
     }
 }
 
