@@ -5,3 +5,4 @@ pub mod Sorts
 pub mod Steps
 pub mod Joins
 pub mod Patterns
+pub mod Places

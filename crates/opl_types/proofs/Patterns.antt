@@ -16,7 +16,7 @@ use Rattle.opl_types.specs.declared.fault.TypeFault.TheVariants.{Unknown, Duplic
 use Rattle.opl_types.specs.declared.kind.Ty.{Ty}
 use Rattle.opl_types.specs.declared.names.Local.{Local}
 use Rattle.opl_types.specs.declared.names.Names.{Names}
-use Rattle.opl_types.specs.Types.{Sort, Sorts, sort, sorts_of, sort_list}
+use Rattle.opl_types.specs.Types.{Sort, sort, sorts_of, sort_list}
 use Rattle.opl_types.specs.Types.Sort.{anything}
 use Rattle.opl_types.specs.Forms.{Form, Group, groups_of, params_form, form_expr, form_group, form_group_step, form_params}
 use Rattle.opl_types.specs.Scope.{Checked, Scope, Text, ◌>>◌, and_then, unless, declared, fresh, all_fresh, with_values, fields, field_sorts}

@@ -34,7 +34,12 @@ fn one_of(alloc: Global, model: &Names<'_>, a: &Ty, b: &Ty) -> Result<Option<Ty>
 /// The one type of two elements of a set.
 #[tactic(auto, using(crate::proofs::Sorts::sorts))]
 #[cycle(joined)]
-pub(crate) fn joined(alloc: Global, model: &Names<'_>, a: &Ty, b: &Ty) -> Result<Option<Ty>, TypeFault>
+pub(crate) fn joined(
+    alloc: Global,
+    model: &Names<'_>,
+    a: &Ty,
+    b: &Ty,
+) -> Result<Option<Ty>, TypeFault>
     ensures { Gives (option_map spec.sort) (Ok (joined_in (scope_of model.now) (spec.sort a.now) (spec.sort b.now))) result }
 {
     match a {

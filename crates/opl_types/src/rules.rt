@@ -422,7 +422,13 @@ fn unknown_element(
 ) -> Result<Node, TypeFault>
     ensures { Gives node_of (Ok (spec.made at anything (node_of base ∷ map node_of subscripts) is_right)) result }
 {
-    made(alloc, at, Ty::Any, before(alloc, base, subscripts)?, is_right)
+    made(
+        alloc,
+        at,
+        Ty::Any,
+        before(alloc, base, subscripts)?,
+        is_right,
+    )
 }
 
 /// An element of an array.

@@ -1,4 +1,4 @@
-use Rattle.std.proofs.Common.{◌≡◌, map, Ok, ap, ◌∙◌, rules}
+use Rattle.std.proofs.Common.{map, Ok, ap, ◌∙◌, rules}
 use Rattle.opl_types.specs.Scope.{field_sorts}
 use Rattle.opl_types.specs.Types.{sort}
 use Rattle.opl_types.specs.Values.{scope_of}
