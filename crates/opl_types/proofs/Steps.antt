@@ -1,12 +1,12 @@
 -- The rules, and the steps in which the program goes through them, come to the same.
-use Rattle.std.proofs.Common.{◌≡◌, ℕ, List, [], ◌∷◌, Ok, Err, refl, ap, sym, ◌∙◌}
+use Rattle.std.proofs.Common.{◌≡◌, ℕ, List, [], ◌∷◌, ◌++◌, Ok, Err, refl, ap, sym, ◌∙◌}
 use Rattle.opl_tree.specs.declared.expression.NameTree.{NameTree}
 use Rattle.opl_types.specs.Scope.{Checked, ◌>>=◌, ◌>>◌, and_then, Scope, declared, fresh, all_fresh}
 use Rattle.opl_types.specs.Scope.Thing.{value}
 use Rattle.opl_types.specs.Types.Sort.{anything}
 use Rattle.opl_types.specs.Forms.{Form, Suffix, with_suffix, with_suffixes}
 use Rattle.opl_types.specs.Forms.Suffix.{subscripts, field_of}
-use Rattle.opl_types.specs.Expressions.{typing, part}
+use Rattle.opl_types.specs.Expressions.{Node, typing, part}
 use Rattle.opl_types.specs.Steps.{suffix_node, suffixed, taken}
 
 typing-suffix : (sc : Scope) (at : ℕ) (f : Form) (s : Suffix) → typing sc (with_suffix at f s) ≡ (typing sc f >>= part >>= (λ base. suffix_node sc at base s))

@@ -88,11 +88,7 @@ fn add_dimension(
 }
 
 /// The dimensions of an item; none where it is single.
-fn dims_of(
-    alloc: Global,
-    model: &Names<'_>,
-    dims: &Option<DimsTree>,
-) -> Result<Dimensions, TypeFault> {
+fn dims_of(alloc: Global, model: &Names<'_>, dims: &Option<DimsTree>) -> Result<Dimensions, TypeFault> {
     let mut found = Dimensions {
         indices: Seq::new(alloc),
         names: Seq::new(alloc),
@@ -226,12 +222,7 @@ fn enum_name<'a>(
 }
 
 /// `enum NAME NAMES;`
-fn enumeration<'a>(
-    alloc: Global,
-    model: &mut Names<'a>,
-    number: u32,
-    t: &'a EnumTree,
-) -> Result<(), TypeFault>
+fn enumeration<'a>(alloc: Global, model: &mut Names<'a>, number: u32, t: &'a EnumTree) -> Result<(), TypeFault>
     ensures { Gives (λ u. record { scope = scope_of model.new; kinds = [] }) (spec.enum_decl number (scope_of model.old) t.now) result }
 {
     fresh(model, &[], &t.name)?;
@@ -264,12 +255,7 @@ fn field(
 }
 
 /// `struct NAME {FIELD FIELD ..};`
-fn structure<'a>(
-    alloc: Global,
-    model: &mut Names<'a>,
-    number: u32,
-    t: &'a StructTree,
-) -> Result<(), TypeFault>
+fn structure<'a>(alloc: Global, model: &mut Names<'a>, number: u32, t: &'a StructTree) -> Result<(), TypeFault>
     ensures { Gives (λ u. record { scope = scope_of model.new; kinds = [] }) (spec.struct_decl number (scope_of model.old) t.now) result }
 {
     fresh(model, &[], &t.name)?;
