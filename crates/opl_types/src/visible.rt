@@ -17,14 +17,14 @@ use std::alloc::{AllocError, Global};
 use std::collections::HashMap;
 use std::mem;
 
-/// The number that the map has at the name.
+/// The place that is kept for the name.
 fn place_of(places: &HashMap<&[u8], usize>, name: &[u8]) -> Option<usize>
     ensures { result ≡ get_by (λ k. bytes_eq name.now k.now) places.now }
 {
     places.get(name).copied()
 }
 
-/// The number that the map has at the number.
+/// The place that is kept for the struct with that number.
 fn place_of_struct(structs: &HashMap<u32, usize>, number: u32) -> Option<usize>
     ensures { result ≡ get_by (nat_eq number) structs.now }
 {
@@ -162,7 +162,7 @@ impl<'a> Names<'a> {
     }
 }
 
-/// The place of the entry at its name.
+/// Keeps the place for the name.
 fn add_place<'a>(
     places: &mut HashMap<&'a [u8], usize>,
     name: &'a [u8],
@@ -174,7 +174,7 @@ fn add_place<'a>(
     Ok(())
 }
 
-/// The place of the entry at the struct's number, if it is one.
+/// Keeps the place for the struct, if it is one.
 fn add_struct(
     structs: &mut HashMap<u32, usize>,
     thing: &Thing,
