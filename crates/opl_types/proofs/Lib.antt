@@ -1,5 +1,9 @@
+pub mod Chains
 pub mod Examples
 pub mod Forms
+pub mod Inside
+pub mod Likeness
 pub mod Lookup
 pub mod Sorts
 pub mod Steps
+pub mod Typing

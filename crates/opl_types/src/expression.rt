@@ -1,13 +1,14 @@
 //! The types of expressions.
 ghost use Rattle.std.specs.Prelude.{◌≡◌, ◌∷◌, Ok, map};
+ghost use Rattle.std.specs.Option.{option_map};
 ghost use Rattle.opl_types.specs.Expressions as spec;
 ghost use Rattle.opl_types.specs.Forms.{forms_of, pairs_of};
 ghost use Rattle.opl_types.specs.Forms as form;
-ghost use Rattle.opl_types.specs.Expressions.Need as need;
+ghost use Rattle.opl_types.specs.Expressions.Need.{nothing, data_alone};
 ghost use Rattle.opl_types.specs.Forms.Form.{described};
 ghost use Rattle.opl_types.specs.Scope.{and_then};
 ghost use Rattle.opl_types.specs.Steps as step;
-ghost use Rattle.opl_types.specs.Types.{is_set};
+ghost use Rattle.opl_types.specs.Types.{is_set, sort};
 ghost use Rattle.opl_types.specs.Values.{Gives, need_of, node_of, opened_in, range_of, within};
 
 use crate::fault::TypeFault;
@@ -485,7 +486,7 @@ fn set_of_member(
     locals: &[Local],
     t: &SetTree,
 ) -> Result<Range, TypeFault>
-    ensures { Gives range_of (spec.typed_set need.nothing spec.any_type (within model.now locals.now) (form.form_set t.now)) result }
+    ensures { Gives range_of (spec.typed_set nothing spec.any_type (within model.now locals.now) (form.form_set t.now)) result }
 {
     match &t.high {
         None => {
@@ -509,7 +510,7 @@ pub(crate) fn set(
     locals: &[Local],
     t: &SetTree,
 ) -> Result<Range, TypeFault>
-    ensures { Gives range_of (spec.typed_set need.data_alone is_set (within model.now locals.now) (form.form_set t.now)) result }
+    ensures { Gives range_of (spec.typed_set data_alone is_set (within model.now locals.now) (form.form_set t.now)) result }
 {
     match &t.high {
         None => {
@@ -544,7 +545,7 @@ fn described_set(
         }
         Err(TypeFault::OutOfMemory) => Err(TypeFault::OutOfMemory),
         Err(fault) => {
-            let unknown = unknown_params(alloc, locals, params)?;
+            let unknown = unknown_params(alloc, model, locals, params)?;
             add(alloc, model, unknown.as_slice(), value)?.part()?;
             Err(fault)
         }
@@ -615,6 +616,17 @@ pub(crate) struct Opened {
     pub(crate) kinds: Seq<Ty>,
 }
 
+/// The type of the elements of a set, which may be anything where it has none.
+#[tactic(auto, using(crate::proofs::Sorts::sorts))]
+fn or_anything(element: Option<Ty>) -> Ty
+    ensures { sort result ≡ spec.or_anything (option_map sort element) }
+{
+    match element {
+        Some(ty) => ty,
+        None => Ty::Any,
+    }
+}
+
 /// The parameters of a group, added to those before.
 #[cycle(expressions)]
 #[tactic(auto, using(crate::proofs::Forms::group_forms))]
@@ -634,11 +646,9 @@ fn open_group(
         t.rest.as_slice(),
     )?;
     let over = set(alloc, model, opened.locals.as_slice(), &t.set)?;
-    let element = match over.element {
-        Some(ty) => ty,
-        None => Ty::Any,
-    };
-    append(&mut opened.kinds, kinds_in(alloc, over.nodes)?)?;
+    let Range { nodes, element } = over;
+    let element = or_anything(element);
+    append(&mut opened.kinds, kinds_in(alloc, nodes)?)?;
     bind_pattern(alloc, model, &mut opened.locals, &element, &t.first)?;
     for pattern in t.rest.as_slice() {
         bind_pattern(alloc, model, &mut opened.locals, &element, pattern)?;

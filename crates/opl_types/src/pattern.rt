@@ -1,10 +1,12 @@
 //! The names that patterns give to the elements of a set.
-ghost use Rattle.std.specs.Prelude.{◌≡◌, ◌∷◌, []};
+ghost use Rattle.std.specs.Prelude.{◌≡◌, ◌∷◌, [], IfOk, map};
 ghost use Rattle.std.specs.List.{flat_map};
 ghost use Rattle.opl_types.specs.Expressions as spec;
+ghost use Rattle.opl_types.specs.Forms.{form_params};
 ghost use Rattle.opl_types.specs.Scope as scope;
 ghost use Rattle.opl_types.specs.Steps as step;
 ghost use Rattle.opl_types.specs.Types.{sort};
+ghost use Rattle.opl_types.specs.Types.Sort.{anything};
 ghost use Rattle.opl_types.specs.Values.{Gives, within};
 
 use crate::fault::TypeFault;
@@ -164,9 +166,12 @@ fn unknown_group(
 /// The names of parameters that have a fault, as what may be anything.
 pub(crate) fn unknown_params(
     alloc: Global,
+    model: &Names<'_>,
     locals: &[Local],
     params: &ParamsTree,
-) -> Result<Seq<Local>, TypeFault> {
+) -> Result<Seq<Local>, TypeFault>
+    ensures { IfOk result (λ r. within model.now r ≡ scope.with_values (spec.names_of_params (form_params params.now)) (map (λ n. anything) (spec.names_of_params (form_params params.now))) (within model.now locals.now)) }
+{
     let mut found = copied(alloc, locals)?;
     unknown_group(alloc, &mut found, &params.first)?;
     for step in params.rest.as_slice() {
