@@ -1,22 +1,23 @@
 -- The rule of each form, inside a model's names.
-use Rattle.std.proofs.Common.{◌≡◌, ℕ, Bool, true, false, ◌&&◌, List, [], ◌∷◌, ◌++◌, map, Option, Some, None, Ok, Err, is_some, refl, ap, sym, ◌∙◌}
+use Rattle.std.proofs.Common.{◌≡◌, ℕ, Bool, true, false, ◌&&◌, List, [], ◌∷◌, ◌++◌, map, Option, Some, None, Ok, Err, is_some, Result, refl, ap, sym, ◌∙◌}
 use Rattle.opl_tree.specs.declared.expression.NameTree.{NameTree}
 use Rattle.opl_tree.specs.declared.expression.QuestionOp.{QuestionOp}
 use Rattle.opl_tree.specs.declared.expression.Relation.{Relation}
+use Rattle.opl_types.specs.declared.fault.TypeFault.{TypeFault}
 use Rattle.opl_types.specs.declared.names.Local.{Local}
 use Rattle.opl_types.specs.declared.names.Names.{Names}
 use Rattle.opl_types.specs.Types.{Sort, sorts_of, elements, is_number, is_truth, is_set, is_storable, is_array_of_single}
 use Rattle.opl_types.specs.Types.Sort.{int, bool, row, set, anything}
 use Rattle.opl_types.specs.Scope.{Scope, Checked, and_then, lookup}
-use Rattle.opl_types.specs.Forms.{Form, Forms, Pairs, SetForm, Params, forms_of, pairs_of}
+use Rattle.opl_types.specs.Forms.{Form, Forms, Pairs, SetForm, Params, chain, forms_of, pairs_of}
 use Rattle.opl_types.specs.Forms.Form.{number, named, bracket, negative, arithmetic, absolute, related, member, connected, aggregate, cardinality, all_different, subscripted, field, tuple, listed, described, cells, keyed_cells, question}
 use Rattle.opl_types.specs.Forms.Forms.{no_forms, more_forms}
 use Rattle.opl_types.specs.Forms.Pairs.{no_pairs, more_pairs}
 use Rattle.opl_types.specs.Forms.SetForm.{whole, between}
 use Rattle.opl_types.specs.Expressions.{Node, Need, Range, Opened, node, made, of_data, kinds, part, used, data_number, any_type, all_sorts, name_node, bracketed, are_related, is_member, element_type, set_type, question_node, scope_within, typing, typed_parts, typed_pairs, typed_set, open_params}
 use Rattle.opl_types.specs.Expressions.Need.{nothing, data_alone}
-use Rattle.opl_types.specs.Values.{within, scope_of}
-use Rattle.opl_types.proofs.Chains.{after, alike-after, alone}
+use Rattle.opl_types.specs.Values.{Gives, node_of, within, scope_of}
+use Rattle.opl_types.proofs.Chains.{after, alike-after, alone, gives-fault, gives-same}
 use Rattle.opl_types.proofs.Inside.{alike-within}
 use Rattle.opl_types.proofs.Likeness.{related-alike, member-alike, elements-alike, question-alike}
 
@@ -115,6 +116,21 @@ module _ (sc : Scope) where
   pub typed_set-between : (need : Need) (takes : Sort → Bool) (low high : Form) → typed_set need takes sc (between low high) ≡ and_then (and_then (typing sc low) data_number) (λ m. and_then (and_then (typing sc high) data_number) (λ n. Ok (record { nodes = m ∷ n ∷ []; element = Some int })))
   unfolding typed_set typing
   typed_set-between need takes low high = refl
+
+-- a chain of one operand is that operand; in a chain of several each is a part
+module _ (sc : Scope) (make : Forms → Form) (end : List Node → Node) (rule : (fs : Forms) → typing sc (make fs) ≡ and_then (typed_parts sc fs) (λ ns. Ok (end ns))) where
+  chain_fault : (f : Form) (fs : List Form) (e : TypeFault) → Gives node_of (typing sc f) (Err e) → Gives node_of (typing sc (chain make f fs)) (Err e)
+  chain_fault f [] e h = h
+  chain_fault f (g ∷ gs) e h =
+      gives-same node_of _ _ (Err e) (rule (forms_of (f ∷ g ∷ gs)) ∙ ap (λ c. and_then c (λ ns. Ok (end ns))) (more-parts sc f (forms_of (g ∷ gs))))
+      (gives-fault (map node_of) node_of _ _ e (gives-fault node_of (map node_of) _ _ e (gives-fault node_of node_of _ _ e h)))
+
+  chain_more : (f : Form) (fs : List Form) → (fs ≡ [] → ⊥) → (n : Node) → typing sc f ≡ Ok n →
+      typing sc (chain make f fs) ≡ and_then (and_then (part n) (λ m. and_then (typed_parts sc (forms_of fs)) (λ ns. Ok (m ∷ ns)))) (λ ns. Ok (end ns))
+  chain_more f [] some n t = absurd (some refl)
+  chain_more f (g ∷ gs) some n t =
+      rule (forms_of (f ∷ g ∷ gs)) ∙ ap (λ c. and_then c (λ ns. Ok (end ns))) (more-parts sc f (forms_of (g ∷ gs)))
+      ∙ ap (λ c. and_then (and_then (and_then c part) (λ m. and_then (typed_parts sc (forms_of (g ∷ gs))) (λ ns. Ok (m ∷ ns)))) (λ ns. Ok (end ns))) t
 
 module _ (n : Names) (ls : List Local) where
   pub typing-related : (at : ℕ) (f : Form) (r : Relation) (g : Form) → typing (within n ls) (related at f r g) ≡ and_then (and_then (typing (within n ls) f) part) (λ a. and_then (and_then (typing (within n ls) g) part) (λ b. Ok (made at bool (a ∷ b ∷ []) (are_related (scope_of n) r a.sort b.sort))))

@@ -1,5 +1,5 @@
 //! The types of expressions.
-ghost use Rattle.std.specs.Prelude.{◌≡◌, ◌∷◌, Ok, map};
+ghost use Rattle.std.specs.Prelude.{◌≡◌, ◌∷◌, ◌++◌, Ok, map};
 ghost use Rattle.std.specs.Option.{option_map};
 ghost use Rattle.opl_types.specs.Expressions as spec;
 ghost use Rattle.opl_types.specs.Forms.{forms_of, pairs_of};
@@ -23,14 +23,14 @@ use crate::rules::{
 };
 use opl_list::Seq;
 use opl_tree::{
-    AddStep, AddTree, AndTree, CallOp, CompareTree, ExprTree, GroupTree, ImpTree, KeyedTree,
-    MulStep, MulTree, NegTree, OpenTree, OrTree, ParamsTree, PostTree, PrimTree, SetTree, SignTree,
-    SubscriptsTree, SuffixTree,
+    AddStep, AddTree, AndTree, CallOp, CompareTree, ExprTree, GroupStep, GroupTree, ImpTree,
+    KeyedTree, LastStep, MulStep, MulTree, NegTree, OpenTree, OrTree, ParamsTree, PatternTree,
+    PostTree, PrimTree, SetTree, SignTree, SubscriptsTree, SuffixTree,
 };
 use std::alloc::Global;
 
 /// `a <=> b <=> ..`
-#[tactic(auto, using(crate::proofs::Forms::expr_forms))]
+#[tactic(auto, using(crate::proofs::Forms::expr_forms, crate::proofs::Typing::rules_of_forms, crate::proofs::Typing::rules_of_parts))]
 #[cycle(expressions)]
 pub(crate) fn expr(
     alloc: Global,
@@ -50,6 +50,7 @@ pub(crate) fn expr(
 
 /// The first part, and the others behind it.
 #[cycle(expressions)]
+#[tactic(auto, using(crate::proofs::Typing::rules_of_parts))]
 fn imps(
     alloc: Global,
     model: &Names<'_>,
@@ -68,7 +69,7 @@ fn imps(
 }
 
 /// `a => b`
-#[tactic(auto, using(crate::proofs::Forms::imp_forms))]
+#[tactic(auto, using(crate::proofs::Forms::imp_forms, crate::proofs::Typing::rules_of_forms, crate::proofs::Typing::rules_of_parts))]
 #[cycle(expressions)]
 pub(crate) fn imp(
     alloc: Global,
@@ -90,7 +91,7 @@ pub(crate) fn imp(
 }
 
 /// `a \/ b \/ ..`
-#[tactic(auto, using(crate::proofs::Forms::or_forms))]
+#[tactic(auto, using(crate::proofs::Forms::or_forms, crate::proofs::Typing::rules_of_forms, crate::proofs::Typing::rules_of_parts))]
 #[cycle(expressions)]
 pub(crate) fn or(
     alloc: Global,
@@ -110,6 +111,7 @@ pub(crate) fn or(
 
 /// The first part, and the others behind it.
 #[cycle(expressions)]
+#[tactic(auto, using(crate::proofs::Typing::rules_of_parts))]
 fn ands(
     alloc: Global,
     model: &Names<'_>,
@@ -128,7 +130,7 @@ fn ands(
 }
 
 /// `a & b & ..`
-#[tactic(auto, using(crate::proofs::Forms::and_forms))]
+#[tactic(auto, using(crate::proofs::Forms::and_forms, crate::proofs::Typing::rules_of_forms, crate::proofs::Typing::rules_of_parts))]
 #[cycle(expressions)]
 pub(crate) fn and(
     alloc: Global,
@@ -148,6 +150,7 @@ pub(crate) fn and(
 
 /// The first part, and the others behind it.
 #[cycle(expressions)]
+#[tactic(auto, using(crate::proofs::Typing::rules_of_parts))]
 fn negs(
     alloc: Global,
     model: &Names<'_>,
@@ -166,7 +169,7 @@ fn negs(
 }
 
 /// `not a`, or a comparison
-#[tactic(auto, using(crate::proofs::Forms::neg_forms))]
+#[tactic(auto, using(crate::proofs::Forms::neg_forms, crate::proofs::Typing::rules_of_forms, crate::proofs::Typing::rules_of_parts))]
 #[cycle(expressions)]
 pub(crate) fn neg(
     alloc: Global,
@@ -186,7 +189,7 @@ pub(crate) fn neg(
 }
 
 /// a comparison, or one side alone
-#[tactic(auto, using(crate::proofs::Forms::compare_forms))]
+#[tactic(auto, using(crate::proofs::Forms::compare_forms, crate::proofs::Typing::rules_of_forms, crate::proofs::Typing::rules_of_parts))]
 #[cycle(expressions)]
 pub(crate) fn compare(
     alloc: Global,
@@ -212,7 +215,7 @@ pub(crate) fn compare(
 }
 
 /// `a + b - ..`
-#[tactic(auto, using(crate::proofs::Forms::add_forms))]
+#[tactic(auto, using(crate::proofs::Forms::add_forms, crate::proofs::Typing::rules_of_forms, crate::proofs::Typing::rules_of_parts))]
 #[cycle(expressions)]
 pub(crate) fn add(
     alloc: Global,
@@ -232,6 +235,7 @@ pub(crate) fn add(
 
 /// The first part, and the others behind it.
 #[cycle(expressions)]
+#[tactic(auto, using(crate::proofs::Typing::rules_of_parts))]
 fn add_steps(
     alloc: Global,
     model: &Names<'_>,
@@ -264,7 +268,7 @@ pub(crate) fn add_step(
 }
 
 /// `a * b div ..`
-#[tactic(auto, using(crate::proofs::Forms::mul_forms))]
+#[tactic(auto, using(crate::proofs::Forms::mul_forms, crate::proofs::Typing::rules_of_forms, crate::proofs::Typing::rules_of_parts))]
 #[cycle(expressions)]
 pub(crate) fn mul(
     alloc: Global,
@@ -281,17 +285,35 @@ pub(crate) fn mul(
             if steps.is_empty() && last.is_none() {
                 return Ok(first);
             }
-            let mut parts = mul_steps(alloc, model, locals, first, steps.as_slice())?;
-            if let Some(last) = last {
-                parts.push(open(alloc, model, locals, &last.factor)?.part()?)?;
-            }
+            let parts = factors(alloc, model, locals, first, steps.as_slice(), last)?;
             arithmetic(alloc, *at, parts)
         }
     }
 }
 
+/// The first factor, and the others behind it, of which the last may be an aggregate.
+#[tactic(auto, using(crate::proofs::Forms::last_step_forms, crate::proofs::Typing::rules_of_parts))]
+#[cycle(expressions)]
+fn factors(
+    alloc: Global,
+    model: &Names<'_>,
+    locals: &[Local],
+    first: Node,
+    steps: &[MulStep],
+    last: &Option<LastStep>,
+) -> Result<Seq<Node>, TypeFault>
+    ensures { Gives (map node_of) (and_then (spec.part (node_of first)) (λ n. and_then (spec.typed_parts (within model.now locals.now) (forms_of (map form.form_mul_step steps.now ++ form.or_none (option_map form.form_last_step last.now)))) (λ ns. Ok (n ∷ ns)))) result }
+{
+    let mut parts = mul_steps(alloc, model, locals, first, steps)?;
+    if let Some(last) = last {
+        parts.push(open(alloc, model, locals, &last.factor)?.part()?)?;
+    }
+    Ok(parts)
+}
+
 /// The first part, and the others behind it.
 #[cycle(expressions)]
+#[tactic(auto, using(crate::proofs::Typing::rules_of_parts))]
 fn mul_steps(
     alloc: Global,
     model: &Names<'_>,
@@ -324,7 +346,7 @@ pub(crate) fn mul_step(
 }
 
 /// `sum (PARAMS) a` and the like, with signs in front
-#[tactic(auto, using(crate::proofs::Forms::open_forms))]
+#[tactic(auto, using(crate::proofs::Forms::open_forms, crate::proofs::Typing::rules_of_forms, crate::proofs::Typing::rules_of_parts))]
 #[cycle(expressions)]
 pub(crate) fn open(
     alloc: Global,
@@ -348,7 +370,7 @@ pub(crate) fn open(
 }
 
 /// `- a`
-#[tactic(auto, using(crate::proofs::Forms::sign_forms))]
+#[tactic(auto, using(crate::proofs::Forms::sign_forms, crate::proofs::Typing::rules_of_forms, crate::proofs::Typing::rules_of_parts))]
 #[cycle(expressions)]
 pub(crate) fn sign(
     alloc: Global,
@@ -424,6 +446,7 @@ pub(crate) fn subscripts(
 
 /// The first part, and the others behind it.
 #[cycle(expressions)]
+#[tactic(auto, using(crate::proofs::Typing::rules_of_parts))]
 fn adds(
     alloc: Global,
     model: &Names<'_>,
@@ -443,6 +466,7 @@ fn adds(
 
 /// Parts in their order.
 #[cycle(expressions)]
+#[tactic(auto, using(crate::proofs::Typing::rules_of_parts))]
 pub(crate) fn all_adds(
     alloc: Global,
     model: &Names<'_>,
@@ -460,7 +484,7 @@ pub(crate) fn all_adds(
 
 /// Keys and values in their order.
 #[cycle(expressions)]
-#[tactic(auto, using(crate::proofs::Forms::keyed_forms))]
+#[tactic(auto, using(crate::proofs::Forms::keyed_forms, crate::proofs::Typing::rules_of_pairs))]
 fn pairs(
     alloc: Global,
     model: &Names<'_>,
@@ -479,7 +503,7 @@ fn pairs(
 
 /// The set behind `in`: its expressions, and the type of its elements if it is one.
 #[cycle(expressions)]
-#[tactic(auto, using(crate::proofs::Forms::set_forms))]
+#[tactic(auto, using(crate::proofs::Forms::set_forms, crate::proofs::Typing::rules_of_sets))]
 fn set_of_member(
     alloc: Global,
     model: &Names<'_>,
@@ -503,7 +527,7 @@ fn set_of_member(
 
 /// The set that parameters or a dimension range over.
 #[cycle(expressions)]
-#[tactic(auto, using(crate::proofs::Forms::set_forms))]
+#[tactic(auto, using(crate::proofs::Forms::set_forms, crate::proofs::Typing::rules_of_sets))]
 pub(crate) fn set(
     alloc: Global,
     model: &Names<'_>,
@@ -553,7 +577,7 @@ fn described_set(
 }
 
 /// what an expression begins with
-#[tactic(auto, using(crate::proofs::Forms::prim_forms))]
+#[tactic(auto, using(crate::proofs::Forms::prim_forms, crate::proofs::Typing::rules_of_forms, crate::proofs::Typing::rules_of_parts))]
 #[cycle(expressions)]
 pub(crate) fn prim(
     alloc: Global,
@@ -627,6 +651,24 @@ fn or_anything(element: Option<Ty>) -> Ty
     }
 }
 
+/// The names of the patterns of a group.
+fn bind_patterns(
+    alloc: Global,
+    model: &Names<'_>,
+    locals: &mut Seq<Local>,
+    element: &Ty,
+    first: &PatternTree,
+    rest: &[PatternTree],
+) -> Result<(), TypeFault>
+    ensures { Gives (λ u. within model.now locals.new) (spec.bind_patterns (within model.now locals.old) (sort element.now) (first.now ∷ rest.now)) result }
+{
+    bind_pattern(alloc, model, locals, element, first)?;
+    for pattern in rest {
+        bind_pattern(alloc, model, locals, element, pattern)?;
+    }
+    Ok(())
+}
+
 /// The parameters of a group, added to those before.
 #[cycle(expressions)]
 #[tactic(auto, using(crate::proofs::Forms::group_forms))]
@@ -649,11 +691,37 @@ fn open_group(
     let Range { nodes, element } = over;
     let element = or_anything(element);
     append(&mut opened.kinds, kinds_in(alloc, nodes)?)?;
-    bind_pattern(alloc, model, &mut opened.locals, &element, &t.first)?;
-    for pattern in t.rest.as_slice() {
-        bind_pattern(alloc, model, &mut opened.locals, &element, pattern)?;
+    bind_patterns(
+        alloc,
+        model,
+        &mut opened.locals,
+        &element,
+        &t.first,
+        t.rest.as_slice(),
+    )
+}
+
+/// The parameters of several groups, inside those of `locals`.
+#[cycle(expressions)]
+#[tactic(auto, using(crate::proofs::Forms::group_step_forms))]
+fn open_groups(
+    alloc: Global,
+    model: &Names<'_>,
+    locals: &[Local],
+    first: &GroupTree,
+    rest: &[GroupStep],
+) -> Result<Opened, TypeFault>
+    ensures { Gives (opened_in model.now) (spec.open_groups (within model.now locals.now) (form.groups_of (form.form_group first.now ∷ map form.form_group_step rest.now))) result }
+{
+    let mut opened = Opened {
+        locals: copied(alloc, locals)?,
+        kinds: Seq::new(alloc),
+    };
+    open_group(alloc, model, &mut opened, first)?;
+    for step in rest {
+        open_group(alloc, model, &mut opened, &step.group)?;
     }
-    Ok(())
+    Ok(opened)
 }
 
 /// Parameters inside those of `locals`. Their condition meets the need.
@@ -668,14 +736,7 @@ pub(crate) fn open_params(
 ) -> Result<Opened, TypeFault>
     ensures { Gives (opened_in model.now) (spec.open_params (need_of need) (within model.now locals.now) (form.form_params t.now)) result }
 {
-    let mut opened = Opened {
-        locals: copied(alloc, locals)?,
-        kinds: Seq::new(alloc),
-    };
-    open_group(alloc, model, &mut opened, &t.first)?;
-    for step in t.rest.as_slice() {
-        open_group(alloc, model, &mut opened, &step.group)?;
-    }
+    let mut opened = open_groups(alloc, model, locals, &t.first, t.rest.as_slice())?;
     if let Some(condition) = &t.condition {
         let node = expr(alloc, model, opened.locals.as_slice(), condition.get())?;
         let is_taken = node.ty.is_truth();

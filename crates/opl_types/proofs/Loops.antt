@@ -1,0 +1,124 @@
+-- Parts that are typed one after the other.
+use Rattle.std.proofs.Common.{◌≡◌, ℕ, ◌+◌, ◌<◌, ◌≤◌, length, get_or, drop, List, [], ◌∷◌, ◌++◌, map, Result, Ok, Err, refl, ap, sym, ◌∙◌}
+use Rattle.std.proofs.lemmas.List.{at_drop_more, at_drop_all, append-nil}
+use Rattle.opl_types.specs.declared.fault.TypeFault.{TypeFault}
+use Rattle.opl_types.specs.declared.node.Node as nodes
+use Rattle.opl_types.specs.Scope.{Scope, Checked, and_then}
+use Rattle.opl_types.specs.Forms.{Form, Forms, Pair, Pairs, forms_of, pairs_of}
+use Rattle.opl_types.specs.Expressions.{Node, part, typing, typed_parts, typed_pairs}
+use Rattle.opl_types.specs.Values.{Gives, node_of}
+use Rattle.opl_types.proofs.Chains.{gives-fault, gives-same}
+use Rattle.opl_types.proofs.Typing.{no-parts, more-parts, no-cells, more-cells}
+
+-- nodes with others behind them
+abbrev pub behind_nodes : List nodes.Node → Checked (List Node) → Checked (List Node)
+behind_nodes found c = and_then c (λ ns. Ok (map node_of found ++ ns))
+
+-- one more in front of the others is one more behind those before
+joined : (before : List nodes.Node) (m : nodes.Node) (ns : List Node) → map node_of before ++ (node_of m ∷ ns) ≡ map node_of (before ++ m ∷ []) ++ ns
+joined [] m ns = refl
+joined (k ∷ ks) m ns = ap (λ rest. node_of k ∷ rest) (joined ks m ns)
+
+pushed : (before after : List nodes.Node) (m : nodes.Node) (c : Checked (List Node)) → after ≡ before ++ m ∷ [] →
+    behind_nodes before (and_then c (λ ns. Ok (node_of m ∷ ns))) ≡ behind_nodes after c
+pushed before after m (Err e) h = refl
+pushed before after m (Ok ns) h = ap (λ ms. Ok ms) (joined before m ns) ∙ ap (λ ms. Ok (map node_of ms ++ ns)) (sym h)
+
+pushed_two : (before between after : List nodes.Node) (m n : nodes.Node) (c : Checked (List Node)) → between ≡ before ++ m ∷ [] → after ≡ between ++ n ∷ [] →
+    behind_nodes before (and_then c (λ ns. Ok (node_of m ∷ node_of n ∷ ns))) ≡ behind_nodes after c
+pushed_two before between after m n (Err e) h g = refl
+pushed_two before between after m n (Ok ns) h g =
+    ap (λ ms. Ok ms) (joined before m (node_of n ∷ ns)) ∙ ap (λ ms. Ok (map node_of ms ++ (node_of n ∷ ns))) (sym h)
+    ∙ ap (λ ms. Ok ms) (joined between n ns) ∙ ap (λ ms. Ok (map node_of ms ++ ns)) (sym g)
+
+-- a part, where the expression itself has no fault
+typed_part : (sc : Scope) (f : Form) (n : nodes.Node) → typing sc f ≡ Ok (node_of n) → and_then (typing sc f) part ≡ part (node_of n)
+typed_part sc f n h = ap (λ c. and_then c part) h
+
+module _ {T : Type 0} (sc : Scope) (form : T → Form) (whole : Checked (List Node)) (xs : List T) (i : ℕ) (found : List nodes.Node)
+    (so_far : whole ≡ and_then (typed_parts sc (forms_of (map form (drop i xs)))) (λ ns. Ok (map node_of found ++ ns))) where
+  pub parts_end : length xs ≤ i → whole ≡ Ok (map node_of found)
+  parts_end all =
+      so_far ∙ ap (behind_nodes found) (at_drop_all (λ ys. typed_parts sc (forms_of (map form ys))) xs i all ∙ no-parts sc)
+      ∙ ap (λ ns. Ok ns) (append-nil (map node_of found))
+
+  parts_here : (x : T) → i < length xs → x ≡ get_or xs i x →
+      whole ≡ behind_nodes found (and_then (and_then (typing sc (form x)) part) (λ n. and_then (typed_parts sc (forms_of (map form (drop (i + 1) xs)))) (λ ns. Ok (n ∷ ns))))
+  parts_here x more here =
+      so_far ∙ ap (behind_nodes found)
+      (at_drop_more (λ ys. typed_parts sc (forms_of (map form ys))) xs i x more
+      ∙ ap (λ y. typed_parts sc (forms_of (map form (y ∷ drop (i + 1) xs)))) (sym here)
+      ∙ more-parts sc (form x) (forms_of (map form (drop (i + 1) xs))))
+
+  pub part_fault : (x : T) → i < length xs → x ≡ get_or xs i x → (e : TypeFault) → Gives node_of (typing sc (form x)) (Err e) → Gives (map node_of) whole (Err e)
+  part_fault x more here e h =
+      gives-same (map node_of) whole _ (Err e) (parts_here x more here)
+      (gives-fault (map node_of) (map node_of) _ _ e (gives-fault node_of (map node_of) _ _ e (gives-fault node_of node_of _ _ e h)))
+
+  pub part_wrong : (x : T) → i < length xs → x ≡ get_or xs i x → (n : nodes.Node) → typing sc (form x) ≡ Ok (node_of n) →
+      (e : TypeFault) → Gives node_of (part (node_of n)) (Err e) → Gives (map node_of) whole (Err e)
+  part_wrong x more here n t e h =
+      gives-same (map node_of) whole _ (Err e) (parts_here x more here)
+      (gives-fault (map node_of) (map node_of) _ _ e (gives-fault node_of (map node_of) _ _ e (gives-same node_of _ _ (Err e) (typed_part sc (form x) n t) h)))
+
+  pub part_added : (x : T) → i < length xs → x ≡ get_or xs i x → (n m : nodes.Node) → typing sc (form x) ≡ Ok (node_of n) → part (node_of n) ≡ Ok (node_of m) →
+      (more_found : List nodes.Node) → more_found ≡ found ++ m ∷ [] →
+      whole ≡ and_then (typed_parts sc (forms_of (map form (drop (i + 1) xs)))) (λ ns. Ok (map node_of more_found ++ ns))
+  part_added x more here n m t p more_found h =
+      parts_here x more here
+      ∙ ap (λ c. behind_nodes found (and_then c (λ k. and_then (typed_parts sc (forms_of (map form (drop (i + 1) xs)))) (λ ns. Ok (k ∷ ns))))) (typed_part sc (form x) n t ∙ p)
+      ∙ pushed found more_found m (typed_parts sc (forms_of (map form (drop (i + 1) xs)))) h
+
+module _ {T : Type 0} (sc : Scope) (form : T → Pair) (whole : Checked (List Node)) (xs : List T) (i : ℕ) (found : List nodes.Node)
+    (so_far : whole ≡ and_then (typed_pairs sc (pairs_of (map form (drop i xs)))) (λ ns. Ok (map node_of found ++ ns))) where
+  pub pairs_end : length xs ≤ i → whole ≡ Ok (map node_of found)
+  pairs_end all =
+      so_far ∙ ap (behind_nodes found) (at_drop_all (λ ys. typed_pairs sc (pairs_of (map form ys))) xs i all ∙ no-cells sc)
+      ∙ ap (λ ns. Ok ns) (append-nil (map node_of found))
+
+  -- the pair that stands next
+  module _ (x : T) (more : i < length xs) (here : x ≡ get_or xs i x) (key cell : Form) (is : form x ≡ record { key = key; cell = cell }) where
+    pair_here : whole ≡ behind_nodes found (and_then (and_then (typing sc key) part) (λ m. and_then (and_then (typing sc cell) part) (λ n. and_then (typed_pairs sc (pairs_of (map form (drop (i + 1) xs)))) (λ ns. Ok (m ∷ n ∷ ns)))))
+    pair_here =
+        so_far ∙ ap (behind_nodes found)
+        (at_drop_more (λ ys. typed_pairs sc (pairs_of (map form ys))) xs i x more
+        ∙ ap (λ y. typed_pairs sc (pairs_of (map form (y ∷ drop (i + 1) xs)))) (sym here)
+        ∙ more-cells sc (form x).key (form x).cell (pairs_of (map form (drop (i + 1) xs)))
+        ∙ ap (λ p. and_then (and_then (typing sc p.key) part) (λ m. and_then (and_then (typing sc p.cell) part) (λ n. and_then (typed_pairs sc (pairs_of (map form (drop (i + 1) xs)))) (λ ns. Ok (m ∷ n ∷ ns))))) is)
+
+    pub key_fault : (e : TypeFault) → Gives node_of (typing sc key) (Err e) → Gives (map node_of) whole (Err e)
+    key_fault e h =
+        gives-same (map node_of) whole _ (Err e) pair_here
+        (gives-fault (map node_of) (map node_of) _ _ e (gives-fault node_of (map node_of) _ _ e (gives-fault node_of node_of _ _ e h)))
+
+    pub key_wrong : (k : nodes.Node) → typing sc key ≡ Ok (node_of k) → (e : TypeFault) → Gives node_of (part (node_of k)) (Err e) → Gives (map node_of) whole (Err e)
+    key_wrong k t e h =
+        gives-same (map node_of) whole _ (Err e) pair_here
+        (gives-fault (map node_of) (map node_of) _ _ e (gives-fault node_of (map node_of) _ _ e (gives-same node_of _ _ (Err e) (typed_part sc key k t) h)))
+
+    cell_here : (k m : nodes.Node) → typing sc key ≡ Ok (node_of k) → part (node_of k) ≡ Ok (node_of m) →
+        whole ≡ behind_nodes found (and_then (and_then (typing sc cell) part) (λ n. and_then (typed_pairs sc (pairs_of (map form (drop (i + 1) xs)))) (λ ns. Ok (node_of m ∷ n ∷ ns))))
+    cell_here k m t p =
+        pair_here
+        ∙ ap (λ c. behind_nodes found (and_then c (λ m. and_then (and_then (typing sc cell) part) (λ n. and_then (typed_pairs sc (pairs_of (map form (drop (i + 1) xs)))) (λ ns. Ok (m ∷ n ∷ ns)))))) (typed_part sc key k t ∙ p)
+
+    pub cell_fault : (k m : nodes.Node) → typing sc key ≡ Ok (node_of k) → part (node_of k) ≡ Ok (node_of m) →
+        (e : TypeFault) → Gives node_of (typing sc cell) (Err e) → Gives (map node_of) whole (Err e)
+    cell_fault k m t p e h =
+        gives-same (map node_of) whole _ (Err e) (cell_here k m t p)
+        (gives-fault (map node_of) (map node_of) _ _ e (gives-fault node_of (map node_of) _ _ e (gives-fault node_of node_of _ _ e h)))
+
+    pub cell_wrong : (k m : nodes.Node) → typing sc key ≡ Ok (node_of k) → part (node_of k) ≡ Ok (node_of m) →
+        (l : nodes.Node) → typing sc cell ≡ Ok (node_of l) → (e : TypeFault) → Gives node_of (part (node_of l)) (Err e) → Gives (map node_of) whole (Err e)
+    cell_wrong k m t p l u e h =
+        gives-same (map node_of) whole _ (Err e) (cell_here k m t p)
+        (gives-fault (map node_of) (map node_of) _ _ e (gives-fault node_of (map node_of) _ _ e (gives-same node_of _ _ (Err e) (typed_part sc cell l u) h)))
+
+    pub pair_added : (k m : nodes.Node) → typing sc key ≡ Ok (node_of k) → part (node_of k) ≡ Ok (node_of m) →
+        (l n : nodes.Node) → typing sc cell ≡ Ok (node_of l) → part (node_of l) ≡ Ok (node_of n) →
+        (between after : List nodes.Node) → between ≡ found ++ m ∷ [] → after ≡ between ++ n ∷ [] →
+        whole ≡ and_then (typed_pairs sc (pairs_of (map form (drop (i + 1) xs)))) (λ ns. Ok (map node_of after ++ ns))
+    pair_added k m t p l n u q between after h g =
+        cell_here k m t p
+        ∙ ap (λ c. behind_nodes found (and_then c (λ n. and_then (typed_pairs sc (pairs_of (map form (drop (i + 1) xs)))) (λ ns. Ok (node_of m ∷ n ∷ ns))))) (typed_part sc cell l u ∙ q)
+        ∙ pushed_two found between after m n (typed_pairs sc (pairs_of (map form (drop (i + 1) xs)))) h g
