@@ -1,14 +1,15 @@
 -- Parts that are typed one after the other.
-use Rattle.std.proofs.Common.{◌≡◌, ℕ, ◌+◌, ◌<◌, ◌≤◌, length, get_or, drop, List, [], ◌∷◌, ◌++◌, map, Result, Ok, Err, refl, ap, sym, ◌∙◌}
+use Rattle.std.proofs.Common.{◌≡◌, ℕ, ◌+◌, ◌<◌, ◌≤◌, length, get_or, drop, List, [], ◌∷◌, ◌++◌, map, IsTrue, false, Result, Ok, Err, refl, ap, sym, ◌∙◌}
 use Rattle.std.proofs.lemmas.List.{at_drop_more, at_drop_all, append-nil}
+use Rattle.std.proofs.lemmas.Bool.{false≢true}
 use Rattle.opl_types.specs.declared.fault.TypeFault.{TypeFault}
 use Rattle.opl_types.specs.declared.node.Node as nodes
 use Rattle.opl_types.specs.Scope.{Scope, Checked, and_then}
-use Rattle.opl_types.specs.Forms.{Form, Forms, Pair, Pairs, forms_of, pairs_of}
+use Rattle.opl_types.specs.Forms.{Form, Forms, Pair, Pairs, chain, forms_of, pairs_of}
 use Rattle.opl_types.specs.Expressions.{Node, part, typing, typed_parts, typed_pairs}
 use Rattle.opl_types.specs.Values.{Gives, node_of}
 use Rattle.opl_types.proofs.Chains.{gives-fault, gives-same}
-use Rattle.opl_types.proofs.Typing.{no-parts, more-parts, no-cells, more-cells}
+use Rattle.opl_types.proofs.Typing.{no-parts, more-parts, no-cells, more-cells, chain_more}
 
 -- nodes with others behind them
 abbrev pub behind_nodes : List nodes.Node → Checked (List Node) → Checked (List Node)
@@ -122,3 +123,25 @@ module _ {T : Type 0} (sc : Scope) (form : T → Pair) (whole : Checked (List No
         cell_here k m t p
         ∙ ap (λ c. behind_nodes found (and_then c (λ n. and_then (typed_pairs sc (pairs_of (map form (drop (i + 1) xs)))) (λ ns. Ok (node_of m ∷ n ∷ ns))))) (typed_part sc cell l u ∙ q)
         ∙ pushed_two found between after m n (typed_pairs sc (pairs_of (map form (drop (i + 1) xs)))) h g
+
+none_left : {T : Type 0} (form : T → Form) (rest : List T) → (rest ≡ [] → IsTrue false) → map form rest ≡ [] → ⊥
+none_left form [] some e = absurd (false≢true (some refl))
+none_left form (x ∷ xs) some e = cc
+
+-- a chain, once the parts behind the first are known
+module _ {T : Type 0} (sc : Scope) (make : Forms → Form) (end : List Node → Node) (rule : (fs : Forms) → typing sc (make fs) ≡ and_then (typed_parts sc fs) (λ ns. Ok (end ns)))
+    (form : T → Form) (whole f : Form) (rest slice : List T) (is : whole ≡ chain make f (map form rest)) (same : slice ≡ rest) (some : rest ≡ [] → IsTrue false)
+    (n : nodes.Node) (typed : typing sc f ≡ Ok (node_of n)) where
+  chain_parts : typing sc whole ≡ and_then (and_then (part (node_of n)) (λ m. and_then (typed_parts sc (forms_of (map form slice))) (λ ns. Ok (m ∷ ns)))) (λ ns. Ok (end ns))
+  chain_parts =
+      ap (typing sc) is ∙ chain_more sc make end rule f (map form rest) (λ e. none_left form rest some e) (node_of n) typed
+      ∙ ap (λ xs. and_then (and_then (part (node_of n)) (λ m. and_then (typed_parts sc (forms_of (map form xs))) (λ ns. Ok (m ∷ ns)))) (λ ns. Ok (end ns))) (sym same)
+
+  pub chain_wrong : (e : TypeFault) → Gives (map node_of) (and_then (part (node_of n)) (λ m. and_then (typed_parts sc (forms_of (map form slice))) (λ ns. Ok (m ∷ ns)))) (Err e) →
+      Gives node_of (typing sc whole) (Err e)
+  chain_wrong e h = gives-same node_of (typing sc whole) _ (Err e) chain_parts (gives-fault (map node_of) node_of _ _ e h)
+
+  pub chain_made : (parts : List nodes.Node) → and_then (part (node_of n)) (λ m. and_then (typed_parts sc (forms_of (map form slice))) (λ ns. Ok (m ∷ ns))) ≡ Ok (map node_of parts) →
+      (result : Result nodes.Node TypeFault) → Gives node_of (Ok (end (map node_of parts))) result → Gives node_of (typing sc whole) result
+  chain_made parts h result g =
+      gives-same node_of (typing sc whole) _ result (chain_parts ∙ ap (λ c. and_then c (λ ns. Ok (end ns))) h) g

@@ -119,13 +119,13 @@ module _ (sc : Scope) where
 
 -- a chain of one operand is that operand; in a chain of several each is a part
 module _ (sc : Scope) (make : Forms → Form) (end : List Node → Node) (rule : (fs : Forms) → typing sc (make fs) ≡ and_then (typed_parts sc fs) (λ ns. Ok (end ns))) where
-  chain_fault : (f : Form) (fs : List Form) (e : TypeFault) → Gives node_of (typing sc f) (Err e) → Gives node_of (typing sc (chain make f fs)) (Err e)
+  pub chain_fault : (f : Form) (fs : List Form) (e : TypeFault) → Gives node_of (typing sc f) (Err e) → Gives node_of (typing sc (chain make f fs)) (Err e)
   chain_fault f [] e h = h
   chain_fault f (g ∷ gs) e h =
       gives-same node_of _ _ (Err e) (rule (forms_of (f ∷ g ∷ gs)) ∙ ap (λ c. and_then c (λ ns. Ok (end ns))) (more-parts sc f (forms_of (g ∷ gs))))
       (gives-fault (map node_of) node_of _ _ e (gives-fault node_of (map node_of) _ _ e (gives-fault node_of node_of _ _ e h)))
 
-  chain_more : (f : Form) (fs : List Form) → (fs ≡ [] → ⊥) → (n : Node) → typing sc f ≡ Ok n →
+  pub chain_more : (f : Form) (fs : List Form) → (fs ≡ [] → ⊥) → (n : Node) → typing sc f ≡ Ok n →
       typing sc (chain make f fs) ≡ and_then (and_then (part n) (λ m. and_then (typed_parts sc (forms_of fs)) (λ ns. Ok (m ∷ ns)))) (λ ns. Ok (end ns))
   chain_more f [] some n t = absurd (some refl)
   chain_more f (g ∷ gs) some n t =
