@@ -2,8 +2,11 @@ pub mod Chains
 pub mod Examples
 pub mod Forms
 pub mod Inside
+pub mod Joins
 pub mod Likeness
 pub mod Lookup
+pub mod Loops
+pub mod Patterns
 pub mod Sorts
 pub mod Steps
 pub mod Typing
