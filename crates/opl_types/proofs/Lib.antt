@@ -6,6 +6,7 @@ pub mod Joins
 pub mod Likeness
 pub mod Lookup
 pub mod Loops
+pub mod Opening
 pub mod Patterns
 pub mod Sorts
 pub mod Steps

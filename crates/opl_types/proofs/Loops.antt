@@ -8,8 +8,8 @@ use Rattle.opl_types.specs.Scope.{Scope, Checked, and_then}
 use Rattle.opl_types.specs.Forms.{Form, Forms, Pair, Pairs, chain, forms_of, pairs_of}
 use Rattle.opl_types.specs.Expressions.{Node, part, typing, typed_parts, typed_pairs}
 use Rattle.opl_types.specs.Values.{Gives, node_of}
-use Rattle.opl_types.proofs.Chains.{gives-fault, gives-same}
-use Rattle.opl_types.proofs.Typing.{no-parts, more-parts, no-cells, more-cells, chain_more}
+use Rattle.opl_types.proofs.Chains.{after, alike-after, gives-fault, gives-same}
+use Rattle.opl_types.proofs.Typing.{no-parts, more-parts, no-cells, more-cells, parts-append, moved, chain_more}
 
 -- nodes with others behind them
 abbrev pub behind_nodes : List nodes.Node → Checked (List Node) → Checked (List Node)
@@ -124,24 +124,84 @@ module _ {T : Type 0} (sc : Scope) (form : T → Pair) (whole : Checked (List No
         ∙ ap (λ c. behind_nodes found (and_then c (λ n. and_then (typed_pairs sc (pairs_of (map form (drop (i + 1) xs)))) (λ ns. Ok (node_of m ∷ n ∷ ns))))) (typed_part sc cell l u ∙ q)
         ∙ pushed_two found between after m n (typed_pairs sc (pairs_of (map form (drop (i + 1) xs)))) h g
 
-none_left : {T : Type 0} (form : T → Form) (rest : List T) → (rest ≡ [] → IsTrue false) → map form rest ≡ [] → ⊥
-none_left form [] some e = absurd (false≢true (some refl))
+pub none_left : {T : Type 0} (form : T → Form) (rest : List T) → (rest ≡ [] → IsTrue false) → map form rest ≡ [] → IsTrue false
+none_left form [] some e = some refl
 none_left form (x ∷ xs) some e = cc
 
 -- a chain, once the parts behind the first are known
-module _ {T : Type 0} (sc : Scope) (make : Forms → Form) (end : List Node → Node) (rule : (fs : Forms) → typing sc (make fs) ≡ and_then (typed_parts sc fs) (λ ns. Ok (end ns)))
-    (form : T → Form) (whole f : Form) (rest slice : List T) (is : whole ≡ chain make f (map form rest)) (same : slice ≡ rest) (some : rest ≡ [] → IsTrue false)
+module _ (sc : Scope) (make : Forms → Form) (end : List Node → Node) (rule : (fs : Forms) → typing sc (make fs) ≡ and_then (typed_parts sc fs) (λ ns. Ok (end ns)))
+    (whole f : Form) (fs gs : List Form) (is : whole ≡ chain make f fs) (same : gs ≡ fs) (some : fs ≡ [] → IsTrue false)
     (n : nodes.Node) (typed : typing sc f ≡ Ok (node_of n)) where
-  chain_parts : typing sc whole ≡ and_then (and_then (part (node_of n)) (λ m. and_then (typed_parts sc (forms_of (map form slice))) (λ ns. Ok (m ∷ ns)))) (λ ns. Ok (end ns))
+  chain_parts : typing sc whole ≡ and_then (and_then (part (node_of n)) (λ m. and_then (typed_parts sc (forms_of gs)) (λ ns. Ok (m ∷ ns)))) (λ ns. Ok (end ns))
   chain_parts =
-      ap (typing sc) is ∙ chain_more sc make end rule f (map form rest) (λ e. none_left form rest some e) (node_of n) typed
-      ∙ ap (λ xs. and_then (and_then (part (node_of n)) (λ m. and_then (typed_parts sc (forms_of (map form xs))) (λ ns. Ok (m ∷ ns)))) (λ ns. Ok (end ns))) (sym same)
+      ap (typing sc) is ∙ chain_more sc make end rule f fs (λ e. false≢true (some e)) (node_of n) typed
+      ∙ ap (λ hs. and_then (and_then (part (node_of n)) (λ m. and_then (typed_parts sc (forms_of hs)) (λ ns. Ok (m ∷ ns)))) (λ ns. Ok (end ns))) (sym same)
 
-  pub chain_wrong : (e : TypeFault) → Gives (map node_of) (and_then (part (node_of n)) (λ m. and_then (typed_parts sc (forms_of (map form slice))) (λ ns. Ok (m ∷ ns)))) (Err e) →
+  pub chain_wrong : (e : TypeFault) → Gives (map node_of) (and_then (part (node_of n)) (λ m. and_then (typed_parts sc (forms_of gs)) (λ ns. Ok (m ∷ ns)))) (Err e) →
       Gives node_of (typing sc whole) (Err e)
   chain_wrong e h = gives-same node_of (typing sc whole) _ (Err e) chain_parts (gives-fault (map node_of) node_of _ _ e h)
 
-  pub chain_made : (parts : List nodes.Node) → and_then (part (node_of n)) (λ m. and_then (typed_parts sc (forms_of (map form slice))) (λ ns. Ok (m ∷ ns))) ≡ Ok (map node_of parts) →
+  pub chain_made : (parts : List nodes.Node) → and_then (part (node_of n)) (λ m. and_then (typed_parts sc (forms_of gs)) (λ ns. Ok (m ∷ ns))) ≡ Ok (map node_of parts) →
       (result : Result nodes.Node TypeFault) → Gives node_of (Ok (end (map node_of parts))) result → Gives node_of (typing sc whole) result
   chain_made parts h result g =
       gives-same node_of (typing sc whole) _ result (chain_parts ∙ ap (λ c. and_then c (λ ns. Ok (end ns))) h) g
+
+-- a first part and others, which have no name of their own
+module _ {T : Type 0} (sc : Scope) (form : T → Form) (whole : List Form) (f : Form) (rest slice : List T) (is : whole ≡ f ∷ map form rest) where
+  pub first_fault : (e : TypeFault) → Gives node_of (typing sc f) (Err e) → Gives (map node_of) (typed_parts sc (forms_of whole)) (Err e)
+  first_fault e h =
+      gives-same (map node_of) (typed_parts sc (forms_of whole)) _ (Err e) (ap (λ fs. typed_parts sc (forms_of fs)) is ∙ more-parts sc f (forms_of (map form rest)))
+      (gives-fault node_of (map node_of) _ _ e (gives-fault node_of node_of _ _ e h))
+
+  pub first_typed : slice ≡ rest → (n : nodes.Node) → typing sc f ≡ Ok (node_of n) →
+      typed_parts sc (forms_of whole) ≡ and_then (part (node_of n)) (λ m. and_then (typed_parts sc (forms_of (map form slice))) (λ ns. Ok (m ∷ ns)))
+  first_typed same n t =
+      ap (λ fs. typed_parts sc (forms_of fs)) is ∙ more-parts sc f (forms_of (map form rest))
+      ∙ ap (λ c. and_then c (λ m. and_then (typed_parts sc (forms_of (map form rest))) (λ ns. Ok (m ∷ ns)))) (typed_part sc f n t)
+      ∙ ap (λ xs. and_then (part (node_of n)) (λ m. and_then (typed_parts sc (forms_of (map form xs))) (λ ns. Ok (m ∷ ns)))) (sym same)
+
+-- parts with others behind them
+module _ (sc : Scope) (c : Checked Node) (fs gs : List Form) where
+  both_parts : and_then c (λ n. and_then (typed_parts sc (forms_of (fs ++ gs))) (λ ns. Ok (n ∷ ns)))
+      ≡ and_then (and_then c (λ n. and_then (typed_parts sc (forms_of fs)) (λ ns. Ok (n ∷ ns)))) (λ ms. and_then (typed_parts sc (forms_of gs)) (λ ns. Ok (ms ++ ns)))
+  both_parts =
+      alike-after c _ _ (λ n.
+          ap (λ d. and_then d (λ ns. Ok (n ∷ ns))) (parts-append sc fs gs)
+          ∙ moved (typed_parts sc (forms_of fs)) (typed_parts sc (forms_of gs)) n)
+      ∙ sym (after c (λ n. and_then (typed_parts sc (forms_of fs)) (λ ns. Ok (n ∷ ns))) (λ ms. and_then (typed_parts sc (forms_of gs)) (λ ns. Ok (ms ++ ns))))
+
+  pub front_fault : (e : TypeFault) → Gives (map node_of) (and_then c (λ n. and_then (typed_parts sc (forms_of fs)) (λ ns. Ok (n ∷ ns)))) (Err e) →
+      Gives (map node_of) (and_then c (λ n. and_then (typed_parts sc (forms_of (fs ++ gs))) (λ ns. Ok (n ∷ ns)))) (Err e)
+  front_fault e h = gives-same (map node_of) _ _ (Err e) both_parts (gives-fault (map node_of) (map node_of) _ _ e h)
+
+  pub front_typed : (parts : List nodes.Node) → and_then c (λ n. and_then (typed_parts sc (forms_of fs)) (λ ns. Ok (n ∷ ns))) ≡ Ok (map node_of parts) →
+      and_then c (λ n. and_then (typed_parts sc (forms_of (fs ++ gs))) (λ ns. Ok (n ∷ ns))) ≡ and_then (typed_parts sc (forms_of gs)) (λ ns. Ok (map node_of parts ++ ns))
+  front_typed parts h = both_parts ∙ ap (λ d. and_then d (λ ms. and_then (typed_parts sc (forms_of gs)) (λ ns. Ok (ms ++ ns)))) h
+
+-- one part is left
+module _ (sc : Scope) (whole : Checked (List Node)) (parts : List nodes.Node) (f : Form) (so_far : whole ≡ and_then (typed_parts sc (forms_of (f ∷ []))) (λ ns. Ok (map node_of parts ++ ns))) where
+  last_here : whole ≡ behind_nodes parts (and_then (and_then (typing sc f) part) (λ n. and_then (typed_parts sc (forms_of [])) (λ ns. Ok (n ∷ ns))))
+  last_here = so_far ∙ ap (behind_nodes parts) (more-parts sc f (forms_of []))
+
+  pub last_fault : (e : TypeFault) → Gives node_of (typing sc f) (Err e) → Gives (map node_of) whole (Err e)
+  last_fault e h =
+      gives-same (map node_of) whole _ (Err e) last_here
+      (gives-fault (map node_of) (map node_of) _ _ e (gives-fault node_of (map node_of) _ _ e (gives-fault node_of node_of _ _ e h)))
+
+  pub last_wrong : (n : nodes.Node) → typing sc f ≡ Ok (node_of n) → (e : TypeFault) → Gives node_of (part (node_of n)) (Err e) → Gives (map node_of) whole (Err e)
+  last_wrong n t e h =
+      gives-same (map node_of) whole _ (Err e) last_here
+      (gives-fault (map node_of) (map node_of) _ _ e (gives-fault node_of (map node_of) _ _ e (gives-same node_of _ _ (Err e) (typed_part sc f n t) h)))
+
+  pub last_added : (n m : nodes.Node) → typing sc f ≡ Ok (node_of n) → part (node_of n) ≡ Ok (node_of m) →
+      (more_parts : List nodes.Node) → more_parts ≡ parts ++ m ∷ [] → whole ≡ Ok (map node_of more_parts)
+  last_added n m t p more_parts h =
+      last_here
+      ∙ ap (λ c. behind_nodes parts (and_then c (λ k. and_then (typed_parts sc (forms_of [])) (λ ns. Ok (k ∷ ns))))) (typed_part sc f n t ∙ p)
+      ∙ pushed parts more_parts m (typed_parts sc (forms_of [])) h
+      ∙ ap (behind_nodes more_parts) (no-parts sc)
+      ∙ ap (λ ns. Ok ns) (append-nil (map node_of more_parts))
+
+-- no part is left
+pub none_behind : (sc : Scope) (whole : Checked (List Node)) (parts : List nodes.Node) → whole ≡ and_then (typed_parts sc (forms_of [])) (λ ns. Ok (map node_of parts ++ ns)) → whole ≡ Ok (map node_of parts)
+none_behind sc whole parts so_far = so_far ∙ ap (behind_nodes parts) (no-parts sc) ∙ ap (λ ns. Ok ns) (append-nil (map node_of parts))

@@ -1,5 +1,7 @@
 -- The rule of each form, inside a model's names.
 use Rattle.std.proofs.Common.{◌≡◌, ℕ, Bool, true, false, ◌&&◌, List, [], ◌∷◌, ◌++◌, map, Option, Some, None, Ok, Err, is_some, Result, refl, ap, sym, ◌∙◌}
+use Rattle.opl_tree.specs.declared.expression.CallOp.{CallOp}
+use Rattle.opl_tree.specs.declared.expression.CallOp.TheVariants as calls
 use Rattle.opl_tree.specs.declared.expression.NameTree.{NameTree}
 use Rattle.opl_tree.specs.declared.expression.QuestionOp.{QuestionOp}
 use Rattle.opl_tree.specs.declared.expression.Relation.{Relation}
@@ -9,19 +11,20 @@ use Rattle.opl_types.specs.declared.names.Names.{Names}
 use Rattle.opl_types.specs.Types.{Sort, sorts_of, elements, is_number, is_truth, is_set, is_storable, is_array_of_single}
 use Rattle.opl_types.specs.Types.Sort.{int, bool, row, set, anything}
 use Rattle.opl_types.specs.Scope.{Scope, Checked, and_then, lookup}
-use Rattle.opl_types.specs.Forms.{Form, Forms, Pairs, SetForm, Params, chain, forms_of, pairs_of}
+use Rattle.opl_types.specs.Forms.{Form, Forms, Pairs, SetForm, Params, chain, call, forms_of, pairs_of}
 use Rattle.opl_types.specs.Forms.Form.{number, named, bracket, negative, arithmetic, absolute, related, member, connected, aggregate, cardinality, all_different, subscripted, field, tuple, listed, described, cells, keyed_cells, question}
 use Rattle.opl_types.specs.Forms.Forms.{no_forms, more_forms}
 use Rattle.opl_types.specs.Forms.Pairs.{no_pairs, more_pairs}
 use Rattle.opl_types.specs.Forms.SetForm.{whole, between}
 use Rattle.opl_types.specs.Expressions.{Node, Need, Range, Opened, node, made, of_data, kinds, part, used, data_number, any_type, all_sorts, name_node, bracketed, are_related, is_member, element_type, set_type, question_node, scope_within, typing, typed_parts, typed_pairs, typed_set, open_params}
 use Rattle.opl_types.specs.Expressions.Need.{nothing, data_alone}
+use Rattle.opl_types.specs.Steps.{called}
 use Rattle.opl_types.specs.Values.{Gives, node_of, within, scope_of}
 use Rattle.opl_types.proofs.Chains.{after, alike-after, alone, gives-fault, gives-same}
 use Rattle.opl_types.proofs.Inside.{alike-within}
 use Rattle.opl_types.proofs.Likeness.{related-alike, member-alike, elements-alike, question-alike}
 
-moved : (p q : Checked (List Node)) (n : Node) → and_then (and_then p (λ ms. and_then q (λ ns. Ok (ms ++ ns)))) (λ ns. Ok (n ∷ ns)) ≡ and_then (and_then p (λ ns. Ok (n ∷ ns))) (λ ms. and_then q (λ ns. Ok (ms ++ ns)))
+pub moved : (p q : Checked (List Node)) (n : Node) → and_then (and_then p (λ ms. and_then q (λ ns. Ok (ms ++ ns)))) (λ ns. Ok (n ∷ ns)) ≡ and_then (and_then p (λ ns. Ok (n ∷ ns))) (λ ms. and_then q (λ ns. Ok (ms ++ ns)))
 moved (Ok a) (Ok b) n = refl
 moved (Ok a) (Err e) n = refl
 moved (Err e) q n = refl
@@ -62,6 +65,11 @@ module _ (sc : Scope) where
   pub typing-cardinality : (at : ℕ) (f : Form) → typing sc (cardinality at f) ≡ and_then (and_then (typing sc f) part) (λ n. Ok (made at int (n ∷ []) (is_set n.sort)))
   unfolding typing
   typing-cardinality at f = refl
+
+  pub typing-call : (op : CallOp) (at : ℕ) (f : Form) → typing sc (call op at f) ≡ and_then (and_then (typing sc f) part) (λ n. Ok (called op at n))
+  unfolding typing
+  typing-call calls.Absolute at f = refl
+  typing-call calls.Cardinality at f = refl
 
   pub typing-all_different : (at : ℕ) (f : Form) → typing sc (all_different at f) ≡ and_then (and_then (typing sc f) part) (λ n. Ok (made at bool (n ∷ []) (is_array_of_single n.sort)))
   unfolding typing
@@ -149,7 +157,7 @@ module _ (n : Names) (ls : List Local) where
   unfolding typing
   typing-question at op f = λ i. and_then (and_then (typing (within n ls) f) part) (λ a. Ok (question-alike (within n ls) (scope_of n) (alike-within n ls) at op a i))
 
-pub ruleset rules_of_forms = (typing-number, typing-named, typing-bracket, typing-negative, typing-arithmetic, typing-absolute, typing-connected, typing-aggregate, typing-cardinality, typing-all_different, typing-tuple, typing-described, typing-cells, typing-keyed_cells, typing-related, typing-member, typing-listed, typing-question)
+pub ruleset rules_of_forms = (typing-number, typing-named, typing-bracket, typing-negative, typing-arithmetic, typing-absolute, typing-connected, typing-aggregate, typing-cardinality, typing-call, typing-all_different, typing-tuple, typing-described, typing-cells, typing-keyed_cells, typing-related, typing-member, typing-listed, typing-question)
 
 pub ruleset rules_of_parts = (no-parts, more-parts)
 

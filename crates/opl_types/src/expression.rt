@@ -1,14 +1,16 @@
 //! The types of expressions.
-ghost use Rattle.std.specs.Prelude.{◌≡◌, ◌∷◌, ◌++◌, Ok, map};
+ghost use Rattle.std.specs.Prelude.{◌≡◌, ◌↔◌, ◌∷◌, ◌++◌, [], IsTrue, Err, Ok, map};
 ghost use Rattle.std.specs.Option.{option_map};
 ghost use Rattle.opl_types.specs.Expressions as spec;
 ghost use Rattle.opl_types.specs.Forms.{forms_of, pairs_of};
 ghost use Rattle.opl_types.specs.Forms as form;
 ghost use Rattle.opl_types.specs.Expressions.Need.{nothing, data_alone};
 ghost use Rattle.opl_types.specs.Forms.Form.{described};
-ghost use Rattle.opl_types.specs.Scope.{and_then};
+ghost use Rattle.opl_types.specs.Scope.{and_then, with_values};
 ghost use Rattle.opl_types.specs.Steps as step;
 ghost use Rattle.opl_types.specs.Types.{is_set, sort};
+ghost use Rattle.opl_types.specs.Types.Sort.{anything};
+ghost use Rattle.opl_types.specs.declared.fault.TypeFault.TheVariants.{OutOfMemory};
 ghost use Rattle.opl_types.specs.Values.{Gives, need_of, node_of, opened_in, range_of, within};
 
 use crate::fault::TypeFault;
@@ -282,12 +284,22 @@ pub(crate) fn mul(
         MulTree::Opened(inner) => open(alloc, model, locals, inner),
         MulTree::Product(at, first, steps, last) => {
             let first = sign(alloc, model, locals, first)?;
-            if steps.is_empty() && last.is_none() {
+            if is_alone(steps.as_slice(), last) {
                 return Ok(first);
             }
             let parts = factors(alloc, model, locals, first, steps.as_slice(), last)?;
             arithmetic(alloc, *at, parts)
         }
+    }
+}
+
+/// Whether no factor stands behind the first.
+fn is_alone(steps: &[MulStep], last: &Option<LastStep>) -> bool
+    ensures { IsTrue result ↔ (map form.form_mul_step steps.now ++ form.or_none (option_map form.form_last_step last.now) ≡ []) }
+{
+    match last {
+        None => steps.is_empty(),
+        Some(_) => false,
     }
 }
 
@@ -305,10 +317,13 @@ fn factors(
     ensures { Gives (map node_of) (and_then (spec.part (node_of first)) (λ n. and_then (spec.typed_parts (within model.now locals.now) (forms_of (map form.form_mul_step steps.now ++ form.or_none (option_map form.form_last_step last.now)))) (λ ns. Ok (n ∷ ns)))) result }
 {
     let mut parts = mul_steps(alloc, model, locals, first, steps)?;
-    if let Some(last) = last {
-        parts.push(open(alloc, model, locals, &last.factor)?.part()?)?;
+    match last {
+        None => Ok(parts),
+        Some(last) => {
+            parts.push(open(alloc, model, locals, &last.factor)?.part()?)?;
+            Ok(parts)
+        }
     }
-    Ok(parts)
 }
 
 /// The first part, and the others behind it.
@@ -550,7 +565,37 @@ pub(crate) fn set(
     }
 }
 
-/// `{e | p}`: a fault of `e` comes before one of `p`, so where `p` has one its names may be anything.
+/// Whether it is memory that failed.
+fn is_memory(fault: &TypeFault) -> bool
+    ensures { IsTrue result ↔ (fault.now ≡ OutOfMemory) }
+{
+    match fault {
+        TypeFault::OutOfMemory => true,
+        TypeFault::Unknown(_)
+        | TypeFault::Duplicate(_)
+        | TypeFault::Mismatch(_)
+        | TypeFault::NotData(_) => false,
+    }
+}
+
+/// `{e | p}` where `p` has a fault: one of `e` comes before it, for which the names of `p` may be anything.
+#[cycle(expressions)]
+fn wrongly_described(
+    alloc: Global,
+    model: &Names<'_>,
+    locals: &[Local],
+    value: &AddTree,
+    params: &ParamsTree,
+    fault: TypeFault,
+) -> Result<Node, TypeFault>
+    ensures { Gives node_of (and_then (and_then (spec.typing (with_values (spec.names_of_params (form.form_params params.now)) (map (λ n. anything) (spec.names_of_params (form.form_params params.now))) (within model.now locals.now)) (form.form_add value.now)) spec.part) (λ n. Err fault)) result }
+{
+    let unknown = unknown_params(alloc, model, locals, params)?;
+    add(alloc, model, unknown.as_slice(), value)?.part()?;
+    Err(fault)
+}
+
+/// `{e | p}`
 #[cycle(expressions)]
 fn described_set(
     alloc: Global,
@@ -567,12 +612,22 @@ fn described_set(
             let value = add(alloc, model, opened.locals.as_slice(), value)?.part()?;
             described(alloc, at, value, opened.kinds)
         }
-        Err(TypeFault::OutOfMemory) => Err(TypeFault::OutOfMemory),
         Err(fault) => {
-            let unknown = unknown_params(alloc, model, locals, params)?;
-            add(alloc, model, unknown.as_slice(), value)?.part()?;
-            Err(fault)
+            if is_memory(&fault) {
+                return Err(fault);
+            }
+            wrongly_described(alloc, model, locals, value, params, fault)
         }
+    }
+}
+
+/// `abs(a)` and `card(S)`
+fn called(alloc: Global, at: u32, op: CallOp, argument: Node) -> Result<Node, TypeFault>
+    ensures { Gives node_of (Ok (step.called op at (node_of argument))) result }
+{
+    match op {
+        CallOp::Absolute => number_of(alloc, at, argument),
+        CallOp::Cardinality => size_of(alloc, at, argument),
     }
 }
 
@@ -614,13 +669,9 @@ pub(crate) fn prim(
             let parts = pairs(alloc, model, locals, elements.as_slice())?;
             misplaced(alloc, *at, parts)
         }
-        PrimTree::Call(at, CallOp::Absolute, argument) => {
+        PrimTree::Call(at, op, argument) => {
             let argument = expr(alloc, model, locals, argument.get())?.part()?;
-            number_of(alloc, *at, argument)
-        }
-        PrimTree::Call(at, CallOp::Cardinality, argument) => {
-            let argument = expr(alloc, model, locals, argument.get())?.part()?;
-            size_of(alloc, *at, argument)
+            called(alloc, *at, *op, argument)
         }
         PrimTree::AllDifferent(at, argument) => {
             let argument = add(alloc, model, locals, argument.get())?.part()?;
@@ -698,7 +749,8 @@ fn open_group(
         &element,
         &t.first,
         t.rest.as_slice(),
-    )
+    )?;
+    Ok(())
 }
 
 /// The parameters of several groups, inside those of `locals`.
@@ -737,10 +789,13 @@ pub(crate) fn open_params(
     ensures { Gives (opened_in model.now) (spec.open_params (need_of need) (within model.now locals.now) (form.form_params t.now)) result }
 {
     let mut opened = open_groups(alloc, model, locals, &t.first, t.rest.as_slice())?;
-    if let Some(condition) = &t.condition {
-        let node = expr(alloc, model, opened.locals.as_slice(), condition.get())?;
-        let is_taken = node.ty.is_truth();
-        add_kinds(&mut opened.kinds, node.settled(need, is_taken)?)?;
+    match &t.condition {
+        None => Ok(opened),
+        Some(condition) => {
+            let node = expr(alloc, model, opened.locals.as_slice(), condition.get())?;
+            let is_taken = node.ty.is_truth();
+            add_kinds(&mut opened.kinds, node.settled(need, is_taken)?)?;
+            Ok(opened)
+        }
     }
-    Ok(opened)
 }
