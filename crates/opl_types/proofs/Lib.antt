@@ -1,8 +1,14 @@
+pub mod Chains
 pub mod Examples
 pub mod Forms
-pub mod Lookup
-pub mod Sorts
-pub mod Steps
+pub mod Inside
 pub mod Joins
+pub mod Likeness
+pub mod Lookup
+pub mod Loops
+pub mod Opening
 pub mod Patterns
 pub mod Places
+pub mod Sorts
+pub mod Steps
+pub mod Typing

@@ -1,9 +1,11 @@
 -- The rules as the program goes through them, one part after the other. The laws between these and the rules stand in proofs.
 use Rattle.std.specs.Prelude.{ℕ, Bool, true, false, List, [], ◌∷◌, ◌++◌, map, Option, Some, Ok}
 use Rattle.std.specs.List.{flat_map}
+use Rattle.opl_tree.specs.declared.expression.CallOp.{CallOp}
+use Rattle.opl_tree.specs.declared.expression.CallOp.TheVariants as calls
 use Rattle.opl_tree.specs.declared.expression.NameTree.{NameTree}
 use Rattle.opl_types.specs.declared.fault.TypeFault.TheVariants.{Unknown}
-use Rattle.opl_types.specs.Types.{Sort, Sorts, is_set, both}
+use Rattle.opl_types.specs.Types.{Sort, Sorts, is_number, is_set, both}
 use Rattle.opl_types.specs.Types.Sort.{int, anything}
 use Rattle.opl_types.specs.Scope.{Checked, ◌>>=◌, ◌>>◌, unless, Scope, declared, fresh, all_fresh, with_values}
 use Rattle.opl_types.specs.Scope.Thing.{value}
@@ -11,6 +13,11 @@ use Rattle.opl_types.specs.Forms.{Suffix, Group, forms_of}
 use Rattle.opl_types.specs.Forms.Suffix.{subscripts, field_of}
 use Rattle.opl_types.specs.Expressions.{Node, Opened, part, made, is_time, is_start_or_duration, kinds_in, element_node, field_node, typed_parts, typed_set, pattern_names, bind_patterns, or_anything}
 use Rattle.opl_types.specs.Expressions.Need.{data_alone}
+
+-- a function of one expression
+abbrev pub called : CallOp → ℕ → Node → Node
+called calls.Absolute at n = made at int (n ∷ []) (is_number n.sort)
+called calls.Cardinality at n = made at int (n ∷ []) (is_set n.sort)
 
 -- an expression with subscripts, or a field, behind it, and with several of them
 abbrev pub suffix_node : Scope → ℕ → Node → Suffix → Checked Node

@@ -1,13 +1,16 @@
 //! The types of expressions.
-ghost use Rattle.std.specs.Prelude.{◌≡◌, ◌∷◌, Ok, map};
+ghost use Rattle.std.specs.Prelude.{◌≡◌, ◌↔◌, ◌∷◌, ◌++◌, [], IsTrue, Err, Ok, map};
+ghost use Rattle.std.specs.Option.{option_map};
 ghost use Rattle.opl_types.specs.Expressions as spec;
 ghost use Rattle.opl_types.specs.Forms.{forms_of, pairs_of};
 ghost use Rattle.opl_types.specs.Forms as form;
-ghost use Rattle.opl_types.specs.Expressions.Need as need;
+ghost use Rattle.opl_types.specs.Expressions.Need.{nothing, data_alone};
 ghost use Rattle.opl_types.specs.Forms.Form.{described};
-ghost use Rattle.opl_types.specs.Scope.{and_then};
+ghost use Rattle.opl_types.specs.Scope.{and_then, with_values};
 ghost use Rattle.opl_types.specs.Steps as step;
-ghost use Rattle.opl_types.specs.Types.{is_set};
+ghost use Rattle.opl_types.specs.Types.{is_set, sort};
+ghost use Rattle.opl_types.specs.Types.Sort.{anything};
+ghost use Rattle.opl_types.specs.declared.fault.TypeFault.TheVariants.{OutOfMemory};
 ghost use Rattle.opl_types.specs.Values.{Gives, need_of, node_of, opened_in, range_of, within};
 
 use crate::fault::TypeFault;
@@ -22,14 +25,14 @@ use crate::rules::{
 };
 use opl_list::Seq;
 use opl_tree::{
-    AddStep, AddTree, AndTree, CallOp, CompareTree, ExprTree, GroupTree, ImpTree, KeyedTree,
-    MulStep, MulTree, NegTree, OpenTree, OrTree, ParamsTree, PostTree, PrimTree, SetTree, SignTree,
-    SubscriptsTree, SuffixTree,
+    AddStep, AddTree, AndTree, CallOp, CompareTree, ExprTree, GroupStep, GroupTree, ImpTree,
+    KeyedTree, LastStep, MulStep, MulTree, NegTree, OpenTree, OrTree, ParamsTree, PatternTree,
+    PostTree, PrimTree, SetTree, SignTree, SubscriptsTree, SuffixTree,
 };
 use std::alloc::Global;
 
 /// `a <=> b <=> ..`
-#[tactic(auto, using(crate::proofs::Forms::expr_forms))]
+#[tactic(auto, using(crate::proofs::Forms::expr_forms, crate::proofs::Typing::rules_of_forms, crate::proofs::Typing::rules_of_parts))]
 #[cycle(expressions)]
 pub(crate) fn expr(
     alloc: Global,
@@ -49,6 +52,7 @@ pub(crate) fn expr(
 
 /// The first part, and the others behind it.
 #[cycle(expressions)]
+#[tactic(auto, using(crate::proofs::Typing::rules_of_parts))]
 fn imps(
     alloc: Global,
     model: &Names<'_>,
@@ -67,7 +71,7 @@ fn imps(
 }
 
 /// `a => b`
-#[tactic(auto, using(crate::proofs::Forms::imp_forms))]
+#[tactic(auto, using(crate::proofs::Forms::imp_forms, crate::proofs::Typing::rules_of_forms, crate::proofs::Typing::rules_of_parts))]
 #[cycle(expressions)]
 pub(crate) fn imp(
     alloc: Global,
@@ -89,7 +93,7 @@ pub(crate) fn imp(
 }
 
 /// `a \/ b \/ ..`
-#[tactic(auto, using(crate::proofs::Forms::or_forms))]
+#[tactic(auto, using(crate::proofs::Forms::or_forms, crate::proofs::Typing::rules_of_forms, crate::proofs::Typing::rules_of_parts))]
 #[cycle(expressions)]
 pub(crate) fn or(
     alloc: Global,
@@ -109,6 +113,7 @@ pub(crate) fn or(
 
 /// The first part, and the others behind it.
 #[cycle(expressions)]
+#[tactic(auto, using(crate::proofs::Typing::rules_of_parts))]
 fn ands(
     alloc: Global,
     model: &Names<'_>,
@@ -127,7 +132,7 @@ fn ands(
 }
 
 /// `a & b & ..`
-#[tactic(auto, using(crate::proofs::Forms::and_forms))]
+#[tactic(auto, using(crate::proofs::Forms::and_forms, crate::proofs::Typing::rules_of_forms, crate::proofs::Typing::rules_of_parts))]
 #[cycle(expressions)]
 pub(crate) fn and(
     alloc: Global,
@@ -147,6 +152,7 @@ pub(crate) fn and(
 
 /// The first part, and the others behind it.
 #[cycle(expressions)]
+#[tactic(auto, using(crate::proofs::Typing::rules_of_parts))]
 fn negs(
     alloc: Global,
     model: &Names<'_>,
@@ -165,7 +171,7 @@ fn negs(
 }
 
 /// `not a`, or a comparison
-#[tactic(auto, using(crate::proofs::Forms::neg_forms))]
+#[tactic(auto, using(crate::proofs::Forms::neg_forms, crate::proofs::Typing::rules_of_forms, crate::proofs::Typing::rules_of_parts))]
 #[cycle(expressions)]
 pub(crate) fn neg(
     alloc: Global,
@@ -185,7 +191,7 @@ pub(crate) fn neg(
 }
 
 /// a comparison, or one side alone
-#[tactic(auto, using(crate::proofs::Forms::compare_forms))]
+#[tactic(auto, using(crate::proofs::Forms::compare_forms, crate::proofs::Typing::rules_of_forms, crate::proofs::Typing::rules_of_parts))]
 #[cycle(expressions)]
 pub(crate) fn compare(
     alloc: Global,
@@ -211,7 +217,7 @@ pub(crate) fn compare(
 }
 
 /// `a + b - ..`
-#[tactic(auto, using(crate::proofs::Forms::add_forms))]
+#[tactic(auto, using(crate::proofs::Forms::add_forms, crate::proofs::Typing::rules_of_forms, crate::proofs::Typing::rules_of_parts))]
 #[cycle(expressions)]
 pub(crate) fn add(
     alloc: Global,
@@ -231,6 +237,7 @@ pub(crate) fn add(
 
 /// The first part, and the others behind it.
 #[cycle(expressions)]
+#[tactic(auto, using(crate::proofs::Typing::rules_of_parts))]
 fn add_steps(
     alloc: Global,
     model: &Names<'_>,
@@ -263,7 +270,7 @@ pub(crate) fn add_step(
 }
 
 /// `a * b div ..`
-#[tactic(auto, using(crate::proofs::Forms::mul_forms))]
+#[tactic(auto, using(crate::proofs::Forms::mul_forms, crate::proofs::Typing::rules_of_forms, crate::proofs::Typing::rules_of_parts))]
 #[cycle(expressions)]
 pub(crate) fn mul(
     alloc: Global,
@@ -277,20 +284,51 @@ pub(crate) fn mul(
         MulTree::Opened(inner) => open(alloc, model, locals, inner),
         MulTree::Product(at, first, steps, last) => {
             let first = sign(alloc, model, locals, first)?;
-            if steps.is_empty() && last.is_none() {
+            if is_alone(steps.as_slice(), last) {
                 return Ok(first);
             }
-            let mut parts = mul_steps(alloc, model, locals, first, steps.as_slice())?;
-            if let Some(last) = last {
-                parts.push(open(alloc, model, locals, &last.factor)?.part()?)?;
-            }
+            let parts = factors(alloc, model, locals, first, steps.as_slice(), last)?;
             arithmetic(alloc, *at, parts)
+        }
+    }
+}
+
+/// Whether no factor stands behind the first.
+fn is_alone(steps: &[MulStep], last: &Option<LastStep>) -> bool
+    ensures { IsTrue result ↔ (map form.form_mul_step steps.now ++ form.or_none (option_map form.form_last_step last.now) ≡ []) }
+{
+    match last {
+        None => steps.is_empty(),
+        Some(_) => false,
+    }
+}
+
+/// The first factor, and the others behind it, of which the last may be an aggregate.
+#[tactic(auto, using(crate::proofs::Forms::last_step_forms, crate::proofs::Typing::rules_of_parts))]
+#[cycle(expressions)]
+fn factors(
+    alloc: Global,
+    model: &Names<'_>,
+    locals: &[Local],
+    first: Node,
+    steps: &[MulStep],
+    last: &Option<LastStep>,
+) -> Result<Seq<Node>, TypeFault>
+    ensures { Gives (map node_of) (and_then (spec.part (node_of first)) (λ n. and_then (spec.typed_parts (within model.now locals.now) (forms_of (map form.form_mul_step steps.now ++ form.or_none (option_map form.form_last_step last.now)))) (λ ns. Ok (n ∷ ns)))) result }
+{
+    let mut parts = mul_steps(alloc, model, locals, first, steps)?;
+    match last {
+        None => Ok(parts),
+        Some(last) => {
+            parts.push(open(alloc, model, locals, &last.factor)?.part()?)?;
+            Ok(parts)
         }
     }
 }
 
 /// The first part, and the others behind it.
 #[cycle(expressions)]
+#[tactic(auto, using(crate::proofs::Typing::rules_of_parts))]
 fn mul_steps(
     alloc: Global,
     model: &Names<'_>,
@@ -323,7 +361,7 @@ pub(crate) fn mul_step(
 }
 
 /// `sum (PARAMS) a` and the like, with signs in front
-#[tactic(auto, using(crate::proofs::Forms::open_forms))]
+#[tactic(auto, using(crate::proofs::Forms::open_forms, crate::proofs::Typing::rules_of_forms, crate::proofs::Typing::rules_of_parts))]
 #[cycle(expressions)]
 pub(crate) fn open(
     alloc: Global,
@@ -347,7 +385,7 @@ pub(crate) fn open(
 }
 
 /// `- a`
-#[tactic(auto, using(crate::proofs::Forms::sign_forms))]
+#[tactic(auto, using(crate::proofs::Forms::sign_forms, crate::proofs::Typing::rules_of_forms, crate::proofs::Typing::rules_of_parts))]
 #[cycle(expressions)]
 pub(crate) fn sign(
     alloc: Global,
@@ -423,6 +461,7 @@ pub(crate) fn subscripts(
 
 /// The first part, and the others behind it.
 #[cycle(expressions)]
+#[tactic(auto, using(crate::proofs::Typing::rules_of_parts))]
 fn adds(
     alloc: Global,
     model: &Names<'_>,
@@ -442,6 +481,7 @@ fn adds(
 
 /// Parts in their order.
 #[cycle(expressions)]
+#[tactic(auto, using(crate::proofs::Typing::rules_of_parts))]
 pub(crate) fn all_adds(
     alloc: Global,
     model: &Names<'_>,
@@ -459,7 +499,7 @@ pub(crate) fn all_adds(
 
 /// Keys and values in their order.
 #[cycle(expressions)]
-#[tactic(auto, using(crate::proofs::Forms::keyed_forms))]
+#[tactic(auto, using(crate::proofs::Forms::keyed_forms, crate::proofs::Typing::rules_of_pairs))]
 fn pairs(
     alloc: Global,
     model: &Names<'_>,
@@ -478,14 +518,14 @@ fn pairs(
 
 /// The set behind `in`: its expressions, and the type of its elements if it is one.
 #[cycle(expressions)]
-#[tactic(auto, using(crate::proofs::Forms::set_forms))]
+#[tactic(auto, using(crate::proofs::Forms::set_forms, crate::proofs::Typing::rules_of_sets))]
 fn set_of_member(
     alloc: Global,
     model: &Names<'_>,
     locals: &[Local],
     t: &SetTree,
 ) -> Result<Range, TypeFault>
-    ensures { Gives range_of (spec.typed_set need.nothing spec.any_type (within model.now locals.now) (form.form_set t.now)) result }
+    ensures { Gives range_of (spec.typed_set nothing spec.any_type (within model.now locals.now) (form.form_set t.now)) result }
 {
     match &t.high {
         None => {
@@ -502,14 +542,14 @@ fn set_of_member(
 
 /// The set that parameters or a dimension range over.
 #[cycle(expressions)]
-#[tactic(auto, using(crate::proofs::Forms::set_forms))]
+#[tactic(auto, using(crate::proofs::Forms::set_forms, crate::proofs::Typing::rules_of_sets))]
 pub(crate) fn set(
     alloc: Global,
     model: &Names<'_>,
     locals: &[Local],
     t: &SetTree,
 ) -> Result<Range, TypeFault>
-    ensures { Gives range_of (spec.typed_set need.data_alone is_set (within model.now locals.now) (form.form_set t.now)) result }
+    ensures { Gives range_of (spec.typed_set data_alone is_set (within model.now locals.now) (form.form_set t.now)) result }
 {
     match &t.high {
         None => {
@@ -525,7 +565,37 @@ pub(crate) fn set(
     }
 }
 
-/// `{e | p}`: a fault of `e` comes before one of `p`, so where `p` has one its names may be anything.
+/// Whether it is memory that failed.
+fn is_memory(fault: &TypeFault) -> bool
+    ensures { IsTrue result ↔ (fault.now ≡ OutOfMemory) }
+{
+    match fault {
+        TypeFault::OutOfMemory => true,
+        TypeFault::Unknown(_)
+        | TypeFault::Duplicate(_)
+        | TypeFault::Mismatch(_)
+        | TypeFault::NotData(_) => false,
+    }
+}
+
+/// `{e | p}` where `p` has a fault: one of `e` comes before it, for which the names of `p` may be anything.
+#[cycle(expressions)]
+fn wrongly_described(
+    alloc: Global,
+    model: &Names<'_>,
+    locals: &[Local],
+    value: &AddTree,
+    params: &ParamsTree,
+    fault: TypeFault,
+) -> Result<Node, TypeFault>
+    ensures { Gives node_of (and_then (and_then (spec.typing (with_values (spec.names_of_params (form.form_params params.now)) (map (λ n. anything) (spec.names_of_params (form.form_params params.now))) (within model.now locals.now)) (form.form_add value.now)) spec.part) (λ n. Err fault)) result }
+{
+    let unknown = unknown_params(alloc, model, locals, params)?;
+    add(alloc, model, unknown.as_slice(), value)?.part()?;
+    Err(fault)
+}
+
+/// `{e | p}`
 #[cycle(expressions)]
 fn described_set(
     alloc: Global,
@@ -542,17 +612,27 @@ fn described_set(
             let value = add(alloc, model, opened.locals.as_slice(), value)?.part()?;
             described(alloc, at, value, opened.kinds)
         }
-        Err(TypeFault::OutOfMemory) => Err(TypeFault::OutOfMemory),
         Err(fault) => {
-            let unknown = unknown_params(alloc, model, locals, params)?;
-            add(alloc, model, unknown.as_slice(), value)?.part()?;
-            Err(fault)
+            if is_memory(&fault) {
+                return Err(fault);
+            }
+            wrongly_described(alloc, model, locals, value, params, fault)
         }
     }
 }
 
+/// `abs(a)` and `card(S)`
+fn called(alloc: Global, at: u32, op: CallOp, argument: Node) -> Result<Node, TypeFault>
+    ensures { Gives node_of (Ok (step.called op at (node_of argument))) result }
+{
+    match op {
+        CallOp::Absolute => number_of(alloc, at, argument),
+        CallOp::Cardinality => size_of(alloc, at, argument),
+    }
+}
+
 /// what an expression begins with
-#[tactic(auto, using(crate::proofs::Forms::prim_forms))]
+#[tactic(auto, using(crate::proofs::Forms::prim_forms, crate::proofs::Typing::rules_of_forms, crate::proofs::Typing::rules_of_parts))]
 #[cycle(expressions)]
 pub(crate) fn prim(
     alloc: Global,
@@ -589,13 +669,9 @@ pub(crate) fn prim(
             let parts = pairs(alloc, model, locals, elements.as_slice())?;
             misplaced(alloc, *at, parts)
         }
-        PrimTree::Call(at, CallOp::Absolute, argument) => {
+        PrimTree::Call(at, op, argument) => {
             let argument = expr(alloc, model, locals, argument.get())?.part()?;
-            number_of(alloc, *at, argument)
-        }
-        PrimTree::Call(at, CallOp::Cardinality, argument) => {
-            let argument = expr(alloc, model, locals, argument.get())?.part()?;
-            size_of(alloc, *at, argument)
+            called(alloc, *at, *op, argument)
         }
         PrimTree::AllDifferent(at, argument) => {
             let argument = add(alloc, model, locals, argument.get())?.part()?;
@@ -613,6 +689,35 @@ pub(crate) fn prim(
 pub(crate) struct Opened {
     pub(crate) locals: Seq<Local>,
     pub(crate) kinds: Seq<Ty>,
+}
+
+/// The type of the elements of a set, which may be anything where it has none.
+#[tactic(auto, using(crate::proofs::Sorts::sorts))]
+fn or_anything(element: Option<Ty>) -> Ty
+    ensures { sort result ≡ spec.or_anything (option_map sort element) }
+{
+    match element {
+        Some(ty) => ty,
+        None => Ty::Any,
+    }
+}
+
+/// The names of the patterns of a group.
+fn bind_patterns(
+    alloc: Global,
+    model: &Names<'_>,
+    locals: &mut Seq<Local>,
+    element: &Ty,
+    first: &PatternTree,
+    rest: &[PatternTree],
+) -> Result<(), TypeFault>
+    ensures { Gives (λ u. within model.now locals.new) (spec.bind_patterns (within model.now locals.old) (sort element.now) (first.now ∷ rest.now)) result }
+{
+    bind_pattern(alloc, model, locals, element, first)?;
+    for pattern in rest {
+        bind_pattern(alloc, model, locals, element, pattern)?;
+    }
+    Ok(())
 }
 
 /// The parameters of a group, added to those before.
@@ -634,16 +739,41 @@ fn open_group(
         t.rest.as_slice(),
     )?;
     let over = set(alloc, model, opened.locals.as_slice(), &t.set)?;
-    let element = match over.element {
-        Some(ty) => ty,
-        None => Ty::Any,
-    };
-    append(&mut opened.kinds, kinds_in(alloc, over.nodes)?)?;
-    bind_pattern(alloc, model, &mut opened.locals, &element, &t.first)?;
-    for pattern in t.rest.as_slice() {
-        bind_pattern(alloc, model, &mut opened.locals, &element, pattern)?;
-    }
+    let Range { nodes, element } = over;
+    let element = or_anything(element);
+    append(&mut opened.kinds, kinds_in(alloc, nodes)?)?;
+    bind_patterns(
+        alloc,
+        model,
+        &mut opened.locals,
+        &element,
+        &t.first,
+        t.rest.as_slice(),
+    )?;
     Ok(())
+}
+
+/// The parameters of several groups, inside those of `locals`.
+#[cycle(expressions)]
+#[tactic(auto, using(crate::proofs::Forms::group_step_forms))]
+fn open_groups(
+    alloc: Global,
+    model: &Names<'_>,
+    locals: &[Local],
+    first: &GroupTree,
+    rest: &[GroupStep],
+) -> Result<Opened, TypeFault>
+    ensures { Gives (opened_in model.now) (spec.open_groups (within model.now locals.now) (form.groups_of (form.form_group first.now ∷ map form.form_group_step rest.now))) result }
+{
+    let mut opened = Opened {
+        locals: copied(alloc, locals)?,
+        kinds: Seq::new(alloc),
+    };
+    open_group(alloc, model, &mut opened, first)?;
+    for step in rest {
+        open_group(alloc, model, &mut opened, &step.group)?;
+    }
+    Ok(opened)
 }
 
 /// Parameters inside those of `locals`. Their condition meets the need.
@@ -658,18 +788,14 @@ pub(crate) fn open_params(
 ) -> Result<Opened, TypeFault>
     ensures { Gives (opened_in model.now) (spec.open_params (need_of need) (within model.now locals.now) (form.form_params t.now)) result }
 {
-    let mut opened = Opened {
-        locals: copied(alloc, locals)?,
-        kinds: Seq::new(alloc),
-    };
-    open_group(alloc, model, &mut opened, &t.first)?;
-    for step in t.rest.as_slice() {
-        open_group(alloc, model, &mut opened, &step.group)?;
+    let mut opened = open_groups(alloc, model, locals, &t.first, t.rest.as_slice())?;
+    match &t.condition {
+        None => Ok(opened),
+        Some(condition) => {
+            let node = expr(alloc, model, opened.locals.as_slice(), condition.get())?;
+            let is_taken = node.ty.is_truth();
+            add_kinds(&mut opened.kinds, node.settled(need, is_taken)?)?;
+            Ok(opened)
+        }
     }
-    if let Some(condition) = &t.condition {
-        let node = expr(alloc, model, opened.locals.as_slice(), condition.get())?;
-        let is_taken = node.ty.is_truth();
-        add_kinds(&mut opened.kinds, node.settled(need, is_taken)?)?;
-    }
-    Ok(opened)
 }
