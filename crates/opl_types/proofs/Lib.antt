@@ -1,3 +1,5 @@
+pub mod ArrayCells
+pub mod Declared
 pub mod Examples
 pub mod Forms
 pub mod Lookup
