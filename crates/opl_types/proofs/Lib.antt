@@ -5,3 +5,5 @@ pub mod Forms
 pub mod Lookup
 pub mod Sorts
 pub mod Steps
+pub mod Joins
+pub mod Patterns

@@ -1,10 +1,10 @@
 -- The rules as the program goes through them, one part after the other. The laws between these and the rules stand in proofs.
-use Rattle.std.specs.Prelude.{ℕ, List, [], ◌∷◌, ◌++◌, map, Ok, Err}
+use Rattle.std.specs.Prelude.{ℕ, List, [], ◌∷◌, ◌++◌, map, replicate, Option, Some, Ok, Err}
 use Rattle.std.specs.List.{flat_map}
 use Rattle.opl_tree.specs.declared.expression.NameTree.{NameTree}
-use Rattle.opl_types.specs.Types.{Sort, is_set}
+use Rattle.opl_types.specs.Types.{Sort, Sorts, sorts_of, is_set, both}
 use Rattle.opl_types.specs.Types.Sort.{anything}
-use Rattle.opl_types.specs.Scope.{Checked, ◌>>=◌, ◌>>◌, Scope, declared, fresh, all_fresh}
+use Rattle.opl_types.specs.Scope.{Checked, ◌>>=◌, ◌>>◌, Scope, declared, fresh, all_fresh, with_values, parts_in}
 use Rattle.opl_types.specs.Scope.Thing.{value}
 use Rattle.opl_types.specs.Forms.{Suffix, Group, forms_of}
 use Rattle.opl_types.specs.Forms.Suffix.{subscripts, field_of}
@@ -50,3 +50,17 @@ abbrev pub behind : List Sort → Checked Opened → Checked Opened
 behind ks c = do
   o ← c
   Ok (record { scope = o.scope; kinds = ks ++ o.kinds })
+
+-- names of what may be anything
+abbrev pub unknown : List NameTree → Scope → Scope
+unknown ns sc = with_values ns (map (λ n. anything) ns) sc
+
+-- the types of a record's parts, where so many are asked for
+abbrev pub parts_of : Scope → ℕ → Sort → Option Sorts
+parts_of sc count anything = Some (sorts_of (replicate count anything))
+parts_of sc count s = parts_in sc s
+
+-- these types, and then the others, if there are such
+abbrev pub sorts_before : List Sort → Option Sorts → Option Sorts
+sorts_before [] o = o
+sorts_before (s ∷ ss) o = both (Some s) (sorts_before ss o)

@@ -92,6 +92,7 @@ pub(crate) fn joined(alloc: Global, model: &Names<'_>, a: &Ty, b: &Ty) -> Result
 }
 
 /// The types of the parts of two rows, joined one by one; none where there are not as many on both sides.
+#[tactic(auto, using(crate::proofs::Joins::types_joined))]
 #[cycle(joined)]
 fn all_joined(
     alloc: Global,
@@ -120,7 +121,7 @@ fn all_joined(
 }
 
 /// The one type of the elements of a set, if they have one.
-#[tactic(auto, using(crate::proofs::Sorts::sorts))]
+#[tactic(auto, using(crate::proofs::Sorts::sorts, crate::proofs::Joins::types_joined))]
 pub(crate) fn element_type(
     alloc: Global,
     model: &Names<'_>,
@@ -173,7 +174,7 @@ pub(crate) fn are_related(model: &Names<'_>, relation: Relation, a: &Ty, b: &Ty)
 }
 
 /// Whether there is a struct that both fit.
-#[tactic(auto, using(crate::proofs::Sorts::sorts))]
+#[tactic(auto, using(crate::proofs::Sorts::sorts, crate::proofs::Joins::structs_found))]
 fn fit_one_struct(model: &Names<'_>, a: &Ty, b: &Ty) -> bool
     ensures { result ≡ scope.fit_one_struct (scope_of model.now) (spec.sort a.now) (spec.sort b.now) }
 {

@@ -1,10 +1,10 @@
 //! The names of a model, and what they stand for.
-ghost use Rattle.std.specs.Prelude.{◌≡◌, ◌++◌, ◌∷◌, [], None, Some, Ok, IfOk, map};
+ghost use Rattle.std.specs.Prelude.{◌≡◌, ◌++◌, ◌∷◌, [], None, Some, Ok, map};
 ghost use Rattle.std.specs.Option.{option_copied, option_map};
 ghost use Rattle.opl_types.specs.Scope as scope;
 ghost use Rattle.opl_types.specs.Types.{sort, sorts_of};
 ghost use Rattle.opl_types.specs.Values as spec;
-ghost use Rattle.opl_types.specs.Values.{Gives};
+ghost use Rattle.opl_types.specs.Values.{Does, Gives};
 
 use crate::fault::TypeFault;
 use crate::kind::Ty;
@@ -193,7 +193,7 @@ impl<'a> Names<'a> {
         name: &'a [u8],
         thing: Thing,
     ) -> Result<(), TypeFault>
-        ensures { IfOk result (λ u. spec.scope_of self.new ≡ scope.declared name.now (spec.thing_of thing) (spec.scope_of self.old)) }
+        ensures { Does (λ u. spec.scope_of self.new ≡ scope.declared name.now (spec.thing_of thing) (spec.scope_of self.old)) result }
     {
         let name = Seq::from_slice(alloc, name)?;
         self.entries.push(Entry { name, thing })?;
@@ -284,7 +284,7 @@ pub(crate) fn add_local(
     name: &[u8],
     ty: Ty,
 ) -> Result<(), TypeFault>
-    ensures { IfOk result (λ u. locals.new ≡ locals.old ++ record { name = name.now; ty = ty } ∷ []) }
+    ensures { Does (λ u. locals.new ≡ locals.old ++ record { name = name.now; ty = ty } ∷ []) result }
 {
     let name = Seq::from_slice(alloc, name)?;
     locals.push(Local { name, ty })?;
@@ -305,7 +305,7 @@ pub(crate) fn fresh(model: &Names<'_>, locals: &[Local], name: &NameTree) -> Res
 
 /// The same parameters, to which others may be added.
 pub(crate) fn copied(alloc: Global, locals: &[Local]) -> Result<Seq<Local>, TypeFault>
-    ensures { IfOk result (λ r. r ≡ locals.now) }
+    ensures { Does (λ r. r ≡ locals.now) result }
 {
     let mut found = Seq::new(alloc);
     for local in locals {

@@ -1,11 +1,14 @@
 //! The names that patterns give to the elements of a set.
-ghost use Rattle.std.specs.Prelude.{◌≡◌, ◌∷◌, []};
+ghost use Rattle.std.specs.Prelude.{◌≡◌, ◌∷◌, [], map, Ok};
 ghost use Rattle.std.specs.List.{flat_map};
+ghost use Rattle.std.specs.Option.{option_map};
 ghost use Rattle.opl_types.specs.Expressions as spec;
+ghost use Rattle.opl_types.specs.Forms.{form_group, form_params};
 ghost use Rattle.opl_types.specs.Scope as scope;
 ghost use Rattle.opl_types.specs.Steps as step;
 ghost use Rattle.opl_types.specs.Types.{sort};
-ghost use Rattle.opl_types.specs.Values.{Gives, within};
+ghost use Rattle.opl_types.specs.Types.Sort.{anything};
+ghost use Rattle.opl_types.specs.Values.{Does, Gives, scope_of, sorts_in, within};
 
 use crate::fault::TypeFault;
 use crate::kind::Ty;
@@ -102,12 +105,15 @@ pub(crate) fn bind_pattern(
 }
 
 /// The types of the parts of a record, if it is one. What ranges over `{}` has as many as are asked for.
+#[tactic(auto, using(crate::proofs::Sorts::sorts))]
 fn parts_of(
     alloc: Global,
     model: &Names<'_>,
     element: &Ty,
     count: usize,
-) -> Result<Option<Seq<Ty>>, TypeFault> {
+) -> Result<Option<Seq<Ty>>, TypeFault>
+    ensures { Gives (option_map sorts_in) (Ok (step.parts_of (scope_of model.now) count (sort element.now))) result }
+{
     let mut parts = Seq::new(alloc);
     match element {
         Ty::Any => {
@@ -133,9 +139,12 @@ fn parts_of(
 /// The names of a pattern, as what may be anything.
 fn unknown_pattern(
     alloc: Global,
+    model: &Names<'_>,
     locals: &mut Seq<Local>,
     pattern: &PatternTree,
-) -> Result<(), TypeFault> {
+) -> Result<(), TypeFault>
+    ensures { Does (λ u. within model.now locals.new ≡ step.unknown (spec.pattern_names pattern.now) (within model.now locals.old)) result }
+{
     match pattern {
         PatternTree::Single(name) => add_local(alloc, locals, name.text.as_slice(), Ty::Any),
         PatternTree::Record(_, first, rest) => {
@@ -151,12 +160,15 @@ fn unknown_pattern(
 /// The names of a group, as what may be anything.
 fn unknown_group(
     alloc: Global,
+    model: &Names<'_>,
     locals: &mut Seq<Local>,
     group: &GroupTree,
-) -> Result<(), TypeFault> {
-    unknown_pattern(alloc, locals, &group.first)?;
+) -> Result<(), TypeFault>
+    ensures { Does (λ u. within model.now locals.new ≡ step.unknown (flat_map spec.pattern_names (form_group group.now).patterns) (within model.now locals.old)) result }
+{
+    unknown_pattern(alloc, model, locals, &group.first)?;
     for pattern in group.rest.as_slice() {
-        unknown_pattern(alloc, locals, pattern)?;
+        unknown_pattern(alloc, model, locals, pattern)?;
     }
     Ok(())
 }
@@ -164,13 +176,16 @@ fn unknown_group(
 /// The names of parameters that have a fault, as what may be anything.
 pub(crate) fn unknown_params(
     alloc: Global,
+    model: &Names<'_>,
     locals: &[Local],
     params: &ParamsTree,
-) -> Result<Seq<Local>, TypeFault> {
+) -> Result<Seq<Local>, TypeFault>
+    ensures { Does (λ r. within model.now r ≡ scope.with_values (spec.names_of_params (form_params params.now)) (map (λ n. anything) (spec.names_of_params (form_params params.now))) (within model.now locals.now)) result }
+{
     let mut found = copied(alloc, locals)?;
-    unknown_group(alloc, &mut found, &params.first)?;
+    unknown_group(alloc, model, &mut found, &params.first)?;
     for step in params.rest.as_slice() {
-        unknown_group(alloc, &mut found, &step.group)?;
+        unknown_group(alloc, model, &mut found, &step.group)?;
     }
     Ok(found)
 }

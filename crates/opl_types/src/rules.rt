@@ -1,12 +1,12 @@
 //! The rules of the forms: what an expression is, once its parts are known.
-ghost use Rattle.std.specs.Prelude.{◌≡◌, ◌++◌, ◌∷◌, ◌&&◌, [], Some, Ok, true, false, IfOk, is_some, map};
+ghost use Rattle.std.specs.Prelude.{◌≡◌, ◌++◌, ◌∷◌, ◌&&◌, [], Some, Ok, true, false, is_some, map};
 ghost use Rattle.std.specs.List.{list_any, list_all};
 ghost use Rattle.std.specs.Option.{option_map};
 ghost use Rattle.opl_types.specs.Expressions as spec;
 ghost use Rattle.opl_types.specs.Scope.{lookup};
 ghost use Rattle.opl_types.specs.Types.{sort, sorts_of, is_number, is_truth, is_set, is_storable, is_array_of_single, elements};
 ghost use Rattle.opl_types.specs.Types.Sort.{int, bool, row, set, anything};
-ghost use Rattle.opl_types.specs.Values.{Gives, node_of, range_of, scope_of, within};
+ghost use Rattle.opl_types.specs.Values.{Does, Gives, node_of, range_of, scope_of, within};
 
 use crate::fault::TypeFault;
 use crate::fit::fits_subscripts;
@@ -46,7 +46,7 @@ pub(crate) fn two(alloc: Global, first: Node, second: Node) -> Result<Seq<Node>,
 
 /// A row of types with another behind it.
 pub(crate) fn append(front: &mut Seq<Ty>, back: Seq<Ty>) -> Result<(), TypeFault>
-    ensures { IfOk result (λ u. front.new ≡ front.old ++ back) }
+    ensures { Does (λ u. front.new ≡ front.old ++ back) result }
 {
     for ty in back.into_vec() {
         front.push(ty)?;
@@ -55,8 +55,9 @@ pub(crate) fn append(front: &mut Seq<Ty>, back: Seq<Ty>) -> Result<(), TypeFault
 }
 
 /// Adds the type of an expression, and those of the expressions in it.
+#[tactic(auto, using(crate::proofs::Joins::parts_read))]
 pub(crate) fn add_kinds(kinds: &mut Seq<Ty>, node: Node) -> Result<(), TypeFault>
-    ensures { IfOk result (λ u. map sort kinds.new ≡ map sort kinds.old ++ spec.kinds (node_of node)) }
+    ensures { Does (λ u. map sort kinds.new ≡ map sort kinds.old ++ spec.kinds (node_of node)) result }
 {
     let Node { ty, inner, .. } = node;
     kinds.push(ty)?;
@@ -64,6 +65,7 @@ pub(crate) fn add_kinds(kinds: &mut Seq<Ty>, node: Node) -> Result<(), TypeFault
 }
 
 /// The types of expressions and of those in them.
+#[tactic(auto, using(crate::proofs::Joins::parts_read))]
 pub(crate) fn kinds_in(alloc: Global, nodes: Seq<Node>) -> Result<Seq<Ty>, TypeFault>
     ensures { Gives (map sort) (Ok (spec.kinds_in (map node_of nodes))) result }
 {
@@ -74,12 +76,14 @@ pub(crate) fn kinds_in(alloc: Global, nodes: Seq<Node>) -> Result<Seq<Ty>, TypeF
     Ok(kinds)
 }
 
+#[tactic(auto, using(crate::proofs::Joins::parts_read))]
 fn decides(parts: &[Node]) -> bool
     ensures { result ≡ list_any (λ n. n.decides) (map node_of parts.now) }
 {
     parts.iter().any(|part| part.decides)
 }
 
+#[tactic(auto, using(crate::proofs::Joins::parts_read))]
 fn asks(parts: &[Node]) -> bool
     ensures { result ≡ list_any (λ n. n.asks) (map node_of parts.now) }
 {
