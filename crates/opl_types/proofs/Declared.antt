@@ -29,9 +29,9 @@ use Rattle.opl_types.specs.declared.kind.Ty.{Ty}
 use Rattle.opl_types.specs.declared.names.Entry.{Entry}
 use Rattle.opl_types.specs.declared.names.Local.{Local}
 use Rattle.opl_types.specs.declared.names.Names.{Names}
-use Rattle.opl_types.specs.Types.{Sort, is_set, sort, sorts_of}
+use Rattle.opl_types.specs.Types.{Sort, fits, is_set, sort, sorts_of}
 use Rattle.opl_types.specs.Types.Sort.{int, set, array, activity, unary, discrete, anything}
-use Rattle.opl_types.specs.Scope.{Checked, ◌>>=◌, ◌>>◌, and_then, unless, Text, Thing, Scope, Field, lookup, is_visible, declared, empty_scope, fresh, all_fresh, field_sort, fits_in, with_values}
+use Rattle.opl_types.specs.Scope.{Checked, ◌>>=◌, ◌>>◌, and_then, unless, Text, Thing, Scope, Field, lookup, is_visible, declared, empty_scope, fresh, all_fresh, field_sort, field_sorts, fields, fits_in, with_values}
 use Rattle.opl_types.specs.Scope.Thing.{range, enum_type, enum_name, struct_type, value, variable, activities, resource}
 use Rattle.opl_types.specs.Forms.{Form, Forms, Pairs, form_add, form_set}
 use Rattle.opl_types.specs.Forms.Form.{number, named, bracket, negative, arithmetic, absolute, related, member, connected, aggregate, cardinality, all_different, subscripted, field, tuple, listed, described, cells, keyed_cells, question}
@@ -39,9 +39,9 @@ use Rattle.opl_types.specs.Forms.Forms.{no_forms, more_forms}
 use Rattle.opl_types.specs.Forms.Pairs.{no_pairs, more_pairs}
 use Rattle.opl_types.specs.Expressions.{Opened, Node, Range, kinds, kinds_in, typed_set, typing, used, or_anything}
 use Rattle.opl_types.specs.Expressions.Need.{data_alone}
-use Rattle.opl_types.specs.Declarations.{Dimensions, Shape, no_dimensions, dimensions, with_dimension, fresh_in, all_dims, cell_indices, cells_left, enum_names, with_names, enum_decl, field_list, struct_decl, initial, initial_cells, initial_kinds, initial_pairs, is_decidable, is_given, given, makes, maybe_number, named_type, number_kinds, bounds_kinds, shape, shaped, variable_type, written_type, data_decl, range_decl, variable_decl, activity_decl, unary_decl, discrete_decl, schedule_decl, decl}
+use Rattle.opl_types.specs.Declarations.{Dimensions, Shape, no_dimensions, dimensions, with_dimension, fresh_in, all_dims, cell_indices, cells_left, enum_names, with_names, enum_decl, field_list, struct_decl, initial, initial_cells, initial_kinds, initial_pairs, is_decidable, is_given, given, makes, maybe_number, named_type, number_kinds, bounds_kinds, shape, shaped, variable_type, written_type, data_decl, range_decl, variable_decl, activity_decl, unary_decl, discrete_decl, schedule_decl, decl, all_decls, next}
 use Rattle.opl_types.specs.Steps.{front, behind}
-use Rattle.opl_types.specs.DeclarationSteps.{Seen, fresh_name, seen_more, see_one, see_each, nothing_seen, seen, cells_seen, is_any, front_numbers, front_number, front_bounds, front_initial, data_behind, range_behind, variable_behind, activity_behind, unary_behind, discrete_behind, schedule_behind, name_one, name_each, enum_steps, field_one, field_each, struct_steps, Held, held, initial_by, plain_value}
+use Rattle.opl_types.specs.DeclarationSteps.{Seen, fresh_name, seen_more, see_one, see_each, nothing_seen, seen, cells_seen, is_any, front_numbers, front_number, front_bounds, front_initial, data_behind, range_behind, variable_behind, activity_behind, unary_behind, discrete_behind, schedule_behind, name_one, name_each, enum_steps, field_one, field_each, struct_steps, Held, held, initial_by, plain_value, cells_behind, pairs_behind, decls_behind}
 use Rattle.opl_types.specs.Values.{scope_of, within, with_entries, with_locals, thing_of}
 
 -- ---- one check behind another
@@ -118,9 +118,29 @@ pub sorts-last : (ts : List Ty) (t : Ty) → map sort (ts ++ t ∷ []) ≡ map s
 sorts-last [] t = refl
 sorts-last (x ∷ xs) t = ap (λ ss. sort x ∷ ss) (sorts-last xs t)
 
-pub ruleset names_within = (within-none)
+pub sorts-behind : (ts us : List Ty) → map sort (ts ++ us) ≡ map sort ts ++ map sort us
+sorts-behind [] us = refl
+sorts-behind (t ∷ ts) us = ap (λ ss. sort t ∷ ss) (sorts-behind ts us)
 
-pub ruleset dimensions_kept = (within-last, is_any-last, sorts-last)
+pub ruleset names_within = (within-none, sorts-behind)
+
+declared-fields : (n : Text) (s : Sort) (sc : Scope) → field_sorts (declared n (value s) sc) ≡ field_sorts sc
+unfolding field_sorts fields declared
+declared-fields n s sc = refl
+
+field_sorts-with : (ls : List Local) (sc : Scope) → field_sorts (with_locals ls sc) ≡ field_sorts sc
+field_sorts-with [] sc = refl
+field_sorts-with (l ∷ ls) sc = field_sorts-with ls (declared l.name (value (sort l.ty)) sc) ∙ declared-fields l.name (sort l.ty) sc
+
+-- names of values bring no structs
+field_sorts-within : (n : Names) (ls : List Local) → field_sorts (within n ls) ≡ field_sorts (scope_of n)
+unfolding within
+field_sorts-within n ls = field_sorts-with ls (scope_of n)
+
+pub fits-within : (n : Names) (ls : List Local) (want have : Sort) → fits_in (scope_of n) want have ≡ fits_in (within n ls) want have
+fits-within n ls want have = ap (λ f. fits f want have) (sym (field_sorts-within n ls))
+
+pub ruleset dimensions_kept = (within-last, is_any-last, sorts-last, sorts-behind)
 
 -- ---- dimensions
 
@@ -563,7 +583,7 @@ initial-held sc s i is (cells a b) = refl
 initial-held sc s i is (keyed_cells a b) = refl
 initial-held sc s i is (question a b c) = refl
 
-pub initial-single : (sc : Scope) (s : Sort) (f : Form) → initial sc s [] f ≡ plain_value sc s [] f
+initial-single : (sc : Scope) (s : Sort) (f : Form) → initial sc s [] f ≡ plain_value sc s [] f
 unfolding initial initial_cells initial_pairs
 initial-single sc s (number a) = refl
 initial-single sc s (named a) = refl
@@ -586,33 +606,27 @@ initial-single sc s (cells a b) = refl
 initial-single sc s (keyed_cells a b) = refl
 initial-single sc s (question a b c) = refl
 
+pub single-behind : (ks : List Sort) (sc : Scope) (s : Sort) (is : List Ty) (f : Form) → is ≡ [] → front ks (initial sc s (map sort is) f) ≡ front ks (plain_value sc s (map sort is) f)
+single-behind ks sc s is f h =
+    ap (λ js. front ks (initial sc s (map sort js) f)) h ∙ ap (front ks) (initial-single sc s f) ∙ ap (λ js. front ks (plain_value sc s (map sort js) f)) (sym h)
+
 front-first : (ks : List Sort) (s : Sort) (c : Checked (List Sort)) → front ks (and_then c (λ inner. Ok (s ∷ inner))) ≡ front (ks ++ s ∷ []) c
 front-first ks s (Err e) = refl
 front-first ks s (Ok inner) = ap Ok (sym (append_assoc ks (s ∷ []) inner))
 
-pub initial-listed : (ks : List Sort) (sc : Scope) (s i : Sort) (is : List Sort) (f : Form) (fs : Forms) → held f ≡ Held.listed fs →
-    front ks (initial sc s (i ∷ is) f) ≡ front (ks ++ shaped (i ∷ is) s ∷ []) (initial_cells sc s is fs)
-initial-listed ks sc s i is f fs h =
-    ap (front ks) (initial-held sc s i is f ∙ ap (λ g. initial_by g sc s i is f) h) ∙ front-first ks (shaped (i ∷ is) s) (initial_cells sc s is fs)
-
-pub initial-keyed : (ks : List Sort) (sc : Scope) (s i : Sort) (is : List Sort) (f : Form) (ps : Pairs) → held f ≡ Held.keyed ps →
-    front ks (initial sc s (i ∷ is) f) ≡ front (ks ++ shaped (i ∷ is) s ∷ []) (initial_pairs sc s i is ps)
-initial-keyed ks sc s i is f ps h =
-    ap (front ks) (initial-held sc s i is f ∙ ap (λ g. initial_by g sc s i is f) h) ∙ front-first ks (shaped (i ∷ is) s) (initial_pairs sc s i is ps)
-
 pub initial-other : (ks : List Sort) (sc : Scope) (s i : Sort) (is : List Sort) (f : Form) → held f ≡ Held.other → front ks (initial sc s (i ∷ is) f) ≡ front ks (plain_value sc s (i ∷ is) f)
 initial-other ks sc s i is f h = ap (front ks) (initial-held sc s i is f ∙ ap (λ g. initial_by g sc s i is f) h)
 
-pub cells-none : (ks : List Sort) (sc : Scope) (s : Sort) (is : List Sort) → front ks (initial_cells sc s is no_forms) ≡ Ok ks
+cells-none : (ks : List Sort) (sc : Scope) (s : Sort) (is : List Sort) → front ks (initial_cells sc s is no_forms) ≡ Ok ks
 unfolding initial initial_cells initial_pairs
 cells-none ks sc s is = ap Ok (append-nil ks)
 
-pub cells-next : (ks : List Sort) (sc : Scope) (s : Sort) (is : List Sort) (f : Form) (fs : Forms) →
+cells-next : (ks : List Sort) (sc : Scope) (s : Sort) (is : List Sort) (f : Form) (fs : Forms) →
     front ks (initial_cells sc s is (more_forms f fs)) ≡ and_then (front ks (initial sc s is f)) (λ more. front more (initial_cells sc s is fs))
 unfolding initial initial_cells initial_pairs
 cells-next ks sc s is f fs = front-then ks (initial sc s is f) (initial_cells sc s is fs)
 
-pub pairs-none : (ks : List Sort) (sc : Scope) (s i : Sort) (is : List Sort) → front ks (initial_pairs sc s i is no_pairs) ≡ Ok ks
+pairs-none : (ks : List Sort) (sc : Scope) (s i : Sort) (is : List Sort) → front ks (initial_pairs sc s i is no_pairs) ≡ Ok ks
 unfolding initial initial_cells initial_pairs
 pairs-none ks sc s i is = ap Ok (append-nil ks)
 
@@ -624,10 +638,57 @@ front-three ks (Ok n) (Err x) e = refl
 front-three ks (Ok n) (Ok first) (Err x) = refl
 front-three ks (Ok n) (Ok first) (Ok rest) = simp append_assoc refl
 
-pub pairs-next : (ks : List Sort) (sc : Scope) (s i : Sort) (is : List Sort) (key cell : Form) (others : Pairs) →
+pairs-next : (ks : List Sort) (sc : Scope) (s i : Sort) (is : List Sort) (key cell : Form) (others : Pairs) →
     front ks (initial_pairs sc s i is (more_pairs key cell others))
     ≡ and_then (front ks (plain_value sc i [] key)) (λ a. and_then (front a (initial sc s is cell)) (λ b. front b (initial_pairs sc s i is others)))
 unfolding initial initial_cells initial_pairs
 pairs-next ks sc s i is key cell others = front-three ks (and_then (typing sc key) (used data_alone (fits_in sc i))) (initial sc s is cell) (initial_pairs sc s i is others)
 
-pub ruleset initial_values = (initial-single, initial-listed, initial-keyed, initial-other, cells-none, cells-next, pairs-none, pairs-next)
+cells-behind : (sc : Scope) (s : Sort) (is : List Sort) (fs : Forms) (ks : List Sort) → front ks (initial_cells sc s is fs) ≡ cells_behind ks sc s is fs
+cells-behind sc s is no_forms ks = cells-none ks sc s is
+cells-behind sc s is (more_forms f fs) ks =
+    cells-next ks sc s is f fs
+    ∙ under (front ks (initial sc s is f)) (λ more. front more (initial_cells sc s is fs)) (λ more. cells_behind more sc s is fs) (λ more. cells-behind sc s is fs more)
+
+pairs-behind : (sc : Scope) (s i : Sort) (is : List Sort) (ps : Pairs) (ks : List Sort) → front ks (initial_pairs sc s i is ps) ≡ pairs_behind ks sc s i is ps
+pairs-behind sc s i is no_pairs ks = pairs-none ks sc s i is
+pairs-behind sc s i is (more_pairs key cell others) ks =
+    pairs-next ks sc s i is key cell others
+    ∙ under (front ks (plain_value sc i [] key))
+        (λ a. and_then (front a (initial sc s is cell)) (λ b. front b (initial_pairs sc s i is others)))
+        (λ a. and_then (front a (initial sc s is cell)) (λ b. pairs_behind b sc s i is others))
+        (λ a. under (front a (initial sc s is cell)) (λ b. front b (initial_pairs sc s i is others)) (λ b. pairs_behind b sc s i is others) (λ b. pairs-behind sc s i is others b))
+
+pub initial-listed : (ks : List Sort) (sc : Scope) (s i : Sort) (is : List Sort) (f : Form) (fs : Forms) → held f ≡ Held.listed fs →
+    front ks (initial sc s (i ∷ is) f) ≡ cells_behind (ks ++ shaped (i ∷ is) s ∷ []) sc s is fs
+initial-listed ks sc s i is f fs h =
+    ap (front ks) (initial-held sc s i is f ∙ ap (λ g. initial_by g sc s i is f) h) ∙ front-first ks (shaped (i ∷ is) s) (initial_cells sc s is fs)
+    ∙ cells-behind sc s is fs (ks ++ shaped (i ∷ is) s ∷ [])
+
+pub initial-keyed : (ks : List Sort) (sc : Scope) (s i : Sort) (is : List Sort) (f : Form) (ps : Pairs) → held f ≡ Held.keyed ps →
+    front ks (initial sc s (i ∷ is) f) ≡ pairs_behind (ks ++ shaped (i ∷ is) s ∷ []) sc s i is ps
+initial-keyed ks sc s i is f ps h =
+    ap (front ks) (initial-held sc s i is f ∙ ap (λ g. initial_by g sc s i is f) h) ∙ front-first ks (shaped (i ∷ is) s) (initial_pairs sc s i is ps)
+    ∙ pairs-behind sc s i is ps (ks ++ shaped (i ∷ is) s ∷ [])
+
+pub ruleset initial_values = (single-behind, initial-listed, initial-keyed, initial-other, sorts-last)
+
+-- ---- all declarations
+
+decls-last : (ks ls : List Sort) (c : Checked Opened) → behind ks (and_then c (λ rest. Ok (record { scope = rest.scope; kinds = ls ++ rest.kinds }))) ≡ behind (ks ++ ls) c
+decls-last ks ls (Err e) = refl
+decls-last ks ls (Ok o) = ap (λ ms. Ok (record { scope = o.scope; kinds = ms })) (sym (append_assoc ks ls o.kinds))
+
+decls-next : (k : ℕ) (ks : List Sort) (c : Checked Opened) (all : Scope → Checked Opened) →
+    behind ks (and_then c (λ first. and_then (all first.scope) (λ rest. Ok (record { scope = rest.scope; kinds = first.kinds ++ rest.kinds }))))
+    ≡ and_then (behind ks c) (λ o. behind o.kinds (all o.scope))
+decls-next k ks (Err e) all = refl
+decls-next k ks (Ok o) all = decls-last ks o.kinds (all o.scope)
+
+pub decls-behind : (ds : List DeclTree) (k : ℕ) (ks : List Sort) (sc : Scope) → behind ks (all_decls k sc ds) ≡ decls_behind k ks sc ds
+decls-behind [] k ks sc = ap (λ ls. Ok (record { scope = sc; kinds = ls })) (append-nil ks)
+decls-behind (d ∷ ds) k ks sc =
+    decls-next k ks (decl k sc d) (λ more. all_decls (next k) more ds)
+    ∙ under (behind ks (decl k sc d)) (λ o. behind o.kinds (all_decls (next k) o.scope ds)) (λ o. decls_behind (next k) o.kinds o.scope ds) (λ o. decls-behind ds (next k) o.kinds o.scope)
+
+pub ruleset all_declarations = (decls-behind)

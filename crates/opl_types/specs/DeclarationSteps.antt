@@ -3,6 +3,7 @@ use Rattle.std.specs.Prelude.{ℕ, Bool, true, false, cond, not, List, [], ◌�
 use Rattle.opl_tree.specs.declared.declaration.ActivityTree.{ActivityTree}
 use Rattle.opl_tree.specs.declared.declaration.BoundsTree.{BoundsTree}
 use Rattle.opl_tree.specs.declared.declaration.DataTree.{DataTree}
+use Rattle.opl_tree.specs.declared.declaration.DeclTree.{DeclTree}
 use Rattle.opl_tree.specs.declared.declaration.DimTree.{DimTree}
 use Rattle.opl_tree.specs.declared.declaration.DimsTree.{DimsTree}
 use Rattle.opl_tree.specs.declared.declaration.DiscreteTree.{DiscreteTree}
@@ -28,10 +29,12 @@ use Rattle.opl_types.specs.Scope.{Checked, ◌>>=◌, ◌>>◌, unless, Scope, F
 use Rattle.opl_types.specs.Scope.Thing.{range, enum_type, enum_name, struct_type, value, variable, activities, resource}
 use Rattle.opl_types.specs.Forms.{Form, Forms, Pairs, forms_of, pairs_of, form_add, form_keyed, form_set}
 use Rattle.opl_types.specs.Forms.Form.{cells, keyed_cells}
+use Rattle.opl_types.specs.Forms.Forms.{no_forms, more_forms}
+use Rattle.opl_types.specs.Forms.Pairs.{no_pairs, more_pairs}
 use Rattle.opl_types.specs.Expressions.{Opened, kinds, kinds_in, used, typing, typed_set, or_anything}
 use Rattle.opl_types.specs.Expressions.Need.{data_alone}
-use Rattle.opl_types.specs.Declarations.{all_dims, cell_indices, enum_names, initial, initial_cells, initial_kinds, initial_pairs, is_decidable, is_given, given, makes, number_kinds, shape, shaped, variable_type, written_type}
-use Rattle.opl_types.specs.Steps.{front}
+use Rattle.opl_types.specs.Declarations.{all_dims, cell_indices, decl, enum_names, initial, initial_cells, initial_kinds, initial_pairs, is_decidable, is_given, given, makes, next, number_kinds, shape, shaped, variable_type, written_type}
+use Rattle.opl_types.specs.Steps.{front, behind}
 use Rattle.opl_types.specs.Values.{within}
 
 -- ---- initial values
@@ -46,6 +49,16 @@ abbrev pub held : Form → Held
 held (cells at fs) = listed fs
 held (keyed_cells at ps) = keyed ps
 held f = other
+
+-- what an operand is with others behind it, or with none
+abbrev pub alone : {A : Type 0} → Form → List A → Held
+alone f [] = held f
+alone f (x ∷ xs) = other
+
+abbrev pub alone_or : {A B : Type 0} → Form → List A → Option B → Held
+alone_or f [] None = held f
+alone_or f [] (Some b) = other
+alone_or f (x ∷ xs) last = other
 
 abbrev pub held_in : found.Cells → Held
 held_in (found.TheVariants.Listed ts) = listed (forms_of (map form_add ts.now))
@@ -67,6 +80,19 @@ initial_by (keyed ps) sc s i is f = do
   inner ← initial_pairs sc s i is ps
   Ok (shaped (i ∷ is) s ∷ inner)
 initial_by other sc s i is f = plain_value sc s (i ∷ is) f
+
+-- cells behind others, whose types are `ks`
+abbrev pub cells_behind : List Sort → Scope → Sort → List Sort → Forms → Checked (List Sort)
+cells_behind ks sc s is no_forms = Ok ks
+cells_behind ks sc s is (more_forms f fs) = front ks (initial sc s is f) >>= (λ more. cells_behind more sc s is fs)
+
+-- a key is data of the index, and of no array
+abbrev pub pairs_behind : List Sort → Scope → Sort → Sort → List Sort → Pairs → Checked (List Sort)
+pairs_behind ks sc s i is no_pairs = Ok ks
+pairs_behind ks sc s i is (more_pairs key cell others) = do
+  keys ← front ks (plain_value sc i [] key)
+  more ← front keys (initial sc s is cell)
+  pairs_behind more sc s i is others
 
 -- ---- dimensions
 
@@ -214,3 +240,10 @@ struct_steps k sc t = do
   fresh sc t.name
   fields ← field_each sc [] (t.first ∷ t.rest)
   Ok (declared t.name.text (struct_type k fields) sc)
+
+-- ---- all declarations
+
+-- declarations from number k on, behind others
+abbrev pub decls_behind : ℕ → List Sort → Scope → List DeclTree → Checked Opened
+decls_behind k ks sc [] = Ok (record { scope = sc; kinds = ks })
+decls_behind k ks sc (d ∷ ds) = behind ks (decl k sc d) >>= (λ o. decls_behind (next k) o.kinds o.scope ds)

@@ -1,6 +1,6 @@
 //! The types of declarations.
 ghost use Rattle.std.specs.Option.{option_map};
-ghost use Rattle.std.specs.Prelude.{◌≡◌, ◌∷◌, [], Ok, is_some, map};
+ghost use Rattle.std.specs.Prelude.{◌≡◌, ◌++◌, ◌∷◌, [], Ok, is_some, map};
 ghost use Rattle.opl_types.specs.Declarations as spec;
 ghost use Rattle.opl_types.specs.DeclarationSteps as step;
 ghost use Rattle.opl_types.specs.Expressions as expressions;
@@ -8,7 +8,7 @@ ghost use Rattle.opl_types.specs.Forms.{form_add, form_keyed, forms_of, pairs_of
 ghost use Rattle.opl_types.specs.Scope as scope;
 ghost use Rattle.opl_types.specs.Steps.{front, behind};
 ghost use Rattle.opl_types.specs.Types.{sort};
-ghost use Rattle.opl_types.specs.Values.{Gives, field_of, scope_of, within};
+ghost use Rattle.opl_types.specs.Values.{Does, Gives, field_of, scope_of, within};
 
 use crate::expression::{add, set};
 use crate::fault::TypeFault;
@@ -86,6 +86,15 @@ fn or_anything(element: Option<Ty>) -> Ty
     }
 }
 
+/// Keeps the index of a dimension, and the types of its expressions.
+fn keep_index(found: &mut Dimensions, element: Ty, kinds: Seq<Ty>) -> Result<(), TypeFault>
+    ensures { Does (λ u. found.new ≡ record { indices = found.old.indices ++ element ∷ []; names = found.old.names; kinds = found.old.kinds ++ kinds }) result }
+{
+    found.indices.push(element)?;
+    append(&mut found.kinds, kinds)?;
+    Ok(())
+}
+
 /// Keeps a dimension behind those before it.
 #[tactic(auto, using(crate::proofs::Declared::dimensions_kept))]
 fn keep_dimension(
@@ -96,15 +105,20 @@ fn keep_dimension(
     element: Ty,
     kinds: Seq<Ty>,
 ) -> Result<(), TypeFault>
-    ensures { Gives (λ u. step.seen_in model.now found.new) (Ok (step.seen_more name.now (sort element) (map sort kinds) (step.seen_in model.now found.old))) result }
+    ensures { Does (λ u. step.seen_in model.now found.new ≡ step.seen_more name.now (sort element) (map sort kinds) (step.seen_in model.now found.old)) result }
 {
-    if let Some(name) = name {
-        let ty = element.copy(alloc)?;
-        add_local(alloc, &mut found.names, name.text.as_slice(), ty)?;
+    match name {
+        None => {
+            keep_index(found, element, kinds)?;
+            Ok(())
+        }
+        Some(name) => {
+            let ty = element.copy(alloc)?;
+            add_local(alloc, &mut found.names, name.text.as_slice(), ty)?;
+            keep_index(found, element, kinds)?;
+            Ok(())
+        }
     }
-    found.indices.push(element)?;
-    append(&mut found.kinds, kinds)?;
-    Ok(())
 }
 
 /// A dimension behind those before it. Its set sees none of their names.
@@ -120,7 +134,9 @@ fn add_dimension(
     fresh_name(model, found.names.as_slice(), &t.name)?;
     let Range { nodes, element } = set(alloc, model, &[], &t.set)?;
     let kinds = kinds_in(alloc, nodes)?;
-    keep_dimension(alloc, model, found, &t.name, or_anything(element), kinds)
+    let element = or_anything(element);
+    keep_dimension(alloc, model, found, &t.name, element, kinds)?;
+    Ok(())
 }
 
 /// Dimensions behind those before them.
@@ -180,6 +196,31 @@ fn shaped(alloc: Global, indices: &[Ty], element: &Ty) -> Result<Ty, TypeFault>
     }
 }
 
+/// Whether a value of the type `have` may stand where `want` is declared, also among these parameters.
+fn fits_within(model: &Names<'_>, locals: &[Local], have: &Ty, want: &Ty) -> bool
+    ensures { result ≡ scope.fits_in (within model.now locals.now) (sort want.now) (sort have.now) }
+{
+    fits(model, have, want)
+}
+
+/// Data of a type.
+fn data_of(
+    alloc: Global,
+    model: &Names<'_>,
+    locals: &[Local],
+    want: &Ty,
+    t: &AddTree,
+    kinds: &mut Seq<Ty>,
+) -> Result<(), TypeFault>
+    ensures { Gives (λ u. map sort kinds.new) (front (map sort kinds.old) (step.plain_value (within model.now locals.now) (sort want.now) [] (form_add t.now))) result }
+{
+    let node = add(alloc, model, locals, t)?;
+    let is_taken = fits_within(model, locals, &node.ty, want);
+    let node = node.settled(Need::DataAlone, is_taken)?;
+    add_kinds(kinds, node)?;
+    Ok(())
+}
+
 /// An initial value that is no array of cells.
 fn plain_value(
     alloc: Global,
@@ -193,28 +234,7 @@ fn plain_value(
     ensures { Gives (λ u. map sort kinds.new) (front (map sort kinds.old) (step.plain_value (within model.now locals.now) (sort element.now) (map sort indices.now) (form_add t.now))) result }
 {
     let want = shaped(alloc, indices, element)?;
-    let node = add(alloc, model, locals, t)?;
-    let is_taken = fits(model, &node.ty, &want);
-    let node = node.settled(Need::DataAlone, is_taken)?;
-    add_kinds(kinds, node)?;
-    Ok(())
-}
-
-/// A key, which is an index.
-fn key(
-    alloc: Global,
-    model: &Names<'_>,
-    locals: &[Local],
-    index: &Ty,
-    t: &AddTree,
-    kinds: &mut Seq<Ty>,
-) -> Result<(), TypeFault>
-    ensures { Gives (λ u. map sort kinds.new) (front (map sort kinds.old) (step.plain_value (within model.now locals.now) (sort index.now) [] (form_add t.now))) result }
-{
-    let node = add(alloc, model, locals, t)?;
-    let is_taken = fits(model, &node.ty, index);
-    let node = node.settled(Need::DataAlone, is_taken)?;
-    add_kinds(kinds, node)?;
+    data_of(alloc, model, locals, &want, t, kinds)?;
     Ok(())
 }
 
@@ -233,23 +253,28 @@ fn initial(
     ensures { Gives (λ u. map sort kinds.new) (front (map sort kinds.old) (spec.initial (within model.now locals.now) (sort element.now) (map sort indices.now) (form_add t.now))) result }
 {
     let Some((first, rest)) = indices.split_first() else {
-        return plain_value(alloc, model, locals, element, indices, t, kinds);
+        plain_value(alloc, model, locals, element, indices, t, kinds)?;
+        return Ok(());
     };
     match cells_of(t) {
         Cells::Listed(cells) => {
             kinds.push(shaped(alloc, indices, element)?)?;
-            initial_cells(alloc, model, locals, element, rest, cells, kinds)
+            initial_cells(alloc, model, locals, element, rest, cells, kinds)?;
+            Ok(())
         }
         Cells::Keyed(cells) => {
             kinds.push(shaped(alloc, indices, element)?)?;
-            initial_pairs(alloc, model, locals, element, first, rest, cells, kinds)
+            initial_pairs(alloc, model, locals, element, first, rest, cells, kinds)?;
+            Ok(())
         }
-        Cells::Other => plain_value(alloc, model, locals, element, indices, t, kinds),
+        Cells::Other => {
+            plain_value(alloc, model, locals, element, indices, t, kinds)?;
+            Ok(())
+        }
     }
 }
 
 /// The cells of an array, each with these indices.
-#[tactic(auto, using(crate::proofs::Declared::initial_values))]
 #[cycle(initials)]
 fn initial_cells(
     alloc: Global,
@@ -260,7 +285,7 @@ fn initial_cells(
     cells: &[AddTree],
     kinds: &mut Seq<Ty>,
 ) -> Result<(), TypeFault>
-    ensures { Gives (λ u. map sort kinds.new) (front (map sort kinds.old) (spec.initial_cells (within model.now locals.now) (sort element.now) (map sort indices.now) (forms_of (map form_add cells.now)))) result }
+    ensures { Gives (λ u. map sort kinds.new) (step.cells_behind (map sort kinds.old) (within model.now locals.now) (sort element.now) (map sort indices.now) (forms_of (map form_add cells.now))) result }
 {
     for cell in cells {
         initial(alloc, model, locals, element, indices, cell, kinds)?;
@@ -269,7 +294,7 @@ fn initial_cells(
 }
 
 /// The cells of an array with their keys, each with these indices.
-#[tactic(auto, using(crate::proofs::Declared::initial_values))]
+#[tactic(auto, using(crate::proofs::Forms::keyed_forms))]
 #[cycle(initials)]
 fn initial_pairs(
     alloc: Global,
@@ -281,10 +306,10 @@ fn initial_pairs(
     cells: &[KeyedTree],
     kinds: &mut Seq<Ty>,
 ) -> Result<(), TypeFault>
-    ensures { Gives (λ u. map sort kinds.new) (front (map sort kinds.old) (spec.initial_pairs (within model.now locals.now) (sort element.now) (sort index.now) (map sort indices.now) (pairs_of (map form_keyed cells.now)))) result }
+    ensures { Gives (λ u. map sort kinds.new) (step.pairs_behind (map sort kinds.old) (within model.now locals.now) (sort element.now) (sort index.now) (map sort indices.now) (pairs_of (map form_keyed cells.now))) result }
 {
     for cell in cells {
-        key(alloc, model, locals, index, &cell.key, kinds)?;
+        data_of(alloc, model, locals, index, &cell.key, kinds)?;
         initial(alloc, model, locals, element, indices, &cell.value, kinds)?;
     }
     Ok(())
@@ -353,7 +378,8 @@ fn initial_value(
     match t {
         InitialTree::Written(value) => {
             let indices = cell_indices(names, indices);
-            initial(alloc, model, names, element, indices, value, kinds)
+            initial(alloc, model, names, element, indices, value, kinds)?;
+            Ok(())
         }
         InitialTree::External(_) => Ok(()),
     }
@@ -556,7 +582,7 @@ fn variable<'a>(
 }
 
 /// `Activity NAME [DIMS] (ADD..ADD);`
-#[tactic(auto, using(crate::proofs::Declared::names_within))]
+#[tactic(auto, using(crate::proofs::Declared::names_within, crate::proofs::Sorts::sorts))]
 fn activity<'a>(
     alloc: Global,
     model: &mut Names<'a>,
@@ -580,7 +606,7 @@ fn activity<'a>(
 }
 
 /// `UnaryResource NAME [DIMS];`
-#[tactic(auto, using(crate::proofs::Declared::names_within))]
+#[tactic(auto, using(crate::proofs::Declared::names_within, crate::proofs::Sorts::sorts))]
 fn unary<'a>(
     alloc: Global,
     model: &mut Names<'a>,
@@ -602,7 +628,7 @@ fn unary<'a>(
 }
 
 /// `DiscreteResource NAME [DIMS] (ADD);`
-#[tactic(auto, using(crate::proofs::Declared::names_within))]
+#[tactic(auto, using(crate::proofs::Declared::names_within, crate::proofs::Sorts::sorts))]
 fn discrete<'a>(
     alloc: Global,
     model: &mut Names<'a>,
@@ -676,20 +702,65 @@ fn decl<'a>(
     ensures { Gives (λ u. record { scope = scope_of model.new; kinds = map sort kinds.new }) (behind (map sort kinds.old) (spec.decl number (scope_of model.old) t.now)) result }
 {
     match t {
-        DeclTree::Data(t) => data(alloc, model, t, kinds),
-        DeclTree::Range(t) => range(alloc, model, t, kinds),
-        DeclTree::Enumeration(t) => enumeration(alloc, model, number, t),
-        DeclTree::Structure(t) => structure(alloc, model, number, t),
-        DeclTree::Variable(t) => variable(alloc, model, t, kinds),
-        DeclTree::Activity(t) => activity(alloc, model, t, kinds),
-        DeclTree::Unary(t) => unary(alloc, model, t, kinds),
-        DeclTree::Discrete(t) => discrete(alloc, model, t, kinds),
-        DeclTree::Schedule(t) => schedule(alloc, model, t, kinds),
+        DeclTree::Data(t) => {
+            data(alloc, model, t, kinds)?;
+            Ok(())
+        }
+        DeclTree::Range(t) => {
+            range(alloc, model, t, kinds)?;
+            Ok(())
+        }
+        DeclTree::Enumeration(t) => {
+            enumeration(alloc, model, number, t)?;
+            Ok(())
+        }
+        DeclTree::Structure(t) => {
+            structure(alloc, model, number, t)?;
+            Ok(())
+        }
+        DeclTree::Variable(t) => {
+            variable(alloc, model, t, kinds)?;
+            Ok(())
+        }
+        DeclTree::Activity(t) => {
+            activity(alloc, model, t, kinds)?;
+            Ok(())
+        }
+        DeclTree::Unary(t) => {
+            unary(alloc, model, t, kinds)?;
+            Ok(())
+        }
+        DeclTree::Discrete(t) => {
+            discrete(alloc, model, t, kinds)?;
+            Ok(())
+        }
+        DeclTree::Schedule(t) => {
+            schedule(alloc, model, t, kinds)?;
+            Ok(())
+        }
     }
 }
 
+/// Declarations behind others, in their order, from that number on.
+fn add_decls<'a>(
+    alloc: Global,
+    model: &mut Names<'a>,
+    first: u32,
+    decls: &'a [DeclTree],
+    kinds: &mut Seq<Ty>,
+) -> Result<(), TypeFault>
+    ensures { Gives (λ u. record { scope = scope_of model.new; kinds = map sort kinds.new }) (step.decls_behind first (map sort kinds.old) (scope_of model.old) decls.now) result }
+{
+    let mut number = first;
+    for t in decls {
+        decl(alloc, model, number, t, kinds)?;
+        number = number.saturating_add(1);
+    }
+    Ok(())
+}
+
 /// All declarations, in their order.
-#[tactic(auto, using(crate::proofs::Declared::declarations))]
+#[tactic(auto, using(crate::proofs::Declared::all_declarations))]
 pub(crate) fn all_decls<'a>(
     alloc: Global,
     model: &mut Names<'a>,
@@ -698,10 +769,6 @@ pub(crate) fn all_decls<'a>(
 ) -> Result<(), TypeFault>
     ensures { Gives (λ u. record { scope = scope_of model.new; kinds = map sort kinds.new }) (behind (map sort kinds.old) (spec.all_decls 0 (scope_of model.old) decls.now)) result }
 {
-    let mut number: u32 = 0;
-    for t in decls {
-        decl(alloc, model, number, t, kinds)?;
-        number = number.saturating_add(1);
-    }
+    add_decls(alloc, model, 0, decls, kinds)?;
     Ok(())
 }

@@ -3,7 +3,10 @@ ghost use Rattle.std.specs.Prelude.{◌≡◌};
 ghost use Rattle.opl_types.specs.DeclarationSteps as step;
 ghost use Rattle.opl_types.specs.Forms.{form_add, form_mul, form_open, form_post, form_prim, form_sign};
 
-use opl_tree::{AddTree, KeyedTree, MulTree, OpenTree, PostTree, PrimTree, SignTree};
+use opl_tree::{
+    AddStep, AddTree, KeyedTree, LastStep, MulStep, MulTree, OpenTree, PostTree, PrimTree, SignTree,
+    SuffixTree,
+};
 
 /// The cells of an array.
 pub(crate) enum Cells<'a> {
@@ -35,15 +38,22 @@ fn cells_of_prim(t: &PrimTree) -> Cells<'_>
     }
 }
 
+/// The same of one with suffixes.
+fn cells_of_suffixed<'a>(t: &'a PrimTree, suffixes: &[SuffixTree]) -> Cells<'a>
+    ensures { step.held_in result ≡ step.alone (form_prim t.now) suffixes.now }
+{
+    match suffixes.split_first() {
+        Some(_) => Cells::Other,
+        None => cells_of_prim(t),
+    }
+}
+
 /// The same of one with its suffixes.
 #[tactic(auto, using(crate::proofs::ArrayCells::posts))]
 fn cells_of_post(t: &PostTree) -> Cells<'_>
     ensures { step.held_in result ≡ step.held (form_post t.now) }
 {
-    match t.suffixes.as_slice().split_first() {
-        Some(_) => Cells::Other,
-        None => cells_of_prim(&t.prim),
-    }
+    cells_of_suffixed(&t.prim, t.suffixes.as_slice())
 }
 
 /// The same of one with its sign.
@@ -68,17 +78,40 @@ fn cells_of_open(t: &OpenTree) -> Cells<'_>
 }
 
 /// The same of a product.
+fn cells_of_product<'a>(
+    head: &'a SignTree,
+    steps: &[MulStep],
+    last: &Option<LastStep>,
+) -> Cells<'a>
+    ensures { step.held_in result ≡ step.alone_or (form_sign head.now) steps.now last.now }
+{
+    match steps.split_first() {
+        Some(_) => Cells::Other,
+        None => match last {
+            Some(_) => Cells::Other,
+            None => cells_of_sign(head),
+        },
+    }
+}
+
+/// The same of one operand of a sum.
 #[tactic(auto, using(crate::proofs::ArrayCells::muls_held))]
 fn cells_of_mul(t: &MulTree) -> Cells<'_>
     ensures { step.held_in result ≡ step.held (form_mul t.now) }
 {
     match t {
         MulTree::Opened(inner) => cells_of_open(inner),
-        MulTree::Product(_, _, _, Some(_)) => Cells::Other,
-        MulTree::Product(_, head, steps, None) => match steps.as_slice().split_first() {
-            Some(_) => Cells::Other,
-            None => cells_of_sign(head),
-        },
+        MulTree::Product(_, head, steps, last) => cells_of_product(head, steps.as_slice(), last),
+    }
+}
+
+/// The same of a sum.
+fn cells_of_sum<'a>(first: &'a MulTree, rest: &[AddStep]) -> Cells<'a>
+    ensures { step.held_in result ≡ step.alone (form_mul first.now) rest.now }
+{
+    match rest.split_first() {
+        Some(_) => Cells::Other,
+        None => cells_of_mul(first),
     }
 }
 
@@ -87,8 +120,5 @@ fn cells_of_mul(t: &MulTree) -> Cells<'_>
 pub(crate) fn cells_of(t: &AddTree) -> Cells<'_>
     ensures { step.held_in result ≡ step.held (form_add t.now) }
 {
-    match t.rest.as_slice().split_first() {
-        Some(_) => Cells::Other,
-        None => cells_of_mul(&t.first),
-    }
+    cells_of_sum(&t.first, t.rest.as_slice())
 }

@@ -1,7 +1,6 @@
 use Rattle.std.proofs.Common.{◌≡◌, ◌+◌, ◌*◌, length, map, drop}
-use Rattle.opl_types.specs.Declarations.{initial_cells, initial_pairs}
+use Rattle.opl_types.specs.DeclarationSteps.{cells_behind, pairs_behind}
 use Rattle.opl_types.specs.Forms.{form_add, form_keyed, forms_of, pairs_of}
-use Rattle.opl_types.specs.Steps.{front}
 use Rattle.opl_types.specs.Types.{sort}
 use Rattle.opl_types.specs.Values.{within}
 use Rattle.opl_types.proofs.declaration.+initials.Given as goal
@@ -18,10 +17,10 @@ decreases-initial_pairs l = 2 * length l.indices.now + 1
 
 abbrev pub invariant-initial_cells-loop-cell : goal.invariant-initial_cells-loop-cell
 invariant-initial_cells-loop-cell l =
-    front (map sort l.fn.kinds) (initial_cells (within l.model l.locals) (sort l.element) (map sort l.indices) (forms_of (map form_add l.cells)))
-    ≡ front (map sort l.kinds) (initial_cells (within l.model l.locals) (sort l.element) (map sort l.indices) (forms_of (map form_add (drop l.cell-index l.cells))))
+    cells_behind (map sort l.fn.kinds) (within l.model l.locals) (sort l.element) (map sort l.indices) (forms_of (map form_add l.cells))
+    ≡ cells_behind (map sort l.kinds) (within l.model l.locals) (sort l.element) (map sort l.indices) (forms_of (map form_add (drop l.cell-index l.cells)))
 
 abbrev pub invariant-initial_pairs-loop-cell : goal.invariant-initial_pairs-loop-cell
 invariant-initial_pairs-loop-cell l =
-    front (map sort l.fn.kinds) (initial_pairs (within l.model l.locals) (sort l.element) (sort l.index) (map sort l.indices) (pairs_of (map form_keyed l.cells)))
-    ≡ front (map sort l.kinds) (initial_pairs (within l.model l.locals) (sort l.element) (sort l.index) (map sort l.indices) (pairs_of (map form_keyed (drop l.cell-index l.cells))))
+    pairs_behind (map sort l.fn.kinds) (within l.model l.locals) (sort l.element) (sort l.index) (map sort l.indices) (pairs_of (map form_keyed l.cells))
+    ≡ pairs_behind (map sort l.kinds) (within l.model l.locals) (sort l.element) (sort l.index) (map sort l.indices) (pairs_of (map form_keyed (drop l.cell-index l.cells)))
