@@ -1,5 +1,5 @@
 -- Declarations, and the steps in which the program goes through them, come to the same.
-use Rattle.std.proofs.Common.{◌≡◌, ℕ, Bool, true, false, cond, not, ◌||◌, List, [], ◌∷◌, ◌++◌, map, is_some, Option, None, Some, Ok, Err, refl, ap, sym, ◌∙◌, subst, append_assoc, append-nil}
+use Rattle.std.proofs.Common.{arith, length, ◌≡◌, ℕ, Bool, true, false, cond, not, ◌||◌, List, [], ◌∷◌, ◌++◌, map, is_some, Option, None, Some, Ok, Err, refl, ap, sym, ◌∙◌, subst, append_assoc, append-nil}
 use Rattle.std.specs.Str.{bytes_eq}
 use Rattle.opl_tree.specs.declared.declaration.ActivityTree.{ActivityTree}
 use Rattle.opl_tree.specs.declared.declaration.BoundsTree.{BoundsTree}
@@ -23,7 +23,10 @@ use Rattle.opl_tree.specs.declared.declaration.TypeTree.TheFolds.{fold-roll-Type
 use Rattle.opl_tree.specs.declared.declaration.UnaryTree.{UnaryTree}
 use Rattle.opl_tree.specs.declared.declaration.VariableTree.{VariableTree}
 use Rattle.opl_tree.specs.declared.expression.AddTree.{AddTree}
+use Rattle.opl_tree.specs.declared.expression.CompareTree.TheViews.{out-KeyedTree}
+use Rattle.opl_tree.specs.declared.expression.KeyedTree.{KeyedTree}
 use Rattle.opl_tree.specs.declared.expression.NameTree.{NameTree}
+use Rattle.opl_types.specs.declared.fault.TypeFault.{TypeFault}
 use Rattle.opl_types.specs.declared.fault.TypeFault.TheVariants.{Duplicate, Mismatch}
 use Rattle.opl_types.specs.declared.kind.Ty.{Ty}
 use Rattle.opl_types.specs.declared.names.Entry.{Entry}
@@ -33,7 +36,7 @@ use Rattle.opl_types.specs.Types.{Sort, fits, is_set, sort, sorts_of}
 use Rattle.opl_types.specs.Types.Sort.{int, set, array, activity, unary, discrete, anything}
 use Rattle.opl_types.specs.Scope.{Checked, ◌>>=◌, ◌>>◌, and_then, unless, Text, Thing, Scope, Field, lookup, is_visible, declared, empty_scope, fresh, all_fresh, field_sort, field_sorts, fields, fits_in, with_values}
 use Rattle.opl_types.specs.Scope.Thing.{range, enum_type, enum_name, struct_type, value, variable, activities, resource}
-use Rattle.opl_types.specs.Forms.{Form, Forms, Pairs, form_add, form_set}
+use Rattle.opl_types.specs.Forms.{Form, Forms, Pair, Pairs, form_add, form_keyed, form_set, pairs_of}
 use Rattle.opl_types.specs.Forms.Form.{number, named, bracket, negative, arithmetic, absolute, related, member, connected, aggregate, cardinality, all_different, subscripted, field, tuple, listed, described, cells, keyed_cells, question}
 use Rattle.opl_types.specs.Forms.Forms.{no_forms, more_forms}
 use Rattle.opl_types.specs.Forms.Pairs.{no_pairs, more_pairs}
@@ -41,14 +44,19 @@ use Rattle.opl_types.specs.Expressions.{Opened, Node, Range, kinds, kinds_in, ty
 use Rattle.opl_types.specs.Expressions.Need.{data_alone}
 use Rattle.opl_types.specs.Declarations.{Dimensions, Shape, no_dimensions, dimensions, with_dimension, fresh_in, all_dims, cell_indices, cells_left, enum_names, with_names, enum_decl, field_list, struct_decl, initial, initial_cells, initial_kinds, initial_pairs, is_decidable, is_given, given, makes, maybe_number, named_type, number_kinds, bounds_kinds, shape, shaped, variable_type, written_type, data_decl, range_decl, variable_decl, activity_decl, unary_decl, discrete_decl, schedule_decl, decl, all_decls, next}
 use Rattle.opl_types.specs.Steps.{front, behind}
-use Rattle.opl_types.specs.DeclarationSteps.{Seen, fresh_name, seen_more, see_one, see_each, nothing_seen, seen, cells_seen, is_any, front_numbers, front_number, front_bounds, front_initial, data_behind, range_behind, variable_behind, activity_behind, unary_behind, discrete_behind, schedule_behind, name_one, name_each, enum_steps, field_one, field_each, struct_steps, Held, held, initial_by, plain_value, cells_behind, pairs_behind, decls_behind}
-use Rattle.opl_types.specs.Values.{scope_of, within, with_entries, with_locals, thing_of}
+use Rattle.opl_types.specs.DeclarationSteps.{Seen, fresh_name, seen_more, see_one, see_each, nothing_seen, seen, cells_seen, is_any, front_numbers, front_number, front_bounds, front_initial, data_behind, range_behind, variable_behind, activity_behind, unary_behind, discrete_behind, schedule_behind, name_one, name_each, enum_steps, field_one, field_each, struct_steps, Held, held, initial_by, plain_value, cells_behind, pair_behind, pairs_behind, decls_behind}
+use Rattle.opl_types.proofs.Forms.{form_keyed-is}
+use Rattle.opl_types.specs.Values.{Gives, scope_of, within, with_entries, with_locals, thing_of}
 
 -- ---- one check behind another
 
 under : {A B : Type 0} (c : Checked A) (f g : A → Checked B) → ((a : A) → f a ≡ g a) → and_then c f ≡ and_then c g
 under (Ok a) f g h = h a
 under (Err e) f g h = refl
+
+-- equal checks have the same fault
+pub same-fault : {A : Type 0} (c d : Checked A) (e : TypeFault) → c ≡ d → Gives {A = A} {B = A} (λ a. a) c (Err e) → Gives {A = A} {B = A} (λ a. a) d (Err e)
+same-fault c d e p h = subst (λ x. Gives (λ a. a) x (Err e)) p h
 
 front-none : (ks : List Sort) → Ok ks ≡ front ks (Ok [])
 front-none ks = ap Ok (sym (append-nil ks))
@@ -606,9 +614,9 @@ initial-single sc s (cells a b) = refl
 initial-single sc s (keyed_cells a b) = refl
 initial-single sc s (question a b c) = refl
 
-pub single-behind : (ks : List Sort) (sc : Scope) (s : Sort) (is : List Ty) (f : Form) → is ≡ [] → front ks (initial sc s (map sort is) f) ≡ front ks (plain_value sc s (map sort is) f)
-single-behind ks sc s is f h =
-    ap (λ js. front ks (initial sc s (map sort js) f)) h ∙ ap (front ks) (initial-single sc s f) ∙ ap (λ js. front ks (plain_value sc s (map sort js) f)) (sym h)
+pub single-behind : (ks : List Sort) (sc : Scope) (s : Sort) (is : List Ty) (f : Form) → length is ≡ 0 → front ks (initial sc s (map sort is) f) ≡ front ks (plain_value sc s (map sort is) f)
+single-behind ks sc s [] f h = ap (front ks) (initial-single sc s f)
+single-behind ks sc s (i ∷ is) f h = absurd (omega arith)
 
 front-first : (ks : List Sort) (s : Sort) (c : Checked (List Sort)) → front ks (and_then c (λ inner. Ok (s ∷ inner))) ≡ front (ks ++ s ∷ []) c
 front-first ks s (Err e) = refl
@@ -650,14 +658,16 @@ cells-behind sc s is (more_forms f fs) ks =
     cells-next ks sc s is f fs
     ∙ under (front ks (initial sc s is f)) (λ more. front more (initial_cells sc s is fs)) (λ more. cells_behind more sc s is fs) (λ more. cells-behind sc s is fs more)
 
-pairs-behind : (sc : Scope) (s i : Sort) (is : List Sort) (ps : Pairs) (ks : List Sort) → front ks (initial_pairs sc s i is ps) ≡ pairs_behind ks sc s i is ps
-pairs-behind sc s i is no_pairs ks = pairs-none ks sc s i is
-pairs-behind sc s i is (more_pairs key cell others) ks =
-    pairs-next ks sc s i is key cell others
-    ∙ under (front ks (plain_value sc i [] key))
-        (λ a. and_then (front a (initial sc s is cell)) (λ b. front b (initial_pairs sc s i is others)))
-        (λ a. and_then (front a (initial sc s is cell)) (λ b. pairs_behind b sc s i is others))
-        (λ a. under (front a (initial sc s is cell)) (λ b. front b (initial_pairs sc s i is others)) (λ b. pairs_behind b sc s i is others) (λ b. pairs-behind sc s i is others b))
+after : {A B C : Type 0} (c : Checked A) (f : A → Checked B) (g : B → Checked C) → and_then (and_then c f) g ≡ and_then c (λ a. and_then (f a) g)
+after (Ok a) f g = refl
+after (Err e) f g = refl
+
+pairs-behind : (sc : Scope) (s i : Sort) (is : List Sort) (ps : List Pair) (ks : List Sort) → front ks (initial_pairs sc s i is (pairs_of ps)) ≡ pairs_behind ks sc s i is ps
+pairs-behind sc s i is [] ks = pairs-none ks sc s i is
+pairs-behind sc s i is (p ∷ ps) ks =
+    pairs-next ks sc s i is p.key p.cell (pairs_of ps)
+    ∙ sym (after (front ks (plain_value sc i [] p.key)) (λ a. front a (initial sc s is p.cell)) (λ b. front b (initial_pairs sc s i is (pairs_of ps))))
+    ∙ under (pair_behind ks sc s i is p) (λ b. front b (initial_pairs sc s i is (pairs_of ps))) (λ b. pairs_behind b sc s i is ps) (λ b. pairs-behind sc s i is ps b)
 
 pub initial-listed : (ks : List Sort) (sc : Scope) (s i : Sort) (is : List Sort) (f : Form) (fs : Forms) → held f ≡ Held.listed fs →
     front ks (initial sc s (i ∷ is) f) ≡ cells_behind (ks ++ shaped (i ∷ is) s ∷ []) sc s is fs
@@ -665,11 +675,19 @@ initial-listed ks sc s i is f fs h =
     ap (front ks) (initial-held sc s i is f ∙ ap (λ g. initial_by g sc s i is f) h) ∙ front-first ks (shaped (i ∷ is) s) (initial_cells sc s is fs)
     ∙ cells-behind sc s is fs (ks ++ shaped (i ∷ is) s ∷ [])
 
-pub initial-keyed : (ks : List Sort) (sc : Scope) (s i : Sort) (is : List Sort) (f : Form) (ps : Pairs) → held f ≡ Held.keyed ps →
+pub initial-keyed : (ks : List Sort) (sc : Scope) (s i : Sort) (is : List Sort) (f : Form) (ps : List Pair) → held f ≡ Held.keyed (pairs_of ps) →
     front ks (initial sc s (i ∷ is) f) ≡ pairs_behind (ks ++ shaped (i ∷ is) s ∷ []) sc s i is ps
 initial-keyed ks sc s i is f ps h =
-    ap (front ks) (initial-held sc s i is f ∙ ap (λ g. initial_by g sc s i is f) h) ∙ front-first ks (shaped (i ∷ is) s) (initial_pairs sc s i is ps)
+    ap (front ks) (initial-held sc s i is f ∙ ap (λ g. initial_by g sc s i is f) h) ∙ front-first ks (shaped (i ∷ is) s) (initial_pairs sc s i is (pairs_of ps))
     ∙ pairs-behind sc s i is ps (ks ++ shaped (i ∷ is) s ∷ [])
+
+pub keyed-key : (t : KeyedTree) → (form_keyed t).key ≡ form_add (out-KeyedTree t).key
+keyed-key t = ap (λ p. p.key) (form_keyed-is t)
+
+pub keyed-cell : (t : KeyedTree) → (form_keyed t).cell ≡ form_add (out-KeyedTree t).value
+keyed-cell t = ap (λ p. p.cell) (form_keyed-is t)
+
+pub ruleset keyed_parts = (keyed-key, keyed-cell)
 
 pub ruleset initial_values = (single-behind, initial-listed, initial-keyed, initial-other, sorts-last)
 

@@ -27,10 +27,9 @@ use Rattle.opl_types.specs.Types.{Sort, is_set, sort}
 use Rattle.opl_types.specs.Types.Sort.{activity, unary, discrete}
 use Rattle.opl_types.specs.Scope.{Checked, ◌>>=◌, ◌>>◌, unless, Scope, Field, Text, lookup, declared, fresh, fits_in, field_sort}
 use Rattle.opl_types.specs.Scope.Thing.{range, enum_type, enum_name, struct_type, value, variable, activities, resource}
-use Rattle.opl_types.specs.Forms.{Form, Forms, Pairs, forms_of, pairs_of, form_add, form_keyed, form_set}
+use Rattle.opl_types.specs.Forms.{Form, Forms, Pair, Pairs, forms_of, pairs_of, form_add, form_keyed, form_set}
 use Rattle.opl_types.specs.Forms.Form.{cells, keyed_cells}
 use Rattle.opl_types.specs.Forms.Forms.{no_forms, more_forms}
-use Rattle.opl_types.specs.Forms.Pairs.{no_pairs, more_pairs}
 use Rattle.opl_types.specs.Expressions.{Opened, kinds, kinds_in, used, typing, typed_set, or_anything}
 use Rattle.opl_types.specs.Expressions.Need.{data_alone}
 use Rattle.opl_types.specs.Declarations.{all_dims, cell_indices, decl, enum_names, initial, initial_cells, initial_kinds, initial_pairs, is_decidable, is_given, given, makes, next, number_kinds, shape, shaped, variable_type, written_type}
@@ -87,12 +86,12 @@ cells_behind ks sc s is no_forms = Ok ks
 cells_behind ks sc s is (more_forms f fs) = front ks (initial sc s is f) >>= (λ more. cells_behind more sc s is fs)
 
 -- a key is data of the index, and of no array
-abbrev pub pairs_behind : List Sort → Scope → Sort → Sort → List Sort → Pairs → Checked (List Sort)
-pairs_behind ks sc s i is no_pairs = Ok ks
-pairs_behind ks sc s i is (more_pairs key cell others) = do
-  keys ← front ks (plain_value sc i [] key)
-  more ← front keys (initial sc s is cell)
-  pairs_behind more sc s i is others
+abbrev pub pair_behind : List Sort → Scope → Sort → Sort → List Sort → Pair → Checked (List Sort)
+pair_behind ks sc s i is p = front ks (plain_value sc i [] p.key) >>= (λ keys. front keys (initial sc s is p.cell))
+
+abbrev pub pairs_behind : List Sort → Scope → Sort → Sort → List Sort → List Pair → Checked (List Sort)
+pairs_behind ks sc s i is [] = Ok ks
+pairs_behind ks sc s i is (p ∷ ps) = pair_behind ks sc s i is p >>= (λ more. pairs_behind more sc s i is ps)
 
 -- ---- dimensions
 

@@ -4,7 +4,7 @@ ghost use Rattle.std.specs.Prelude.{◌≡◌, ◌++◌, ◌∷◌, [], Ok, is_s
 ghost use Rattle.opl_types.specs.Declarations as spec;
 ghost use Rattle.opl_types.specs.DeclarationSteps as step;
 ghost use Rattle.opl_types.specs.Expressions as expressions;
-ghost use Rattle.opl_types.specs.Forms.{form_add, form_keyed, forms_of, pairs_of};
+ghost use Rattle.opl_types.specs.Forms.{form_add, form_keyed, forms_of};
 ghost use Rattle.opl_types.specs.Scope as scope;
 ghost use Rattle.opl_types.specs.Steps.{front, behind};
 ghost use Rattle.opl_types.specs.Types.{sort};
@@ -252,25 +252,27 @@ fn initial(
 ) -> Result<(), TypeFault>
     ensures { Gives (λ u. map sort kinds.new) (front (map sort kinds.old) (spec.initial (within model.now locals.now) (sort element.now) (map sort indices.now) (form_add t.now))) result }
 {
-    let Some((first, rest)) = indices.split_first() else {
-        plain_value(alloc, model, locals, element, indices, t, kinds)?;
-        return Ok(());
-    };
-    match cells_of(t) {
-        Cells::Listed(cells) => {
-            kinds.push(shaped(alloc, indices, element)?)?;
-            initial_cells(alloc, model, locals, element, rest, cells, kinds)?;
-            Ok(())
-        }
-        Cells::Keyed(cells) => {
-            kinds.push(shaped(alloc, indices, element)?)?;
-            initial_pairs(alloc, model, locals, element, first, rest, cells, kinds)?;
-            Ok(())
-        }
-        Cells::Other => {
+    match indices.split_first() {
+        None => {
             plain_value(alloc, model, locals, element, indices, t, kinds)?;
             Ok(())
         }
+        Some((first, rest)) => match cells_of(t) {
+            Cells::Listed(cells) => {
+                kinds.push(shaped(alloc, indices, element)?)?;
+                initial_cells(alloc, model, locals, element, rest, cells, kinds)?;
+                Ok(())
+            }
+            Cells::Keyed(cells) => {
+                kinds.push(shaped(alloc, indices, element)?)?;
+                initial_pairs(alloc, model, locals, element, first, rest, cells, kinds)?;
+                Ok(())
+            }
+            Cells::Other => {
+                plain_value(alloc, model, locals, element, indices, t, kinds)?;
+                Ok(())
+            }
+        },
     }
 }
 
@@ -293,8 +295,27 @@ fn initial_cells(
     Ok(())
 }
 
+/// A cell of an array with its key.
+#[tactic(auto, using(crate::proofs::Declared::keyed_parts))]
+#[cycle(initials)]
+fn initial_pair(
+    alloc: Global,
+    model: &Names<'_>,
+    locals: &[Local],
+    element: &Ty,
+    index: &Ty,
+    indices: &[Ty],
+    t: &KeyedTree,
+    kinds: &mut Seq<Ty>,
+) -> Result<(), TypeFault>
+    ensures { Gives (λ u. map sort kinds.new) (step.pair_behind (map sort kinds.old) (within model.now locals.now) (sort element.now) (sort index.now) (map sort indices.now) (form_keyed t.now)) result }
+{
+    data_of(alloc, model, locals, index, &t.key, kinds)?;
+    initial(alloc, model, locals, element, indices, &t.value, kinds)?;
+    Ok(())
+}
+
 /// The cells of an array with their keys, each with these indices.
-#[tactic(auto, using(crate::proofs::Forms::keyed_forms))]
 #[cycle(initials)]
 fn initial_pairs(
     alloc: Global,
@@ -306,11 +327,10 @@ fn initial_pairs(
     cells: &[KeyedTree],
     kinds: &mut Seq<Ty>,
 ) -> Result<(), TypeFault>
-    ensures { Gives (λ u. map sort kinds.new) (step.pairs_behind (map sort kinds.old) (within model.now locals.now) (sort element.now) (sort index.now) (map sort indices.now) (pairs_of (map form_keyed cells.now))) result }
+    ensures { Gives (λ u. map sort kinds.new) (step.pairs_behind (map sort kinds.old) (within model.now locals.now) (sort element.now) (sort index.now) (map sort indices.now) (map form_keyed cells.now)) result }
 {
     for cell in cells {
-        data_of(alloc, model, locals, index, &cell.key, kinds)?;
-        initial(alloc, model, locals, element, indices, &cell.value, kinds)?;
+        initial_pair(alloc, model, locals, element, index, indices, cell, kinds)?;
     }
     Ok(())
 }
