@@ -7,3 +7,4 @@ pub mod Sorts
 pub mod Steps
 pub mod Joins
 pub mod Patterns
+pub mod Places

@@ -1,5 +1,5 @@
 -- What the program's values stand for in the definitions.
-use Rattle.std.specs.Prelude.{◌≡◌, ℕ, Bool, List, [], ◌∷◌, map, cond, nat_eq, Option, Some, None, Result, Ok, Err}
+use Rattle.std.specs.Prelude.{◌≡◌, ℕ, Bool, List, [], ◌∷◌, map, cond, nat_eq, Option, Some, Result, Ok, Err}
 use Rattle.std.specs.List.{list_any}
 use Rattle.std.specs.Option.{option_map}
 use Rattle.std.specs.Str.{bytes_eq}
@@ -18,7 +18,7 @@ use Rattle.opl_types.specs.declared.node.Node as nodes
 use Rattle.opl_types.specs.declared.expression.Opened as opened
 use Rattle.opl_types.specs.declared.rules.Range as ranges
 use Rattle.opl_types.specs.Types.{Sort, Sorts, sort, sorts_of}
-use Rattle.opl_types.specs.Scope.{Checked, Text, Field, Thing, Entry, Scope, declared, is_for}
+use Rattle.opl_types.specs.Scope.{Checked, Text, Field, Thing, Scope, declared, is_for}
 use Rattle.opl_types.specs.Scope.Thing.{range, enum_type, enum_name, struct_type, value, variable, activities, resource}
 use Rattle.opl_types.specs.Expressions.{Node, Need, Range, Opened}
 use Rattle.opl_types.specs.Expressions.Need.{nothing, data_alone, data_or_questions}
