@@ -1,4 +1,6 @@
+pub mod ArrayCells
 pub mod Chains
+pub mod Declared
 pub mod Examples
 pub mod Forms
 pub mod Inside

@@ -1,5 +1,5 @@
 -- The types of declarations: what each makes visible, and the types of its expressions.
-use Rattle.std.specs.Prelude.{ℕ, suc, Bool, true, ◌&&◌, not, List, [], ◌∷◌, ◌++◌, Option, Some, None, is_some, is_none, Ok, Err}
+use Rattle.std.specs.Prelude.{ℕ, ◌+◌, ◌-◌, ◌^◌, min, Bool, true, ◌&&◌, not, List, [], ◌∷◌, ◌++◌, Option, Some, None, is_some, is_none, Ok, Err}
 use Rattle.opl_tree.specs.declared.declaration.ActivityTree.{ActivityTree}
 use Rattle.opl_tree.specs.declared.declaration.BoundsTree.{BoundsTree}
 use Rattle.opl_tree.specs.declared.declaration.DataTree.{DataTree}
@@ -296,10 +296,14 @@ decl k sc (decls.Unary t) = unary_decl sc t
 decl k sc (decls.Discrete t) = discrete_decl sc t
 decl k sc (decls.Schedule t) = schedule_decl sc t
 
+-- the number of the declaration behind the one with number k; it stands still at 2^32 - 1
+abbrev pub next : ℕ → ℕ
+next k = min (k + 1) (2 ^ 32 - 1)
+
 -- declarations from number k on
 abbrev pub all_decls : ℕ → Scope → List DeclTree → Checked Opened
 all_decls k sc [] = Ok (record { scope = sc; kinds = [] })
 all_decls k sc (d ∷ ds) = do
   first ← decl k sc d
-  rest ← all_decls (suc k) first.scope ds
+  rest ← all_decls (next k) first.scope ds
   Ok (record { scope = rest.scope; kinds = first.kinds ++ rest.kinds })
