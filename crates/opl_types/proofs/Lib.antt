@@ -3,3 +3,10 @@ pub mod Forms
 pub mod Lookup
 pub mod Sorts
 pub mod Steps
+pub mod Items
+pub mod Resources
+pub mod Models
+pub mod Outcome
+pub mod Once
+pub mod ParamsOnce
+pub mod DeclsOnce
