@@ -10,3 +10,6 @@ pub mod Outcome
 pub mod Once
 pub mod ParamsOnce
 pub mod DeclsOnce
+pub mod Joins
+pub mod Patterns
+pub mod Places

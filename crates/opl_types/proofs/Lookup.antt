@@ -77,9 +77,15 @@ with-last : (es : List Entry) (e : Entry) (sc : Scope) → with_entries (es ++ e
 with-last [] e sc = refl
 with-last (x ∷ xs) e sc = with-last xs e (declared x.name (thing_of x.thing) sc)
 
-pub scope-declared : (n : Names) (e : Entry) → scope_of (record n { entries = n.entries ++ e ∷ [] }) ≡ declared e.name (thing_of e.thing) (scope_of n)
+pub scope-declared : (n m : Names) (e : Entry) → m.entries ≡ n.entries ++ e ∷ [] → m.is_search ≡ n.is_search → m.has_origin ≡ n.has_origin → m.has_horizon ≡ n.has_horizon →
+    scope_of m ≡ declared e.name (thing_of e.thing) (scope_of n)
 unfolding scope_of
-scope-declared n e = with-last n.entries e _
+scope-declared n m e h s o z =
+    ap (λ es. with_entries es (record { entries = []; is_search = m.is_search; has_origin = m.has_origin; has_horizon = m.has_horizon })) h
+    ∙ ap (λ b. with_entries (n.entries ++ e ∷ []) (record { entries = []; is_search = b; has_origin = m.has_origin; has_horizon = m.has_horizon })) s
+    ∙ ap (λ b. with_entries (n.entries ++ e ∷ []) (record { entries = []; is_search = n.is_search; has_origin = b; has_horizon = m.has_horizon })) o
+    ∙ ap (λ b. with_entries (n.entries ++ e ∷ []) (record { entries = []; is_search = n.is_search; has_origin = n.has_origin; has_horizon = b })) z
+    ∙ with-last n.entries e _
 
 -- what a parameter stands for, else what the name stands for outside
 abbrev inside : Option Ty → Option Thing → Option Thing
@@ -112,10 +118,4 @@ pub outside-within : (n : Names) (ls : List Local) (name : Text) → local_or No
 outside-within n ls name h = sym (lookup-within n ls name) ∙ ap (λ l. inside l (lookup (scope_of n) name)) h
 
 -- what is found
-pub ruleset names_found = (lookup-latest)
-
-pub ruleset fields_found = (fields-latest, field_sorts-latest)
-
-pub ruleset names_added = (scope-declared)
-
 pub ruleset locals_found = (visible-within, outside-within)

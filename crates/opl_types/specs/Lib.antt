@@ -2,6 +2,7 @@ pub mod Declarations
 pub mod Expressions
 pub mod Forms
 pub mod Models
+pub mod Places
 pub mod Scope
 pub mod Steps
 pub mod Types

@@ -1,14 +1,15 @@
 -- The rules as the program goes through them, one part after the other. The laws between these and the rules stand in proofs.
-use Rattle.std.specs.Prelude.{ℕ, List, [], ◌∷◌, ◌++◌, map, Ok, Err}
+use Rattle.std.specs.Prelude.{ℕ, Bool, true, false, List, [], ◌∷◌, ◌++◌, map, Option, Some, Ok}
 use Rattle.std.specs.List.{flat_map}
 use Rattle.opl_tree.specs.declared.expression.NameTree.{NameTree}
-use Rattle.opl_types.specs.Types.{Sort, is_set}
-use Rattle.opl_types.specs.Types.Sort.{anything}
-use Rattle.opl_types.specs.Scope.{Checked, ◌>>=◌, ◌>>◌, Scope, declared, fresh, all_fresh}
+use Rattle.opl_types.specs.declared.fault.TypeFault.TheVariants.{Unknown}
+use Rattle.opl_types.specs.Types.{Sort, Sorts, is_set, both}
+use Rattle.opl_types.specs.Types.Sort.{int, anything}
+use Rattle.opl_types.specs.Scope.{Checked, ◌>>=◌, ◌>>◌, unless, Scope, declared, fresh, all_fresh, with_values}
 use Rattle.opl_types.specs.Scope.Thing.{value}
 use Rattle.opl_types.specs.Forms.{Suffix, Group, forms_of}
 use Rattle.opl_types.specs.Forms.Suffix.{subscripts, field_of}
-use Rattle.opl_types.specs.Expressions.{Node, Opened, part, kinds_in, element_node, field_node, typed_parts, typed_set, pattern_names, bind_patterns, or_anything}
+use Rattle.opl_types.specs.Expressions.{Node, Opened, part, made, is_time, is_start_or_duration, kinds_in, element_node, field_node, typed_parts, typed_set, pattern_names, bind_patterns, or_anything}
 use Rattle.opl_types.specs.Expressions.Need.{data_alone}
 
 -- an expression with subscripts, or a field, behind it, and with several of them
@@ -50,3 +51,29 @@ abbrev pub behind : List Sort → Checked Opened → Checked Opened
 behind ks c = do
   o ← c
   Ok (record { scope = o.scope; kinds = ks ++ o.kinds })
+
+-- names of what may be anything
+abbrev pub unknown : List NameTree → Scope → Scope
+unknown ns sc = with_values ns (map (λ n. anything) ns) sc
+
+-- the names of a group
+abbrev pub group_names : Group → List NameTree
+group_names g = flat_map pattern_names g.patterns
+
+-- these types, and then the others, if there are such
+abbrev pub sorts_before : List Sort → Option Sorts → Option Sorts
+sorts_before [] o = o
+sorts_before (s ∷ ss) o = both (Some s) (sorts_before ss o)
+
+-- the same expression as one decision variable or not, and as a question
+abbrev pub with_one : Bool → Node → Node
+with_one b n = record n { is_one = b }
+
+abbrev pub asking : Node → Node
+asking n = record n { decides = false; asks = true }
+
+-- a time of an activity
+abbrev pub time_node : ℕ → Node → NameTree → Checked Node
+time_node at base name = do
+  unless (is_time name.text) (Unknown name.at)
+  Ok (with_one (is_start_or_duration name.text) (made at int (base ∷ []) true))

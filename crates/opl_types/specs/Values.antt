@@ -1,5 +1,6 @@
 -- What the program's values stand for in the definitions.
-use Rattle.std.specs.Prelude.{◌≡◌, ℕ, Bool, List, [], ◌∷◌, map, cond, nat_eq, Option, Some, None, Result, Ok, Err}
+use Rattle.std.specs.Prelude.{◌≡◌, ℕ, Bool, List, [], ◌∷◌, map, cond, nat_eq, Option, Some, Result, Ok, Err}
+use Rattle.std.specs.List.{list_any}
 use Rattle.std.specs.Option.{option_map}
 use Rattle.std.specs.Str.{bytes_eq}
 use Rattle.opl_types.specs.declared.fault.TypeFault.{TypeFault}
@@ -17,7 +18,7 @@ use Rattle.opl_types.specs.declared.node.Node as nodes
 use Rattle.opl_types.specs.declared.expression.Opened as opened
 use Rattle.opl_types.specs.declared.rules.Range as ranges
 use Rattle.opl_types.specs.Types.{Sort, Sorts, sort, sorts_of}
-use Rattle.opl_types.specs.Scope.{Checked, Text, Field, Thing, Entry, Scope, declared}
+use Rattle.opl_types.specs.Scope.{Checked, Text, Field, Thing, Scope, declared, is_for}
 use Rattle.opl_types.specs.Scope.Thing.{range, enum_type, enum_name, struct_type, value, variable, activities, resource}
 use Rattle.opl_types.specs.Expressions.{Node, Need, Range, Opened}
 use Rattle.opl_types.specs.Expressions.Need.{nothing, data_alone, data_or_questions}
@@ -30,6 +31,11 @@ Gives reading checked (Err (Unknown at)) = checked ≡ Err (Unknown at)
 Gives reading checked (Err (Duplicate at)) = checked ≡ Err (Duplicate at)
 Gives reading checked (Err (Mismatch at)) = checked ≡ Err (Mismatch at)
 Gives reading checked (Err (NotData at)) = checked ≡ Err (NotData at)
+
+-- what a function does that only memory can stop
+abbrev pub Does : {B : Type 0} → (B → Type 0) → Result B TypeFault → Type 0
+Does fact (Ok b) = fact b
+Does fact (Err e) = e ≡ OutOfMemory
 
 abbrev pub sorts_in : List Ty → Sorts
 sorts_in tys = sorts_of (map sort tys)
@@ -98,3 +104,7 @@ range_of r = record { nodes = map node_of r.nodes; element = option_map sort r.e
 
 abbrev pub opened_in : Names → opened.Opened → Opened
 opened_in n o = record { scope = within n o.locals; kinds = map sort o.kinds }
+
+-- one of these entries is that of a struct which both types fit
+abbrev pub fit_one_of : Scope → Sort → Sort → List entries.Entry → Bool
+fit_one_of sc a b es = list_any (λ e. is_for sc a b (thing_of e.thing)) es

@@ -544,7 +544,7 @@ fn described_set(
         }
         Err(TypeFault::OutOfMemory) => Err(TypeFault::OutOfMemory),
         Err(fault) => {
-            let unknown = unknown_params(alloc, locals, params)?;
+            let unknown = unknown_params(alloc, model, locals, params)?;
             add(alloc, model, unknown.as_slice(), value)?.part()?;
             Err(fault)
         }

@@ -6,12 +6,12 @@ ghost use Rattle.opl_types.specs.Scope as scope;
 ghost use Rattle.opl_types.specs.Types as spec;
 ghost use Rattle.opl_types.specs.Types.Sort.{anything};
 ghost use Rattle.opl_types.specs.Scope.{joined_in, field_sorts};
-ghost use Rattle.opl_types.specs.Values.{Gives, node_of, scope_of, sorts_in};
+ghost use Rattle.opl_types.specs.Values.{Gives, fit_one_of, node_of, scope_of, sorts_in, thing_of};
 
 use crate::fault::TypeFault;
 use crate::fit::fits;
 use crate::kind::Ty;
-use crate::names::{Names, Thing};
+use crate::names::{Entry, Names, Thing};
 use crate::node::Node;
 use opl_list::{Boxed, Seq};
 use opl_tree::Relation;
@@ -34,7 +34,12 @@ fn one_of(alloc: Global, model: &Names<'_>, a: &Ty, b: &Ty) -> Result<Option<Ty>
 /// The one type of two elements of a set.
 #[tactic(auto, using(crate::proofs::Sorts::sorts))]
 #[cycle(joined)]
-pub(crate) fn joined(alloc: Global, model: &Names<'_>, a: &Ty, b: &Ty) -> Result<Option<Ty>, TypeFault>
+pub(crate) fn joined(
+    alloc: Global,
+    model: &Names<'_>,
+    a: &Ty,
+    b: &Ty,
+) -> Result<Option<Ty>, TypeFault>
     ensures { Gives (option_map spec.sort) (Ok (joined_in (scope_of model.now) (spec.sort a.now) (spec.sort b.now))) result }
 {
     match a {
@@ -92,6 +97,7 @@ pub(crate) fn joined(alloc: Global, model: &Names<'_>, a: &Ty, b: &Ty) -> Result
 }
 
 /// The types of the parts of two rows, joined one by one; none where there are not as many on both sides.
+#[tactic(auto, using(crate::proofs::Joins::types_joined))]
 #[cycle(joined)]
 fn all_joined(
     alloc: Global,
@@ -120,7 +126,7 @@ fn all_joined(
 }
 
 /// The one type of the elements of a set, if they have one.
-#[tactic(auto, using(crate::proofs::Sorts::sorts))]
+#[tactic(auto, using(crate::proofs::Sorts::sorts, crate::proofs::Joins::types_joined))]
 pub(crate) fn element_type(
     alloc: Global,
     model: &Names<'_>,
@@ -172,18 +178,42 @@ pub(crate) fn are_related(model: &Names<'_>, relation: Relation, a: &Ty, b: &Ty)
     }
 }
 
-/// Whether there is a struct that both fit.
+/// Whether it is a struct that both fit.
 #[tactic(auto, using(crate::proofs::Sorts::sorts))]
-fn fit_one_struct(model: &Names<'_>, a: &Ty, b: &Ty) -> bool
-    ensures { result ≡ scope.fit_one_struct (scope_of model.now) (spec.sort a.now) (spec.sort b.now) }
+fn is_struct_of(model: &Names<'_>, a: &Ty, b: &Ty, thing: &Thing) -> bool
+    ensures { result ≡ scope.is_for (scope_of model.now) (spec.sort a.now) (spec.sort b.now) (thing_of thing.now) }
 {
-    for entry in model.entries.as_slice() {
-        if let Thing::StructType(k, _) = &entry.thing {
+    match thing {
+        Thing::StructType(k, _) => {
             let want = Ty::Record(*k);
-            if fits(model, a, &want) && fits(model, b, &want) {
-                return true;
-            }
+            fits(model, a, &want) && fits(model, b, &want)
+        }
+        Thing::Range
+        | Thing::EnumType(_)
+        | Thing::EnumName(_)
+        | Thing::Value(_)
+        | Thing::Variable(_)
+        | Thing::Activities(_)
+        | Thing::Resource(_) => false,
+    }
+}
+
+/// Whether one of the entries is a struct that both fit.
+fn fit_one_of(model: &Names<'_>, a: &Ty, b: &Ty, entries: &[Entry]) -> bool
+    ensures { result ≡ fit_one_of (scope_of model.now) (spec.sort a.now) (spec.sort b.now) entries.now }
+{
+    for entry in entries {
+        if is_struct_of(model, a, b, &entry.thing) {
+            return true;
         }
     }
     false
+}
+
+/// Whether there is a struct that both fit.
+#[tactic(auto, using(crate::proofs::Joins::structs_found))]
+fn fit_one_struct(model: &Names<'_>, a: &Ty, b: &Ty) -> bool
+    ensures { result ≡ scope.fit_one_struct (scope_of model.now) (spec.sort a.now) (spec.sort b.now) }
+{
+    fit_one_of(model, a, b, model.entries.as_slice())
 }

@@ -16,6 +16,7 @@ mod plain;
 mod rules;
 mod search;
 mod typed;
+mod visible;
 
 pub use fault::TypeFault;
 pub use kind::Ty;

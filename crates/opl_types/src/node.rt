@@ -1,6 +1,7 @@
 //! What is known of an expression, and what its place asks of it.
 ghost use Rattle.std.specs.Prelude.{◌≡◌};
 ghost use Rattle.opl_types.specs.Expressions as spec;
+ghost use Rattle.opl_types.specs.Steps as step;
 ghost use Rattle.opl_types.specs.Values.{Gives, node_of, need_of};
 
 use crate::fault::TypeFault;
@@ -91,6 +92,24 @@ impl Node {
     {
         Node {
             takes_data: true,
+            ..self
+        }
+    }
+
+    /// The same, as one decision variable or not.
+    pub(crate) fn with_one(self, is_one: bool) -> Node
+        ensures { node_of result ≡ step.with_one is_one (node_of self) }
+    {
+        Node { is_one, ..self }
+    }
+
+    /// The same, as a question.
+    pub(crate) fn asking(self) -> Node
+        ensures { node_of result ≡ step.asking (node_of self) }
+    {
+        Node {
+            decides: false,
+            asks: true,
             ..self
         }
     }

@@ -1,12 +1,13 @@
 //! The rules of the forms: what an expression is, once its parts are known.
-ghost use Rattle.std.specs.Prelude.{◌≡◌, ◌++◌, ◌∷◌, ◌&&◌, [], Some, Ok, true, false, IfOk, is_some, map};
+ghost use Rattle.std.specs.Prelude.{◌≡◌, ◌++◌, ◌∷◌, ◌&&◌, [], Some, Ok, true, false, is_some, map};
 ghost use Rattle.std.specs.List.{list_any, list_all};
 ghost use Rattle.std.specs.Option.{option_map};
 ghost use Rattle.opl_types.specs.Expressions as spec;
 ghost use Rattle.opl_types.specs.Scope.{lookup};
-ghost use Rattle.opl_types.specs.Types.{sort, sorts_of, is_number, is_truth, is_set, is_storable, is_array_of_single, elements};
-ghost use Rattle.opl_types.specs.Types.Sort.{int, bool, row, set, anything};
-ghost use Rattle.opl_types.specs.Values.{Gives, node_of, range_of, scope_of, within};
+ghost use Rattle.opl_types.specs.Steps as step;
+ghost use Rattle.opl_types.specs.Types.{sort, sorts_of, is_number, is_truth, is_set, is_storable, is_chosen, is_array_of_single, elements};
+ghost use Rattle.opl_types.specs.Types.Sort.{int, bool, row, set, array, anything};
+ghost use Rattle.opl_types.specs.Values.{Does, Gives, node_of, range_of, scope_of, within};
 
 use crate::fault::TypeFault;
 use crate::fit::fits_subscripts;
@@ -46,7 +47,7 @@ pub(crate) fn two(alloc: Global, first: Node, second: Node) -> Result<Seq<Node>,
 
 /// A row of types with another behind it.
 pub(crate) fn append(front: &mut Seq<Ty>, back: Seq<Ty>) -> Result<(), TypeFault>
-    ensures { IfOk result (λ u. front.new ≡ front.old ++ back) }
+    ensures { Does (λ u. front.new ≡ front.old ++ back) result }
 {
     for ty in back.into_vec() {
         front.push(ty)?;
@@ -55,8 +56,9 @@ pub(crate) fn append(front: &mut Seq<Ty>, back: Seq<Ty>) -> Result<(), TypeFault
 }
 
 /// Adds the type of an expression, and those of the expressions in it.
+#[tactic(auto, using(crate::proofs::Joins::parts_read))]
 pub(crate) fn add_kinds(kinds: &mut Seq<Ty>, node: Node) -> Result<(), TypeFault>
-    ensures { IfOk result (λ u. map sort kinds.new ≡ map sort kinds.old ++ spec.kinds (node_of node)) }
+    ensures { Does (λ u. map sort kinds.new ≡ map sort kinds.old ++ spec.kinds (node_of node)) result }
 {
     let Node { ty, inner, .. } = node;
     kinds.push(ty)?;
@@ -64,6 +66,7 @@ pub(crate) fn add_kinds(kinds: &mut Seq<Ty>, node: Node) -> Result<(), TypeFault
 }
 
 /// The types of expressions and of those in them.
+#[tactic(auto, using(crate::proofs::Joins::parts_read))]
 pub(crate) fn kinds_in(alloc: Global, nodes: Seq<Node>) -> Result<Seq<Ty>, TypeFault>
     ensures { Gives (map sort) (Ok (spec.kinds_in (map node_of nodes))) result }
 {
@@ -74,22 +77,110 @@ pub(crate) fn kinds_in(alloc: Global, nodes: Seq<Node>) -> Result<Seq<Ty>, TypeF
     Ok(kinds)
 }
 
+/// Whether one of the parts decides.
 fn decides(parts: &[Node]) -> bool
     ensures { result ≡ list_any (λ n. n.decides) (map node_of parts.now) }
 {
-    parts.iter().any(|part| part.decides)
+    for part in parts {
+        if part.decides {
+            return true;
+        }
+    }
+    false
 }
 
+/// Whether one of the parts has a question.
 fn asks(parts: &[Node]) -> bool
     ensures { result ≡ list_any (λ n. n.asks) (map node_of parts.now) }
 {
-    parts.iter().any(|part| part.asks)
+    for part in parts {
+        if part.asks {
+            return true;
+        }
+    }
+    false
 }
 
+/// Whether each part is data.
 pub(crate) fn all_data(parts: &[Node]) -> bool
     ensures { result ≡ list_all spec.is_data (map node_of parts.now) }
 {
-    parts.iter().all(|part| part.is_data())
+    for part in parts {
+        if !part.is_data() {
+            return false;
+        }
+    }
+    true
+}
+
+/// Whether each part is a number.
+fn all_numbers(parts: &[Node]) -> bool
+    ensures { result ≡ spec.all_sorts is_number (map node_of parts.now) }
+{
+    for part in parts {
+        if !part.ty.is_number() {
+            return false;
+        }
+    }
+    true
+}
+
+/// Whether each part holds or does not.
+fn all_truths(parts: &[Node]) -> bool
+    ensures { result ≡ spec.all_sorts is_truth (map node_of parts.now) }
+{
+    for part in parts {
+        if !part.ty.is_truth() {
+            return false;
+        }
+    }
+    true
+}
+
+/// Whether each part may be that of a record.
+fn all_storable(parts: &[Node]) -> bool
+    ensures { result ≡ spec.all_sorts is_storable (map node_of parts.now) }
+{
+    for part in parts {
+        if !part.ty.is_storable() {
+            return false;
+        }
+    }
+    true
+}
+
+/// Whether a decision variable may choose by each part.
+fn all_chosen(parts: &[Node]) -> bool
+    ensures { result ≡ spec.all_sorts is_chosen (map node_of parts.now) }
+{
+    for part in parts {
+        if !part.ty.is_chosen() {
+            return false;
+        }
+    }
+    true
+}
+
+/// The types of the parts.
+fn types_of(alloc: Global, parts: &[Node]) -> Result<Seq<Ty>, TypeFault>
+    ensures { Does (λ r. map sort r ≡ map (λ n. n.sort) (map node_of parts.now)) result }
+{
+    let mut types = Seq::new(alloc);
+    for part in parts {
+        types.push(part.ty.copy(alloc)?)?;
+    }
+    Ok(types)
+}
+
+/// A part, and others behind it.
+fn before(alloc: Global, first: Node, others: Seq<Node>) -> Result<Seq<Node>, TypeFault>
+    ensures { Gives (map node_of) (Ok (node_of first ∷ map node_of others)) result }
+{
+    let mut parts = one(alloc, first)?;
+    for node in others.into_vec() {
+        parts.push(node)?;
+    }
+    Ok(parts)
 }
 
 /// An expression with these parts, one behind the other.
@@ -194,7 +285,7 @@ pub(crate) fn bracketed(alloc: Global, at: u32, node: Node) -> Result<Node, Type
 pub(crate) fn arithmetic(alloc: Global, at: u32, parts: Seq<Node>) -> Result<Node, TypeFault>
     ensures { Gives node_of (Ok (spec.made at int (map node_of parts) (spec.all_sorts is_number (map node_of parts)))) result }
 {
-    let is_right = parts.as_slice().iter().all(|part| part.ty.is_number());
+    let is_right = all_numbers(parts.as_slice());
     made(alloc, at, Ty::Int, parts, is_right)
 }
 
@@ -211,7 +302,7 @@ pub(crate) fn number_of(alloc: Global, at: u32, node: Node) -> Result<Node, Type
 pub(crate) fn connected(alloc: Global, at: u32, parts: Seq<Node>) -> Result<Node, TypeFault>
     ensures { Gives node_of (Ok (spec.made at bool (map node_of parts) (spec.all_sorts is_truth (map node_of parts)))) result }
 {
-    let is_right = parts.as_slice().iter().all(|part| part.ty.is_truth());
+    let is_right = all_truths(parts.as_slice());
     made(alloc, at, Ty::Bool, parts, is_right)
 }
 
@@ -243,10 +334,7 @@ pub(crate) fn member(
     ensures { Gives node_of (Ok (spec.of_data (spec.made at bool (node_of value ∷ map node_of over.nodes) (spec.is_member (scope_of model.now) (option_map sort over.element) (sort value.ty))))) result }
 {
     let is_right = is_member(alloc, model, &over.element, &value.ty)?;
-    let mut parts = one(alloc, value)?;
-    for node in over.nodes.into_vec() {
-        parts.push(node)?;
-    }
+    let parts = before(alloc, value, over.nodes)?;
     Ok(made(alloc, at, Ty::Bool, parts, is_right)?.of_data())
 }
 
@@ -296,6 +384,53 @@ pub(crate) fn all_different(alloc: Global, at: u32, node: Node) -> Result<Node, 
     made(alloc, at, Ty::Bool, one(alloc, node)?, is_right)
 }
 
+/// Whether the subscripts may be decided, or are data.
+fn may_be_decided(subscripts: &[Node], element: &Ty) -> bool
+    ensures { result ≡ spec.may_be_decided (map node_of subscripts.now) (sort element.now) }
+{
+    all_data(subscripts) || all_chosen(subscripts) && element.is_single()
+}
+
+/// An element of what is an array.
+fn element_of(
+    alloc: Global,
+    model: &Names<'_>,
+    at: u32,
+    base: Node,
+    subscripts: Seq<Node>,
+    indices: &[Ty],
+    element: &Ty,
+) -> Result<Node, TypeFault>
+    ensures { Gives node_of (Ok (spec.element_node (scope_of model.now) at (node_of base) (map node_of subscripts) (array (sorts_of (map sort indices.now)) (sort element.now)))) result }
+{
+    let is_right = fits_subscripts(model, indices, subscripts.as_slice())
+        && may_be_decided(subscripts.as_slice(), element);
+    let is_one = base.decides && element.is_single() && all_data(subscripts.as_slice());
+    let parts = before(alloc, base, subscripts)?;
+    let node = made(alloc, at, element.copy(alloc)?, parts, is_right)?;
+    Ok(node.with_one(is_one))
+}
+
+/// An element of what is no array.
+#[tactic(auto, using(crate::proofs::Sorts::sorts))]
+fn unknown_element(
+    alloc: Global,
+    at: u32,
+    base: Node,
+    subscripts: Seq<Node>,
+    is_right: bool,
+) -> Result<Node, TypeFault>
+    ensures { Gives node_of (Ok (spec.made at anything (node_of base ∷ map node_of subscripts) is_right)) result }
+{
+    made(
+        alloc,
+        at,
+        Ty::Any,
+        before(alloc, base, subscripts)?,
+        is_right,
+    )
+}
+
 /// An element of an array.
 #[tactic(auto, using(crate::proofs::Sorts::sorts))]
 pub(crate) fn element(
@@ -307,26 +442,82 @@ pub(crate) fn element(
 ) -> Result<Node, TypeFault>
     ensures { Gives node_of (Ok (spec.element_node (scope_of model.now) at (node_of base) (map node_of subscripts) (sort base.ty))) result }
 {
-    let found = match &base.ty {
-        Ty::Array(indices, element) => {
-            let is_data = all_data(subscripts.as_slice());
-            let may_choose = element.get().is_single()
-                && subscripts.as_slice().iter().all(|part| part.ty.is_chosen());
-            let is_right = fits_subscripts(model, indices.as_slice(), subscripts.as_slice())
-                && (is_data || may_choose);
-            let is_one = base.decides && element.get().is_single() && is_data;
-            (element.get().copy(alloc)?, is_right, is_one)
-        }
-        other => (Ty::Any, other.is_anything(), false),
-    };
-    let (ty, is_right, is_one) = found;
-    let mut parts = one(alloc, base)?;
-    for node in subscripts.into_vec() {
-        parts.push(node)?;
+    let ty = base.ty.copy(alloc)?;
+    match &ty {
+        Ty::Array(indices, element) => element_of(
+            alloc,
+            model,
+            at,
+            base,
+            subscripts,
+            indices.as_slice(),
+            element.get(),
+        ),
+        Ty::Any => unknown_element(alloc, at, base, subscripts, true),
+        Ty::Int
+        | Ty::Bool
+        | Ty::Enum(_)
+        | Ty::Record(_)
+        | Ty::Row(_)
+        | Ty::Set(_)
+        | Ty::EmptySet
+        | Ty::Act
+        | Ty::Unary
+        | Ty::Discrete
+        | Ty::Index(_)
+        | Ty::Structure => unknown_element(alloc, at, base, subscripts, false),
     }
-    let mut node = made(alloc, at, ty, parts, is_right)?;
-    node.is_one = is_one;
-    Ok(node)
+}
+
+/// Whether it is the name of a time that a decision variable stands for.
+fn is_start_or_duration(name: &[u8]) -> bool
+    ensures { result ≡ spec.is_start_or_duration name.now }
+{
+    name == b"start".as_slice() || name == b"duration".as_slice()
+}
+
+/// Whether it is the name of a time of an activity.
+fn is_time(name: &[u8]) -> bool
+    ensures { result ≡ spec.is_time name.now }
+{
+    is_start_or_duration(name) || name == b"end".as_slice()
+}
+
+/// A time of an activity.
+#[tactic(auto, using(crate::proofs::Sorts::sorts))]
+fn time(alloc: Global, at: u32, base: Node, name: &NameTree) -> Result<Node, TypeFault>
+    ensures { Gives node_of (step.time_node at (node_of base) name.now) result }
+{
+    if !is_time(name.text.as_slice()) {
+        return Err(TypeFault::Unknown(name.at));
+    }
+    let is_one = is_start_or_duration(name.text.as_slice());
+    let node = made(alloc, at, Ty::Int, one(alloc, base)?, true)?;
+    Ok(node.with_one(is_one))
+}
+
+/// A field of a record.
+fn known_field(
+    alloc: Global,
+    at: u32,
+    base: Node,
+    name: &NameTree,
+    ty: Option<Ty>,
+) -> Result<Node, TypeFault>
+    ensures { Gives node_of (spec.known_field at (node_of base) name.now (option_map sort ty)) result }
+{
+    match ty {
+        Some(ty) => made(alloc, at, ty, one(alloc, base)?, true),
+        None => Err(TypeFault::Unknown(name.at)),
+    }
+}
+
+/// A field of what is no record.
+#[tactic(auto, using(crate::proofs::Sorts::sorts))]
+fn unknown_field(alloc: Global, at: u32, base: Node, is_right: bool) -> Result<Node, TypeFault>
+    ensures { Gives node_of (Ok (spec.made at anything (node_of base ∷ []) is_right)) result }
+{
+    made(alloc, at, Ty::Any, one(alloc, base)?, is_right)
 }
 
 /// A field of a record, or a time of an activity.
@@ -340,24 +531,26 @@ pub(crate) fn field(
 ) -> Result<Node, TypeFault>
     ensures { Gives node_of (spec.field_node (scope_of model.now) at (node_of base) name.now (sort base.ty)) result }
 {
-    let text = name.text.as_slice();
-    let (ty, is_right, is_one) = match &base.ty {
-        Ty::Act => {
-            let is_one = text == b"start".as_slice() || text == b"duration".as_slice();
-            if !is_one && text != b"end".as_slice() {
-                return Err(TypeFault::Unknown(name.at));
-            }
-            (Ty::Int, true, is_one)
+    let ty = base.ty.copy(alloc)?;
+    match &ty {
+        Ty::Act => time(alloc, at, base, name),
+        Ty::Record(k) => {
+            let found = field_type(alloc, model, *k, name.text.as_slice())?;
+            known_field(alloc, at, base, name, found)
         }
-        Ty::Record(k) => match field_type(alloc, model, *k, text)? {
-            Some(ty) => (ty, true, false),
-            None => return Err(TypeFault::Unknown(name.at)),
-        },
-        other => (Ty::Any, other.is_anything(), false),
-    };
-    let mut node = made(alloc, at, ty, one(alloc, base)?, is_right)?;
-    node.is_one = is_one;
-    Ok(node)
+        Ty::Any => unknown_field(alloc, at, base, true),
+        Ty::Int
+        | Ty::Bool
+        | Ty::Enum(_)
+        | Ty::Row(_)
+        | Ty::Set(_)
+        | Ty::EmptySet
+        | Ty::Array(..)
+        | Ty::Unary
+        | Ty::Discrete
+        | Ty::Index(_)
+        | Ty::Structure => unknown_field(alloc, at, base, false),
+    }
 }
 
 /// `<e,..>`
@@ -365,16 +558,27 @@ pub(crate) fn field(
 pub(crate) fn row(alloc: Global, at: u32, parts: Seq<Node>) -> Result<Node, TypeFault>
     ensures { Gives node_of (Ok (spec.of_data (spec.made at (row (sorts_of (map (λ n. n.sort) (map node_of parts)))) (map node_of parts) (spec.all_sorts is_storable (map node_of parts))))) result }
 {
-    let mut types = Seq::new(alloc);
-    for part in parts.as_slice() {
-        types.push(part.ty.copy(alloc)?)?;
-    }
-    let is_right = parts.as_slice().iter().all(|part| part.ty.is_storable());
+    let types = types_of(alloc, parts.as_slice())?;
+    let is_right = all_storable(parts.as_slice());
     Ok(made(alloc, at, Ty::Row(types), parts, is_right)?.of_data())
 }
 
+/// The type of a set that is written out, where its elements are of this type.
+#[tactic(auto, using(crate::proofs::Sorts::sorts, crate::proofs::Joins::sets_written))]
+fn set_type(alloc: Global, parts: &[Node], element: Option<Ty>) -> Result<Ty, TypeFault>
+    ensures { Gives sort (Ok (spec.set_type (map node_of parts.now) (option_map sort element))) result }
+{
+    match element {
+        Some(ty) => match parts.split_first() {
+            Some(_) => Ok(Ty::Set(Boxed::new(alloc, ty)?)),
+            None => Ok(Ty::EmptySet),
+        },
+        None => Ok(Ty::EmptySet),
+    }
+}
+
 /// `{e,..}`
-#[tactic(auto, using(crate::proofs::Sorts::sorts))]
+#[tactic(auto, using(crate::proofs::Joins::sets_written))]
 pub(crate) fn listed(
     alloc: Global,
     model: &Names<'_>,
@@ -383,24 +587,15 @@ pub(crate) fn listed(
 ) -> Result<Node, TypeFault>
     ensures { Gives node_of (Ok (spec.of_data (spec.made at (spec.set_type (map node_of parts) (spec.element_type (scope_of model.now) (Some anything) (map node_of parts))) (map node_of parts) (spec.all_sorts is_storable (map node_of parts) && is_some (spec.element_type (scope_of model.now) (Some anything) (map node_of parts)))))) result }
 {
-    let are_storable = parts.as_slice().iter().all(|part| part.ty.is_storable());
+    let are_storable = all_storable(parts.as_slice());
     let element = element_type(alloc, model, parts.as_slice())?;
     let is_right = are_storable && element.is_some();
-    let ty = match element {
-        Some(ty) => {
-            if parts.is_empty() {
-                Ty::EmptySet
-            } else {
-                Ty::Set(Boxed::new(alloc, ty)?)
-            }
-        }
-        None => Ty::EmptySet,
-    };
+    let ty = set_type(alloc, parts.as_slice(), element)?;
     Ok(made(alloc, at, ty, parts, is_right)?.of_data())
 }
 
 /// `{e | p}`
-#[tactic(auto, using(crate::proofs::Sorts::sorts))]
+#[tactic(auto, using(crate::proofs::Sorts::sorts, crate::proofs::Joins::parts_read))]
 pub(crate) fn described(
     alloc: Global,
     at: u32,
@@ -411,9 +606,22 @@ pub(crate) fn described(
 {
     let ty = Ty::Set(Boxed::new(alloc, value.ty.copy(alloc)?)?);
     let is_right = value.ty.is_storable();
-    let mut node = made(alloc, at, ty, one(alloc, value)?, is_right)?.of_data();
-    append(&mut node.inner, params)?;
-    Ok(node)
+    let decides = value.decides;
+    let asks = value.asks;
+    let mut inner = Seq::new(alloc);
+    add_kinds(&mut inner, value)?;
+    append(&mut inner, params)?;
+    Ok(Node {
+        place: at,
+        ty,
+        decides,
+        asks,
+        is_one: false,
+        is_whole: false,
+        takes_data: true,
+        is_right,
+        inner,
+    })
 }
 
 /// The cells of an array, where no initial value stands.
@@ -424,8 +632,19 @@ pub(crate) fn misplaced(alloc: Global, at: u32, parts: Seq<Node>) -> Result<Node
     made(alloc, at, Ty::Any, parts, false)
 }
 
-/// A question on one variable, which only a search section asks.
+/// The type of the answer.
 #[tactic(auto, using(crate::proofs::Sorts::sorts))]
+fn question_type(op: QuestionOp) -> Ty
+    ensures { sort result ≡ spec.question_type op }
+{
+    match op {
+        QuestionOp::Bound => Ty::Bool,
+        QuestionOp::Size | QuestionOp::Least | QuestionOp::Greatest => Ty::Int,
+    }
+}
+
+/// A question on one variable, which only a search section asks.
+#[tactic(auto, using(crate::proofs::Joins::search_read))]
 pub(crate) fn question(
     alloc: Global,
     model: &Names<'_>,
@@ -436,14 +655,8 @@ pub(crate) fn question(
     ensures { Gives node_of (Ok (spec.question_node (scope_of model.now) at op (node_of node))) result }
 {
     let is_right = model.is_search && node.is_one;
-    let ty = match op {
-        QuestionOp::Bound => Ty::Bool,
-        QuestionOp::Size | QuestionOp::Least | QuestionOp::Greatest => Ty::Int,
-    };
-    let mut found = made(alloc, at, ty, one(alloc, node)?, is_right)?;
-    found.decides = false;
-    found.asks = true;
-    Ok(found)
+    let found = made(alloc, at, question_type(op), one(alloc, node)?, is_right)?;
+    Ok(found.asking())
 }
 
 /// The set that one expression stands for.
