@@ -8,3 +8,5 @@ pub mod Scope
 pub mod Steps
 pub mod Types
 pub mod Values
+pub mod Resources
+pub mod Laws

@@ -8,6 +8,7 @@ mod fit;
 mod item;
 mod join;
 mod kind;
+pub mod laws;
 mod names;
 mod node;
 mod pattern;

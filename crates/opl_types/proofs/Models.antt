@@ -1,0 +1,74 @@
+-- The types of a whole model, one part after the other.
+use Rattle.std.proofs.Common.{◌≡◌, ℕ, Bool, true, List, [], ◌∷◌, ◌++◌, map, subst, Option, None, Some, Result, Ok, Err, refl, ap, ◌∙◌, sym, append_assoc}
+use Rattle.opl_tree.specs.declared.model.ModelTree.{ModelTree}
+use Rattle.opl_types.specs.declared.fault.TypeFault.{TypeFault}
+use Rattle.opl_types.specs.declared.names.Entry.{Entry}
+use Rattle.opl_types.specs.declared.names.Names.{Names}
+use Rattle.opl_types.specs.declared.fault.TypeFault.TheVariants.{Unknown, Duplicate, Mismatch, NotData, OutOfMemory}
+use Rattle.opl_types.specs.Types.{Sort, sort}
+use Rattle.opl_types.specs.Scope.{Checked, and_then, Scope, empty_scope, declared}
+use Rattle.opl_types.specs.Expressions.{Opened}
+use Rattle.opl_types.specs.Declarations.{all_decls}
+use Rattle.opl_types.specs.Models.{Looked, instr, search, model}
+use Rattle.opl_types.specs.Steps.{front, behind}
+use Rattle.opl_types.specs.Values.{Gives, scope_of, thing_of, with_entries}
+
+-- ---- the search section
+
+searching : (es : List Entry) (sc : Scope) → with_entries es (record sc { is_search = true }) ≡ record (with_entries es sc) { is_search = true }
+unfolding declared
+searching [] sc = refl
+searching (e ∷ es) sc = searching es (declared e.name (thing_of e.thing) sc)
+
+pub search-scope : (n : Names) → scope_of (record n { is_search = true }) ≡ record (scope_of n) { is_search = true }
+unfolding scope_of
+search-scope n = searching n.entries _
+
+-- ---- models
+
+two : (ks : List Sort) (c d : Checked (List Sort)) → and_then c (λ m. and_then d (λ l. Ok (ks ++ (m ++ l)))) ≡ and_then (front ks c) (λ ms. front ms d)
+two ks (Ok a) (Ok b) = ap (λ ms. Ok ms) (sym (append_assoc ks a b))
+two ks (Ok a) (Err e) = refl
+two ks (Err e) d = refl
+
+steps : (c : Checked Opened) (f g : Looked) →
+    and_then c (λ o. and_then (f o.scope) (λ m. and_then (g o.scope) (λ l. Ok (o.kinds ++ (m ++ l))))) ≡ and_then (behind [] c) (λ o. and_then (front o.kinds (f o.scope)) (λ ks. front ks (g o.scope)))
+steps (Ok o) f g = two o.kinds (f o.scope) (g o.scope)
+steps (Err e) f g = refl
+
+model-steps : (t : ModelTree) →
+    model t ≡ and_then (behind [] (all_decls 0 empty_scope t.decls)) (λ o. and_then (front o.kinds (instr t.instr o.scope)) (λ ks. front ks (search t.search o.scope)))
+unfolding model
+model-steps t = steps (all_decls 0 empty_scope t.decls) (instr t.instr) (search t.search)
+
+pub model-declared : (t : ModelTree) (e : TypeFault) → behind [] (all_decls 0 empty_scope t.decls) ≡ Err e → model t ≡ Err e
+model-declared t e h = model-steps t ∙ ap (λ c. and_then c (λ o. and_then (front o.kinds (instr t.instr o.scope)) (λ ks. front ks (search t.search o.scope)))) h
+
+-- where the first has a fault, the second has it
+faulty : {A B C D : Type 0} (c : Checked A) (d : Checked C) (r : B → A) (s : D → C) (e : TypeFault) → ((f : TypeFault) → c ≡ Err f → d ≡ Err f) → Gives r c (Err e) → Gives s d (Err e)
+faulty c d r s OutOfMemory h g = tt
+faulty c d r s (Unknown at) h g = h (Unknown at) g
+faulty c d r s (Duplicate at) h g = h (Duplicate at) g
+faulty c d r s (Mismatch at) h g = h (Mismatch at) g
+faulty c d r s (NotData at) h g = h (NotData at) g
+
+model-instr : (t : ModelTree) (o : Opened) → behind [] (all_decls 0 empty_scope t.decls) ≡ Ok o →
+    model t ≡ and_then (front o.kinds (instr t.instr o.scope)) (λ ks. front ks (search t.search o.scope))
+model-instr t o h = model-steps t ∙ ap (λ c. and_then c (λ o. and_then (front o.kinds (instr t.instr o.scope)) (λ ks. front ks (search t.search o.scope)))) h
+
+pub model-search : (t : ModelTree) (o : Opened) (ks : List Sort) → behind [] (all_decls 0 empty_scope t.decls) ≡ Ok o → front o.kinds (instr t.instr o.scope) ≡ Ok ks →
+    model t ≡ front ks (search t.search o.scope)
+model-search t o ks h g = model-instr t o h ∙ ap (λ c. and_then c (λ ks. front ks (search t.search o.scope))) g
+
+pub model-fault : (t : ModelTree) (o : Opened) (e : TypeFault) → behind [] (all_decls 0 empty_scope t.decls) ≡ Ok o → front o.kinds (instr t.instr o.scope) ≡ Err e → model t ≡ Err e
+model-fault t o e h g = model-instr t o h ∙ ap (λ c. and_then c (λ ks. front ks (search t.search o.scope))) g
+
+-- a fault among the declarations, and one in the instruction
+pub declared-faulty : {B : Type 0} (t : ModelTree) (ks : List Sort) (sc : Scope) (r : B → Opened) (e : TypeFault) → ks ≡ [] → sc ≡ empty_scope → Gives r (behind ks (all_decls 0 sc t.decls)) (Err e) →
+    Gives (map sort) (model t) (Err e)
+declared-faulty t ks sc r e none empty h = faulty (behind [] (all_decls 0 empty_scope t.decls)) (model t) r (map sort) e (model-declared t)
+    (subst (λ (s : Scope). Gives r (behind [] (all_decls 0 s t.decls)) (Err e)) empty (subst (λ (ms : List Sort). Gives r (behind ms (all_decls 0 sc t.decls)) (Err e)) none h))
+
+pub ruleset search_names = (search-scope)
+
+pub ruleset models = (model-declared, model-fault, model-search)

@@ -1,0 +1,75 @@
+-- Laws of typing in words of its own: one list of types, one first fault, and one declaration for each name that is used.
+use Rattle.std.specs.Prelude.{◌≡◌, ℕ, zero, suc, List, [], ◌∷◌, Option, Some, None, Ok, Err}
+use Rattle.opl_tree.specs.declared.declaration.DeclTree.{DeclTree}
+use Rattle.opl_tree.specs.declared.declaration.DimsTree.{DimsTree}
+use Rattle.opl_tree.specs.declared.expression.NameTree.{NameTree}
+use Rattle.opl_tree.specs.declared.model.ModelTree.{ModelTree}
+use Rattle.opl_types.specs.declared.fault.TypeFault.{TypeFault}
+use Rattle.opl_types.specs.Types.{Sort}
+use Rattle.opl_types.specs.Scope.{Checked, Scope, Entry, Text, empty_scope, sort_of}
+use Rattle.opl_types.specs.Forms.{Params}
+use Rattle.opl_types.specs.Forms.Form.{named}
+use Rattle.opl_types.specs.Expressions.{Node, Need, Opened, typing, open_params}
+use Rattle.opl_types.specs.Declarations.{Shape, shape, all_decls}
+use Rattle.opl_types.specs.Models.{model}
+
+-- ---- one outcome
+
+-- these are the types of the model's expressions, and this is its first fault
+abbrev pub HasKinds : ModelTree → List Sort → Type 0
+HasKinds t ks = model t ≡ Ok ks
+
+abbrev pub HasFault : ModelTree → TypeFault → Type 0
+HasFault t e = model t ≡ Err e
+
+-- a model has types in one way at most
+abbrev pub OneList : Type 0
+OneList = (t : ModelTree) (ks ms : List Sort) → HasKinds t ks → HasKinds t ms → ks ≡ ms
+
+-- a model with types has no fault
+abbrev pub NoFault : Type 0
+NoFault = (t : ModelTree) (ks : List Sort) (e : TypeFault) → HasKinds t ks → HasFault t e → ⊥
+
+-- a model has one first fault at most
+abbrev pub OneFault : Type 0
+OneFault = (t : ModelTree) (d e : TypeFault) → HasFault t d → HasFault t e → d ≡ e
+
+-- ---- one declaration for each name
+
+-- what is declared at a place, the latest at 0
+abbrev pub entry_at : List Entry → ℕ → Option Entry
+entry_at [] k = None
+entry_at (e ∷ es) zero = Some e
+entry_at (e ∷ es) (suc k) = entry_at es k
+
+-- no two visible declarations have one name
+abbrev pub IsDeclaredOnce : Scope → Type 0
+IsDeclaredOnce sc = (j k : ℕ) (d e : Entry) → entry_at sc.entries j ≡ Some d → entry_at sc.entries k ≡ Some e → d.name ≡ e.name → j ≡ k
+
+-- the visible declaration of a name, which is the only one
+pub record Declared (sc : Scope) (name : Text) : Type 0 where
+  pub place : ℕ
+  pub entry : Entry
+  pub stands : entry_at sc.entries place ≡ Some entry
+  pub has_name : entry.name ≡ name
+  pub only : (k : ℕ) (other : Entry) → entry_at sc.entries k ≡ Some other → other.name ≡ name → k ≡ place
+
+-- a name that typing accepts has exactly one visible declaration, and the type that this declaration gives
+pub record IsUsed (sc : Scope) (name : NameTree) (n : Node) : Type 0 where
+  pub declared : Declared sc name.text
+  pub sort : n.sort ≡ sort_of declared.entry.thing
+
+abbrev pub NamesAreDeclared : Type 0
+NamesAreDeclared = (sc : Scope) (name : NameTree) (n : Node) → IsDeclaredOnce sc → typing sc (named name) ≡ Ok n → IsUsed sc name n
+
+-- the declarations of a model declare each name once
+abbrev pub DeclsDeclareOnce : Type 0
+DeclsDeclareOnce = (ds : List DeclTree) (o : Opened) → all_decls 0 empty_scope ds ≡ Ok o → IsDeclaredOnce o.scope
+
+-- so do the dimensions of an item, beside what is visible outside
+abbrev pub DimsDeclareOnce : Type 0
+DimsDeclareOnce = (sc : Scope) (dims : Option DimsTree) (s : Shape) → IsDeclaredOnce sc → shape sc dims ≡ Ok s → IsDeclaredOnce s.inner
+
+-- and so do parameters
+abbrev pub ParamsDeclareOnce : Type 0
+ParamsDeclareOnce = (need : Need) (sc : Scope) (p : Params) (o : Opened) → IsDeclaredOnce sc → open_params need sc p ≡ Ok o → IsDeclaredOnce o.scope
