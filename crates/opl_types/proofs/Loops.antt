@@ -5,7 +5,7 @@ use Rattle.std.proofs.lemmas.Bool.{false≢true}
 use Rattle.opl_types.specs.declared.fault.TypeFault.{TypeFault}
 use Rattle.opl_types.specs.declared.node.Node as nodes
 use Rattle.opl_types.specs.Scope.{Scope, Checked, and_then}
-use Rattle.opl_types.specs.Forms.{Form, Forms, Pair, Pairs, chain, forms_of, pairs_of}
+use Rattle.opl_types.specs.Forms.{Form, Forms, Pair, chain, forms_of, pairs_of}
 use Rattle.opl_types.specs.Expressions.{Node, part, typing, typed_parts, typed_pairs}
 use Rattle.opl_types.specs.Values.{Gives, node_of}
 use Rattle.opl_types.proofs.Chains.{after, alike-after, gives-fault, gives-same}
@@ -166,8 +166,8 @@ module _ (sc : Scope) (c : Checked Node) (fs gs : List Form) where
       ≡ and_then (and_then c (λ n. and_then (typed_parts sc (forms_of fs)) (λ ns. Ok (n ∷ ns)))) (λ ms. and_then (typed_parts sc (forms_of gs)) (λ ns. Ok (ms ++ ns)))
   both_parts =
       alike-after c _ _ (λ n.
-          ap (λ d. and_then d (λ ns. Ok (n ∷ ns))) (parts-append sc fs gs)
-          ∙ moved (typed_parts sc (forms_of fs)) (typed_parts sc (forms_of gs)) n)
+      ap (λ d. and_then d (λ ns. Ok (n ∷ ns))) (parts-append sc fs gs)
+      ∙ moved (typed_parts sc (forms_of fs)) (typed_parts sc (forms_of gs)) n)
       ∙ sym (after c (λ n. and_then (typed_parts sc (forms_of fs)) (λ ns. Ok (n ∷ ns))) (λ ms. and_then (typed_parts sc (forms_of gs)) (λ ns. Ok (ms ++ ns))))
 
   pub front_fault : (e : TypeFault) → Gives (map node_of) (and_then c (λ n. and_then (typed_parts sc (forms_of fs)) (λ ns. Ok (n ∷ ns)))) (Err e) →

@@ -26,9 +26,9 @@ use crate::rules::{
 };
 use opl_list::Seq;
 use opl_tree::{
-    AddStep, AddTree, AndTree, CallOp, CompareTree, ExprTree, GroupTree, ImpTree,
-    KeyedTree, LastStep, MulStep, MulTree, NegTree, OpenTree, OrTree, ParamsTree, PatternTree,
-    PostTree, PrimTree, SetTree, SignTree, SubscriptsTree, SuffixTree,
+    AddStep, AddTree, AndTree, CallOp, CompareTree, ExprTree, GroupTree, ImpTree, KeyedTree,
+    LastStep, MulStep, MulTree, NegTree, OpenTree, OrTree, ParamsTree, PatternTree, PostTree,
+    PrimTree, SetTree, SignTree, SubscriptsTree, SuffixTree,
 };
 use std::alloc::Global;
 
@@ -662,15 +662,7 @@ pub(crate) fn prim(
         }
         PrimTree::Described(at, value, params) => {
             let opened = open_params(alloc, model, locals, Need::DataAlone, params.get());
-            described_set(
-                alloc,
-                model,
-                locals,
-                *at,
-                value.get(),
-                params.get(),
-                opened,
-            )
+            described_set(alloc, model, locals, *at, value.get(), params.get(), opened)
         }
         PrimTree::Array(at, elements) => {
             let parts = all_adds(alloc, model, locals, elements.as_slice())?;

@@ -1,10 +1,9 @@
-use Rattle.std.proofs.Common.{Err, Ok, Some, [], ap, arith, drop, map, refl, rules, subst, sym, ◌++◌, ◌+◌, ◌∙◌, ◌∷◌, ◌≡◌}
-use Rattle.std.proofs.lemmas.Grind.{common_steps}
+use Rattle.std.proofs.Common.{Err, Ok, Some, [], ap, drop, map, refl, rules, subst, sym, ◌++◌, ◌+◌, ◌∙◌, ◌∷◌}
 use Rattle.std.specs.Option.{option_map}
 use Rattle.opl_tree.specs.declared.expression.CompareTree.TheViews.{out-AddTree, out-AndTree, out-ExprTree, out-GroupStep, out-GroupTree, out-KeyedTree, out-LastStep, out-OrTree, out-ParamsTree, out-PostTree, out-SubscriptsTree}
 use Rattle.opl_types.specs.Expressions.{all_sorts, made, open_groups, open_params, typed_parts, typing}
 use Rattle.opl_types.specs.Expressions.Need.{data_alone}
-use Rattle.opl_types.specs.Forms.{form_add, form_add_step, form_and, form_expr, form_group, form_group_step, form_imp, form_keyed, form_last_step, form_mul, form_mul_step, form_neg, form_open, form_or, form_params, form_post, form_prim, form_set, form_sign, form_subscripts, form_suffix, forms_of, groups_of, or_none, with_suffixes}
+use Rattle.opl_types.specs.Forms.{form_add, form_add_step, form_and, form_expr, form_group, form_group_step, form_imp, form_keyed, form_last_step, form_mul, form_mul_step, form_neg, form_open, form_or, form_params, form_post, form_prim, form_set, form_sign, form_subscripts, form_suffix, forms_of, groups_of, or_none}
 use Rattle.opl_types.specs.Forms.Form.{arithmetic, connected}
 use Rattle.opl_types.specs.Scope.{and_then}
 use Rattle.opl_types.specs.Steps.{open_each, suffixed}
@@ -140,9 +139,9 @@ mul-returns-in-None t c =
 pub mul-returns-in_err-all-in-Some : goal.mul-returns-in_err-all-in-Some
 mul-returns-in_err-all-in-Some t c =
     let h = back_wrong (within c.args.model.now c.args.locals.now) (arithmetic c.in-Product.at) (λ ns. made c.in-Product.at int ns (all_sorts is_number ns)) (typing-arithmetic _ c.in-Product.at) (form_mul c.args.t.now) (form_sign c.in-Product.first) (map form_mul_step c.in-Product.steps) (map form_mul_step c.as_slice-in-Product.result.now) (or_none (option_map form_last_step c.in-Product.last)) (ap form_mul c.in-Product.is ∙ form_mul-Product c.in-Product.at c.in-Product.first c.in-Product.steps c.in-Product.last) (ap (map form_mul_step) c.as_slice-in-Product.ensures) (λ e. c.if-is_alone.ensures.1 (ap (λ ss. map form_mul_step ss ++ or_none (option_map form_last_step c.in-Product.last)) c.as_slice.ensures ∙ e)) c.in_ok-first-in-Product.first c.in_ok-first-in-Product.ensures c.in_ok-parts-in-Product.parts c.in_ok-parts-in-Product.ensures c.in_err-all-in-Some.field-0.0
-        (gives-same (map node_of) (and_then (typed_parts (within c.args.model.now c.args.locals.now) (forms_of (or_none (option_map form_last_step c.in-Product.last)))) (λ ns. Ok (map node_of c.in_ok-parts-in-Product.parts ++ ns))) _ (Err c.in_err-all-in-Some.field-0.0)
-        (ap (λ gs. and_then (typed_parts (within c.args.model.now c.args.locals.now) (forms_of gs)) (λ ns. Ok (map node_of c.in_ok-parts-in-Product.parts ++ ns))) (ap (λ o. or_none (option_map form_last_step o)) c.in-Some.is))
-        c.in_err-all-in-Some.ensures) in
+    (gives-same (map node_of) (and_then (typed_parts (within c.args.model.now c.args.locals.now) (forms_of (or_none (option_map form_last_step c.in-Product.last)))) (λ ns. Ok (map node_of c.in_ok-parts-in-Product.parts ++ ns))) _ (Err c.in_err-all-in-Some.field-0.0)
+    (ap (λ gs. and_then (typed_parts (within c.args.model.now c.args.locals.now) (forms_of gs)) (λ ns. Ok (map node_of c.in_ok-parts-in-Product.parts ++ ns))) (ap (λ o. or_none (option_map form_last_step o)) c.in-Some.is))
+    c.in_err-all-in-Some.ensures) in
     search rules
 
 pub mul-returns-in_ok-all-in-Some : goal.mul-returns-in_ok-all-in-Some
