@@ -1,10 +1,9 @@
 -- Names inside those of a model hide them; the structs and the section that is read stay as they are.
-use Rattle.std.proofs.Common.{◌≡◌, ℕ, Bool, List, [], ◌∷◌, Option, Some, None, refl, ap, sym, ◌∙◌}
-use Rattle.opl_tree.specs.declared.expression.NameTree.{NameTree}
+use Rattle.std.proofs.Common.{◌≡◌, ℕ, List, [], ◌∷◌, refl, ◌∙◌}
 use Rattle.opl_types.specs.declared.names.Local.{Local}
 use Rattle.opl_types.specs.declared.names.Names.{Names}
-use Rattle.opl_types.specs.Types.{Sort, Sorts, sort}
-use Rattle.opl_types.specs.Scope.{Scope, Text, Field, declared, fields, field_sorts, fit_one_struct}
+use Rattle.opl_types.specs.Types.{Sort, sort}
+use Rattle.opl_types.specs.Scope.{Scope, Text, declared, fields, field_sorts, fit_one_struct}
 use Rattle.opl_types.specs.Scope.Thing.{value}
 use Rattle.opl_types.specs.Values.{with_locals, within, scope_of}
 

@@ -1,18 +1,15 @@
 -- The rules of expressions, where of the scope but names only the model's counts.
-use Rattle.std.proofs.Common.{◌≡◌, ℕ, Bool, true, false, ◌&&◌, ◌||◌, List, [], ◌∷◌, ◌++◌, map, Option, Some, None, Ok, Err, is_some, refl, ap, sym, ◌∙◌}
+use Rattle.std.proofs.Common.{◌≡◌, ℕ, true, false, ◌&&◌, ◌||◌, List, [], ◌∷◌, Option, Some, None, is_some, refl, ap, ◌∙◌}
 use Rattle.std.specs.List.{list_all}
 use Rattle.opl_tree.specs.declared.expression.NameTree.{NameTree}
 use Rattle.opl_tree.specs.declared.expression.QuestionOp.{QuestionOp}
 use Rattle.opl_tree.specs.declared.expression.Relation.{Relation}
 use Rattle.opl_tree.specs.declared.expression.Relation.TheVariants as relations
-use Rattle.opl_types.specs.Types.{Sort, Sorts, fits, joined, sorts_of, is_number, is_truth, is_set, is_single, is_storable, is_array_of_single}
-use Rattle.opl_types.specs.Types.Sort.{int, bool, enumeration, structure, row, set, empty_set, array, activity, unary, discrete, index, struct_name, anything}
+use Rattle.opl_types.specs.Types.{Sort, Sorts, fits, joined, is_single, is_storable}
+use Rattle.opl_types.specs.Types.Sort.{structure, array}
 use Rattle.opl_types.specs.Types.Sorts.{no_sorts, more_sorts}
-use Rattle.opl_types.specs.Scope.{Scope, Checked, and_then, fields, field_sort, fits_in, joined_in, lookup}
-use Rattle.opl_types.specs.Forms.{Form, Forms, Pairs, SetForm, Params}
-use Rattle.opl_types.specs.Forms.Form.{number, named, bracket, negative, arithmetic, absolute, related, member, connected, aggregate, cardinality, all_different, subscripted, field, tuple, listed, described, cells, keyed_cells, question}
-use Rattle.opl_types.specs.Expressions.{Node, Range, Opened, node, made, of_data, kinds, kinds_in, part, any_type, all_sorts, name_node, bracketed, are_ordered, are_related, is_member, subscripts_fit, may_be_decided, is_data, element_node, known_field, field_node, element_type, set_type, question_type, question_node, scope_within, typing, typed_parts, typed_pairs, typed_set, open_params}
-use Rattle.opl_types.specs.Expressions.Need.{nothing, data_alone}
+use Rattle.opl_types.specs.Scope.{Scope, field_sort, fits_in, joined_in}
+use Rattle.opl_types.specs.Expressions.{Node, made, are_ordered, are_related, is_member, subscripts_fit, may_be_decided, is_data, element_node, known_field, field_node, element_type, question_type, question_node}
 use Rattle.opl_types.proofs.Inside.{Alike}
 
 module _ (sc other : Scope) (like : Alike sc other) where

@@ -5,7 +5,7 @@ use Rattle.std.proofs.lemmas.Bool.{false≢true}
 use Rattle.opl_types.specs.declared.fault.TypeFault.{TypeFault}
 use Rattle.opl_types.specs.declared.node.Node as nodes
 use Rattle.opl_types.specs.Scope.{Scope, Checked, and_then}
-use Rattle.opl_types.specs.Forms.{Form, Forms, Pair, Pairs, chain, forms_of, pairs_of}
+use Rattle.opl_types.specs.Forms.{Form, Forms, Pair, chain, forms_of, pairs_of}
 use Rattle.opl_types.specs.Expressions.{Node, part, typing, typed_parts, typed_pairs}
 use Rattle.opl_types.specs.Values.{Gives, node_of}
 use Rattle.opl_types.proofs.Chains.{after, alike-after, gives-fault, gives-same}
@@ -166,8 +166,8 @@ module _ (sc : Scope) (c : Checked Node) (fs gs : List Form) where
       ≡ and_then (and_then c (λ n. and_then (typed_parts sc (forms_of fs)) (λ ns. Ok (n ∷ ns)))) (λ ms. and_then (typed_parts sc (forms_of gs)) (λ ns. Ok (ms ++ ns)))
   both_parts =
       alike-after c _ _ (λ n.
-          ap (λ d. and_then d (λ ns. Ok (n ∷ ns))) (parts-append sc fs gs)
-          ∙ moved (typed_parts sc (forms_of fs)) (typed_parts sc (forms_of gs)) n)
+      ap (λ d. and_then d (λ ns. Ok (n ∷ ns))) (parts-append sc fs gs)
+      ∙ moved (typed_parts sc (forms_of fs)) (typed_parts sc (forms_of gs)) n)
       ∙ sym (after c (λ n. and_then (typed_parts sc (forms_of fs)) (λ ns. Ok (n ∷ ns))) (λ ms. and_then (typed_parts sc (forms_of gs)) (λ ns. Ok (ms ++ ns))))
 
   pub front_fault : (e : TypeFault) → Gives (map node_of) (and_then c (λ n. and_then (typed_parts sc (forms_of fs)) (λ ns. Ok (n ∷ ns)))) (Err e) →
@@ -205,3 +205,27 @@ module _ (sc : Scope) (whole : Checked (List Node)) (parts : List nodes.Node) (f
 -- no part is left
 pub none_behind : (sc : Scope) (whole : Checked (List Node)) (parts : List nodes.Node) → whole ≡ and_then (typed_parts sc (forms_of [])) (λ ns. Ok (map node_of parts ++ ns)) → whole ≡ Ok (map node_of parts)
 none_behind sc whole parts so_far = so_far ∙ ap (behind_nodes parts) (no-parts sc) ∙ ap (λ ns. Ok ns) (append-nil (map node_of parts))
+
+-- a chain whose last operand stands apart
+module _ (sc : Scope) (make : Forms → Form) (end : List Node → Node) (rule : (fs : Forms) → typing sc (make fs) ≡ and_then (typed_parts sc fs) (λ ns. Ok (end ns)))
+    (whole f : Form) (fs gs hs : List Form) (is : whole ≡ chain make f (fs ++ hs)) (same : gs ≡ fs) (some : fs ++ hs ≡ [] → IsTrue false)
+    (n : nodes.Node) (typed : typing sc f ≡ Ok (node_of n)) where
+  pub front_wrong : (e : TypeFault) → Gives (map node_of) (and_then (part (node_of n)) (λ m. and_then (typed_parts sc (forms_of gs)) (λ ns. Ok (m ∷ ns)))) (Err e) →
+      Gives node_of (typing sc whole) (Err e)
+  front_wrong e h =
+      chain_wrong sc make end rule whole f (fs ++ hs) (gs ++ hs) is (ap (λ ks. ks ++ hs) same) some n typed e (front_fault sc (part (node_of n)) gs hs e h)
+
+  module _ (parts : List nodes.Node) (found : and_then (part (node_of n)) (λ m. and_then (typed_parts sc (forms_of gs)) (λ ns. Ok (m ∷ ns))) ≡ Ok (map node_of parts)) where
+    pub back_wrong : (e : TypeFault) → Gives (map node_of) (and_then (typed_parts sc (forms_of hs)) (λ ns. Ok (map node_of parts ++ ns))) (Err e) → Gives node_of (typing sc whole) (Err e)
+    back_wrong e h =
+        chain_wrong sc make end rule whole f (fs ++ hs) (gs ++ hs) is (ap (λ ks. ks ++ hs) same) some n typed e
+        (gives-same (map node_of) (and_then (part (node_of n)) (λ m. and_then (typed_parts sc (forms_of (gs ++ hs))) (λ ns. Ok (m ∷ ns)))) _ (Err e) (front_typed sc (part (node_of n)) gs hs parts found) h)
+
+    pub back_made : (more : List nodes.Node) → and_then (typed_parts sc (forms_of hs)) (λ ns. Ok (map node_of parts ++ ns)) ≡ Ok (map node_of more) →
+        (result : Result nodes.Node TypeFault) → Gives node_of (Ok (end (map node_of more))) result → Gives node_of (typing sc whole) result
+    back_made more h result g =
+        chain_made sc make end rule whole f (fs ++ hs) (gs ++ hs) is (ap (λ ks. ks ++ hs) same) some n typed more (front_typed sc (part (node_of n)) gs hs parts found ∙ h) result g
+
+    pub back_alone : hs ≡ [] → (result : Result nodes.Node TypeFault) → Gives node_of (Ok (end (map node_of parts))) result → Gives node_of (typing sc whole) result
+    back_alone none result g =
+        back_made parts (none_behind sc (and_then (typed_parts sc (forms_of hs)) (λ ns. Ok (map node_of parts ++ ns))) parts (ap (λ ks. and_then (typed_parts sc (forms_of ks)) (λ ns. Ok (map node_of parts ++ ns))) none)) result g

@@ -259,9 +259,9 @@ module _ (n : Names) (locals : List Local) (old_kinds : List Ty) (g : Group) (fi
   group_made slice e1 fresh_rest r1 fresh set_slice e2 over typed element of_element more kinds_found new_kinds added bound_rest r2 new_locals bound =
       ap (open_one (opened_in n (record { locals = locals; kinds = old_kinds }))) is
       ∙ group_bound (opened_in n (record { locals = locals; kinds = old_kinds })) (record { patterns = first ∷ rest; over = over_form }) (range_of over)
-        (ap (λ ls. all_fresh (within n ls) (flat_map pattern_names (first ∷ rest))) (sym e1) ∙ ap (λ ps. all_fresh (within n slice) (flat_map pattern_names (first ∷ ps))) (sym r1) ∙ fresh)
-        (ap (λ ls. typed_set data_alone is_set (within n ls) over_form) (sym e2) ∙ typed)
-        (within n new_locals)
-        (ap (λ s. bind_patterns (within n locals) s (first ∷ rest)) (sym of_element) ∙ ap (λ ps. bind_patterns (within n locals) (sort element) (first ∷ ps)) (sym r2) ∙ bound)
+      (ap (λ ls. all_fresh (within n ls) (flat_map pattern_names (first ∷ rest))) (sym e1) ∙ ap (λ ps. all_fresh (within n slice) (flat_map pattern_names (first ∷ ps))) (sym r1) ∙ fresh)
+      (ap (λ ls. typed_set data_alone is_set (within n ls) over_form) (sym e2) ∙ typed)
+      (within n new_locals)
+      (ap (λ s. bind_patterns (within n locals) s (first ∷ rest)) (sym of_element) ∙ ap (λ ps. bind_patterns (within n locals) (sort element) (first ∷ ps)) (sym r2) ∙ bound)
       ∙ ap (λ ks. Ok (record { scope = within n new_locals; kinds = ks }))
-        (ap (λ ks. map sort old_kinds ++ ks) (ap found_kinds kinds_found) ∙ sym (map-append sort old_kinds more) ∙ ap (map sort) (sym added))
+      (ap (λ ks. map sort old_kinds ++ ks) (ap found_kinds kinds_found) ∙ sym (map-append sort old_kinds more) ∙ ap (map sort) (sym added))

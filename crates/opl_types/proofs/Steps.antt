@@ -11,9 +11,9 @@ use Rattle.opl_types.specs.Types.Sort.{anything}
 use Rattle.opl_types.specs.Types.{is_set}
 use Rattle.opl_types.specs.Forms.{Form, Group, Suffix, SetForm, groups_of, with_suffix, with_suffixes}
 use Rattle.opl_types.specs.Forms.Suffix.{subscripts, field_of}
-use Rattle.opl_types.specs.Expressions.{Node, Opened, Range, typing, typed_set, part, pattern_names, bind_patterns, or_anything, kinds_in, open_groups}
+use Rattle.opl_types.specs.Expressions.{Opened, Range, typing, typed_set, part, pattern_names, bind_patterns, or_anything, kinds_in, open_groups}
 use Rattle.opl_types.specs.Expressions.Need.{data_alone}
-use Rattle.opl_types.specs.Steps.{suffix_node, suffixed, taken, open_one, open_each}
+use Rattle.opl_types.specs.Steps.{suffix_node, suffixed, taken, open_each}
 use Rattle.opl_types.proofs.Chains.{after, alike-after}
 
 typing-suffix : (sc : Scope) (at : ℕ) (f : Form) (s : Suffix) → typing sc (with_suffix at f s) ≡ (typing sc f >>= part >>= (λ base. suffix_node sc at base s))
@@ -65,14 +65,14 @@ groups-each o (g ∷ gs) =
     ap (λ c. and_then c (behind_opened o)) (open_more o.scope g gs)
     ∙ after (all_fresh o.scope (flat_map pattern_names g.patterns)) _ (behind_opened o)
     ∙ alike-after (all_fresh o.scope (flat_map pattern_names g.patterns)) _ _ (λ u.
-        after (typed_set data_alone is_set o.scope g.over) _ (behind_opened o)
-        ∙ alike-after (typed_set data_alone is_set o.scope g.over) _ _ (λ over.
-            after (bind_patterns o.scope (or_anything over.element) g.patterns) _ (behind_opened o)
-            ∙ alike-after (bind_patterns o.scope (or_anything over.element) g.patterns) _ _ (λ inner.
-                join_kinds o inner over (open_groups inner (groups_of gs))
-                ∙ groups-each (record { scope = inner; kinds = o.kinds ++ kinds_in over.nodes }) gs)
-            ∙ sym (after (bind_patterns o.scope (or_anything over.element) g.patterns) _ (λ more. open_each more gs)))
-        ∙ sym (after (typed_set data_alone is_set o.scope g.over) _ (λ more. open_each more gs)))
+    after (typed_set data_alone is_set o.scope g.over) _ (behind_opened o)
+    ∙ alike-after (typed_set data_alone is_set o.scope g.over) _ _ (λ over.
+    after (bind_patterns o.scope (or_anything over.element) g.patterns) _ (behind_opened o)
+    ∙ alike-after (bind_patterns o.scope (or_anything over.element) g.patterns) _ _ (λ inner.
+    join_kinds o inner over (open_groups inner (groups_of gs))
+    ∙ groups-each (record { scope = inner; kinds = o.kinds ++ kinds_in over.nodes }) gs)
+    ∙ sym (after (bind_patterns o.scope (or_anything over.element) g.patterns) _ (λ more. open_each more gs)))
+    ∙ sym (after (typed_set data_alone is_set o.scope g.over) _ (λ more. open_each more gs)))
     ∙ sym (after (all_fresh o.scope (flat_map pattern_names g.patterns)) _ (λ more. open_each more gs))
 
 -- groups one behind the other

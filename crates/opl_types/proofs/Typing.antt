@@ -1,5 +1,5 @@
 -- The rule of each form, inside a model's names.
-use Rattle.std.proofs.Common.{◌≡◌, ℕ, Bool, true, false, ◌&&◌, List, [], ◌∷◌, ◌++◌, map, Option, Some, None, Ok, Err, is_some, Result, refl, ap, sym, ◌∙◌}
+use Rattle.std.proofs.Common.{◌≡◌, ℕ, Bool, true, false, ◌&&◌, List, [], ◌∷◌, ◌++◌, map, Option, Some, Ok, Err, is_some, refl, ap, sym, ◌∙◌}
 use Rattle.opl_tree.specs.declared.expression.CallOp.{CallOp}
 use Rattle.opl_tree.specs.declared.expression.CallOp.TheVariants as calls
 use Rattle.opl_tree.specs.declared.expression.NameTree.{NameTree}
@@ -11,12 +11,12 @@ use Rattle.opl_types.specs.declared.names.Names.{Names}
 use Rattle.opl_types.specs.Types.{Sort, sorts_of, elements, is_number, is_truth, is_set, is_storable, is_array_of_single}
 use Rattle.opl_types.specs.Types.Sort.{int, bool, row, set, anything}
 use Rattle.opl_types.specs.Scope.{Scope, Checked, and_then, lookup}
-use Rattle.opl_types.specs.Forms.{Form, Forms, Pairs, SetForm, Params, chain, call, forms_of, pairs_of}
-use Rattle.opl_types.specs.Forms.Form.{number, named, bracket, negative, arithmetic, absolute, related, member, connected, aggregate, cardinality, all_different, subscripted, field, tuple, listed, described, cells, keyed_cells, question}
+use Rattle.opl_types.specs.Forms.{Form, Forms, Pairs, SetForm, Params, chain, call, forms_of}
+use Rattle.opl_types.specs.Forms.Form.{number, named, bracket, negative, arithmetic, absolute, related, member, connected, aggregate, cardinality, all_different, tuple, listed, described, cells, keyed_cells, question}
 use Rattle.opl_types.specs.Forms.Forms.{no_forms, more_forms}
 use Rattle.opl_types.specs.Forms.Pairs.{no_pairs, more_pairs}
 use Rattle.opl_types.specs.Forms.SetForm.{whole, between}
-use Rattle.opl_types.specs.Expressions.{Node, Need, Range, Opened, node, made, of_data, kinds, part, used, data_number, any_type, all_sorts, name_node, bracketed, are_related, is_member, element_type, set_type, question_node, scope_within, typing, typed_parts, typed_pairs, typed_set, open_params}
+use Rattle.opl_types.specs.Expressions.{Node, Need, node, made, of_data, kinds, part, used, data_number, any_type, all_sorts, name_node, bracketed, are_related, is_member, element_type, set_type, question_node, scope_within, typing, typed_parts, typed_pairs, typed_set, open_params}
 use Rattle.opl_types.specs.Expressions.Need.{nothing, data_alone}
 use Rattle.opl_types.specs.Steps.{called}
 use Rattle.opl_types.specs.Values.{Gives, node_of, within, scope_of}
@@ -113,8 +113,8 @@ module _ (sc : Scope) where
   parts-append [] gs = sym (alone (typed_parts sc (forms_of gs)))
   parts-append (f ∷ fs) gs =
       alike-after (and_then (typing sc f) part) _ _ (λ n.
-          ap (λ c. and_then c (λ ns. Ok (n ∷ ns))) (parts-append fs gs)
-          ∙ moved (typed_parts sc (forms_of fs)) (typed_parts sc (forms_of gs)) n)
+      ap (λ c. and_then c (λ ns. Ok (n ∷ ns))) (parts-append fs gs)
+      ∙ moved (typed_parts sc (forms_of fs)) (typed_parts sc (forms_of gs)) n)
       ∙ sym (after (and_then (typing sc f) part) (λ n. and_then (typed_parts sc (forms_of fs)) (λ ns. Ok (n ∷ ns))) (λ ms. and_then (typed_parts sc (forms_of gs)) (λ ns. Ok (ms ++ ns))))
 
   pub typed_set-whole : (need : Need) (takes : Sort → Bool) (f : Form) → typed_set need takes sc (whole f) ≡ and_then (and_then (typing sc f) (used need takes)) (λ n. Ok (record { nodes = n ∷ []; element = elements n.sort }))

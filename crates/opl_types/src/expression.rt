@@ -1,6 +1,7 @@
 //! The types of expressions.
 ghost use Rattle.std.specs.Prelude.{◌≡◌, ◌↔◌, ◌∷◌, ◌++◌, [], IsTrue, Err, Ok, map};
 ghost use Rattle.std.specs.Option.{option_map};
+ghost use Rattle.opl_tree.specs.declared.expression.CompareTree.TheViews.{out-ParamsTree};
 ghost use Rattle.opl_types.specs.Expressions as spec;
 ghost use Rattle.opl_types.specs.Forms.{forms_of, pairs_of};
 ghost use Rattle.opl_types.specs.Forms as form;
@@ -25,9 +26,9 @@ use crate::rules::{
 };
 use opl_list::Seq;
 use opl_tree::{
-    AddStep, AddTree, AndTree, CallOp, CompareTree, ExprTree, GroupStep, GroupTree, ImpTree,
-    KeyedTree, LastStep, MulStep, MulTree, NegTree, OpenTree, OrTree, ParamsTree, PatternTree,
-    PostTree, PrimTree, SetTree, SignTree, SubscriptsTree, SuffixTree,
+    AddStep, AddTree, AndTree, CallOp, CompareTree, ExprTree, GroupTree, ImpTree, KeyedTree,
+    LastStep, MulStep, MulTree, NegTree, OpenTree, OrTree, ParamsTree, PatternTree, PostTree,
+    PrimTree, SetTree, SignTree, SubscriptsTree, SuffixTree,
 };
 use std::alloc::Global;
 
@@ -287,8 +288,14 @@ pub(crate) fn mul(
             if is_alone(steps.as_slice(), last) {
                 return Ok(first);
             }
-            let parts = factors(alloc, model, locals, first, steps.as_slice(), last)?;
-            arithmetic(alloc, *at, parts)
+            let parts = mul_steps(alloc, model, locals, first, steps.as_slice())?;
+            match last {
+                None => arithmetic(alloc, *at, parts),
+                Some(last) => {
+                    let all = with_last(alloc, model, locals, parts, last)?;
+                    arithmetic(alloc, *at, all)
+                }
+            }
         }
     }
 }
@@ -303,27 +310,20 @@ fn is_alone(steps: &[MulStep], last: &Option<LastStep>) -> bool
     }
 }
 
-/// The first factor, and the others behind it, of which the last may be an aggregate.
-#[tactic(auto, using(crate::proofs::Forms::last_step_forms, crate::proofs::Typing::rules_of_parts))]
+/// The last factor, behind the others.
 #[cycle(expressions)]
-fn factors(
+fn with_last(
     alloc: Global,
     model: &Names<'_>,
     locals: &[Local],
-    first: Node,
-    steps: &[MulStep],
-    last: &Option<LastStep>,
+    parts: Seq<Node>,
+    last: &LastStep,
 ) -> Result<Seq<Node>, TypeFault>
-    ensures { Gives (map node_of) (and_then (spec.part (node_of first)) (λ n. and_then (spec.typed_parts (within model.now locals.now) (forms_of (map form.form_mul_step steps.now ++ form.or_none (option_map form.form_last_step last.now)))) (λ ns. Ok (n ∷ ns)))) result }
+    ensures { Gives (map node_of) (and_then (spec.typed_parts (within model.now locals.now) (forms_of (form.form_last_step last.now ∷ []))) (λ ns. Ok (map node_of parts ++ ns))) result }
 {
-    let mut parts = mul_steps(alloc, model, locals, first, steps)?;
-    match last {
-        None => Ok(parts),
-        Some(last) => {
-            parts.push(open(alloc, model, locals, &last.factor)?.part()?)?;
-            Ok(parts)
-        }
-    }
+    let mut all = parts;
+    all.push(open(alloc, model, locals, &last.factor)?.part()?)?;
+    Ok(all)
 }
 
 /// The first part, and the others behind it.
@@ -595,7 +595,7 @@ fn wrongly_described(
     Err(fault)
 }
 
-/// `{e | p}`
+/// `{e | p}`, once `p` is opened or has a fault.
 #[cycle(expressions)]
 fn described_set(
     alloc: Global,
@@ -604,10 +604,12 @@ fn described_set(
     at: u32,
     value: &AddTree,
     params: &ParamsTree,
+    opened: Result<Opened, TypeFault>,
 ) -> Result<Node, TypeFault>
+    requires { Gives (opened_in model.now) (spec.open_params data_alone (within model.now locals.now) (form.form_params params.now)) opened }
     ensures { Gives node_of (spec.typing (within model.now locals.now) (described at (form.form_add value.now) (form.form_params params.now))) result }
 {
-    match open_params(alloc, model, locals, Need::DataAlone, params) {
+    match opened {
         Ok(opened) => {
             let value = add(alloc, model, opened.locals.as_slice(), value)?.part()?;
             described(alloc, at, value, opened.kinds)
@@ -659,7 +661,8 @@ pub(crate) fn prim(
             listed(alloc, model, *at, parts)
         }
         PrimTree::Described(at, value, params) => {
-            described_set(alloc, model, locals, *at, value.get(), params.get())
+            let opened = open_params(alloc, model, locals, Need::DataAlone, params.get());
+            described_set(alloc, model, locals, *at, value.get(), params.get(), opened)
         }
         PrimTree::Array(at, elements) => {
             let parts = all_adds(alloc, model, locals, elements.as_slice())?;
@@ -753,24 +756,22 @@ fn open_group(
     Ok(())
 }
 
-/// The parameters of several groups, inside those of `locals`.
+/// The groups of parameters, inside those of `locals`.
 #[cycle(expressions)]
-#[tactic(auto, using(crate::proofs::Forms::group_step_forms))]
 fn open_groups(
     alloc: Global,
     model: &Names<'_>,
     locals: &[Local],
-    first: &GroupTree,
-    rest: &[GroupStep],
+    t: &ParamsTree,
 ) -> Result<Opened, TypeFault>
-    ensures { Gives (opened_in model.now) (spec.open_groups (within model.now locals.now) (form.groups_of (form.form_group first.now ∷ map form.form_group_step rest.now))) result }
+    ensures { Gives (opened_in model.now) (spec.open_groups (within model.now locals.now) (form.groups_of (form.form_group (out-ParamsTree t.now).first ∷ map form.form_group_step (out-ParamsTree t.now).rest))) result }
 {
     let mut opened = Opened {
         locals: copied(alloc, locals)?,
         kinds: Seq::new(alloc),
     };
-    open_group(alloc, model, &mut opened, first)?;
-    for step in rest {
+    open_group(alloc, model, &mut opened, &t.first)?;
+    for step in t.rest.as_slice() {
         open_group(alloc, model, &mut opened, &step.group)?;
     }
     Ok(opened)
@@ -788,7 +789,7 @@ pub(crate) fn open_params(
 ) -> Result<Opened, TypeFault>
     ensures { Gives (opened_in model.now) (spec.open_params (need_of need) (within model.now locals.now) (form.form_params t.now)) result }
 {
-    let mut opened = open_groups(alloc, model, locals, &t.first, t.rest.as_slice())?;
+    let mut opened = open_groups(alloc, model, locals, t)?;
     match &t.condition {
         None => Ok(opened),
         Some(condition) => {

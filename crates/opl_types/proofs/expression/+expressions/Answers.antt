@@ -1,20 +1,20 @@
-use Rattle.std.proofs.Common.{Ok, Some, [], ap, arith, drop, map, rules, sym, ◌++◌, ◌+◌, ◌∙◌, ◌∷◌, ◌≡◌}
-use Rattle.std.proofs.lemmas.Grind.{common_steps}
+use Rattle.std.proofs.Common.{Err, Ok, Some, [], ap, drop, map, refl, rules, subst, sym, ◌++◌, ◌+◌, ◌∙◌, ◌∷◌}
 use Rattle.std.specs.Option.{option_map}
 use Rattle.opl_tree.specs.declared.expression.CompareTree.TheViews.{out-AddTree, out-AndTree, out-ExprTree, out-GroupStep, out-GroupTree, out-KeyedTree, out-LastStep, out-OrTree, out-ParamsTree, out-PostTree, out-SubscriptsTree}
-use Rattle.opl_types.specs.Expressions.{all_sorts, made, open_groups, part, typed_parts, typing}
-use Rattle.opl_types.specs.Forms.{form_add, form_add_step, form_and, form_expr, form_group, form_group_step, form_imp, form_keyed, form_last_step, form_mul, form_mul_step, form_neg, form_open, form_or, form_params, form_post, form_prim, form_set, form_sign, form_subscripts, form_suffix, forms_of, groups_of, or_none, with_suffixes}
+use Rattle.opl_types.specs.Expressions.{all_sorts, made, open_groups, open_params, typed_parts, typing}
+use Rattle.opl_types.specs.Expressions.Need.{data_alone}
+use Rattle.opl_types.specs.Forms.{form_add, form_add_step, form_and, form_expr, form_group, form_group_step, form_imp, form_keyed, form_last_step, form_mul, form_mul_step, form_neg, form_open, form_or, form_params, form_post, form_prim, form_set, form_sign, form_subscripts, form_suffix, forms_of, groups_of, or_none}
 use Rattle.opl_types.specs.Forms.Form.{arithmetic, connected}
 use Rattle.opl_types.specs.Scope.{and_then}
-use Rattle.opl_types.specs.Steps.{suffixed}
+use Rattle.opl_types.specs.Steps.{open_each, suffixed}
 use Rattle.opl_types.specs.Types.{is_number, is_truth, sort}
 use Rattle.opl_types.specs.Types.Sort.{bool, int}
-use Rattle.opl_types.specs.Values.{need_of, node_of, opened_in, within}
+use Rattle.opl_types.specs.Values.{Gives, need_of, node_of, opened_in, within}
 use Rattle.opl_types.proofs.Chains.{gives-same}
 use Rattle.opl_types.proofs.Forms.{form_add-is, form_and-is, form_expr-is, form_group-is, form_group_step-is, form_keyed-is, form_last_step-is, form_mul-Product, form_or-is, form_params-is, form_post-is, form_subscripts-is, form_suffix-Field, form_suffix-Subscripts}
-use Rattle.opl_types.proofs.Loops.{cell_fault, cell_wrong, chain_made, chain_wrong, first_fault, first_typed, front_fault, front_typed, key_fault, key_wrong, last_added, last_fault, last_wrong, none_left, pair_added, pairs_end, part_added, part_fault, part_wrong, parts_end}
+use Rattle.opl_types.proofs.Loops.{back_alone, back_made, back_wrong, cell_fault, cell_wrong, chain_made, chain_wrong, first_fault, first_typed, front_wrong, key_fault, key_wrong, last_added, last_fault, last_wrong, none_left, pair_added, pairs_end, part_added, part_fault, part_wrong, parts_end}
 use Rattle.opl_types.proofs.Opening.{base_wrong, condition_fault, condition_taken, condition_wrong, described_fault, described_made, described_wrong, group_fault, group_here, group_made, group_opened, groups_begin, groups_end, no_condition, params_fault, post_fault, suffix_added, suffix_element, suffix_fault, suffix_field, suffixes_end, wrongly}
-use Rattle.opl_types.proofs.Steps.{groups-opened, typing-suffixes}
+use Rattle.opl_types.proofs.Steps.{typing-suffixes}
 use Rattle.opl_types.proofs.Typing.{typing-arithmetic, typing-connected}
 use Rattle.opl_types.proofs.expression.+expressions.Goals as goal
 
@@ -128,31 +128,41 @@ add_steps-returns t c =
 
 pub mul-returns-in_err-parts-in-Product : goal.mul-returns-in_err-parts-in-Product
 mul-returns-in_err-parts-in-Product t c =
-    let h = chain_wrong (within c.args.model.now c.args.locals.now) (arithmetic c.in-Product.at) (λ ns. made c.in-Product.at int ns (all_sorts is_number ns)) (typing-arithmetic _ c.in-Product.at) (form_mul c.args.t.now) (form_sign c.in-Product.first) (map form_mul_step c.in-Product.steps ++ or_none (option_map form_last_step c.in-Product.last)) (map form_mul_step c.as_slice-in-Product.result.now ++ or_none (option_map form_last_step c.in-Product.last)) (ap form_mul c.in-Product.is ∙ form_mul-Product c.in-Product.at c.in-Product.first c.in-Product.steps c.in-Product.last) (ap (λ ss. (map form_mul_step ss ++ or_none (option_map form_last_step c.in-Product.last))) c.as_slice-in-Product.ensures) (λ e. c.if-is_alone.ensures.1 (ap (λ ss. (map form_mul_step ss ++ or_none (option_map form_last_step c.in-Product.last))) c.as_slice.ensures ∙ e)) c.in_ok-first-in-Product.first c.in_ok-first-in-Product.ensures c.in_err-parts-in-Product.field-0.0 c.in_err-parts-in-Product.ensures in
+    let h = front_wrong (within c.args.model.now c.args.locals.now) (arithmetic c.in-Product.at) (λ ns. made c.in-Product.at int ns (all_sorts is_number ns)) (typing-arithmetic _ c.in-Product.at) (form_mul c.args.t.now) (form_sign c.in-Product.first) (map form_mul_step c.in-Product.steps) (map form_mul_step c.as_slice-in-Product.result.now) (or_none (option_map form_last_step c.in-Product.last)) (ap form_mul c.in-Product.is ∙ form_mul-Product c.in-Product.at c.in-Product.first c.in-Product.steps c.in-Product.last) (ap (map form_mul_step) c.as_slice-in-Product.ensures) (λ e. c.if-is_alone.ensures.1 (ap (λ ss. map form_mul_step ss ++ or_none (option_map form_last_step c.in-Product.last)) c.as_slice.ensures ∙ e)) c.in_ok-first-in-Product.first c.in_ok-first-in-Product.ensures c.in_err-parts-in-Product.field-0.0 c.in_err-parts-in-Product.ensures in
     search rules
 
-pub mul-returns-in_ok-parts-in-Product : goal.mul-returns-in_ok-parts-in-Product
-mul-returns-in_ok-parts-in-Product t c =
-    chain_made (within c.args.model.now c.args.locals.now) (arithmetic c.in-Product.at) (λ ns. made c.in-Product.at int ns (all_sorts is_number ns)) (typing-arithmetic _ c.in-Product.at) (form_mul c.args.t.now) (form_sign c.in-Product.first) (map form_mul_step c.in-Product.steps ++ or_none (option_map form_last_step c.in-Product.last)) (map form_mul_step c.as_slice-in-Product.result.now ++ or_none (option_map form_last_step c.in-Product.last)) (ap form_mul c.in-Product.is ∙ form_mul-Product c.in-Product.at c.in-Product.first c.in-Product.steps c.in-Product.last) (ap (λ ss. (map form_mul_step ss ++ or_none (option_map form_last_step c.in-Product.last))) c.as_slice-in-Product.ensures) (λ e. c.if-is_alone.ensures.1 (ap (λ ss. (map form_mul_step ss ++ or_none (option_map form_last_step c.in-Product.last))) c.as_slice.ensures ∙ e)) c.in_ok-first-in-Product.first c.in_ok-first-in-Product.ensures c.in_ok-parts-in-Product.parts c.in_ok-parts-in-Product.ensures c.arithmetic.result c.arithmetic.ensures
+pub mul-returns-in-None : goal.mul-returns-in-None
+mul-returns-in-None t c =
+    let a = c.in-None.is in
+    back_alone (within c.args.model.now c.args.locals.now) (arithmetic c.in-Product.at) (λ ns. made c.in-Product.at int ns (all_sorts is_number ns)) (typing-arithmetic _ c.in-Product.at) (form_mul c.args.t.now) (form_sign c.in-Product.first) (map form_mul_step c.in-Product.steps) (map form_mul_step c.as_slice-in-Product.result.now) (or_none (option_map form_last_step c.in-Product.last)) (ap form_mul c.in-Product.is ∙ form_mul-Product c.in-Product.at c.in-Product.first c.in-Product.steps c.in-Product.last) (ap (map form_mul_step) c.as_slice-in-Product.ensures) (λ e. c.if-is_alone.ensures.1 (ap (λ ss. map form_mul_step ss ++ or_none (option_map form_last_step c.in-Product.last)) c.as_slice.ensures ∙ e)) c.in_ok-first-in-Product.first c.in_ok-first-in-Product.ensures c.in_ok-parts-in-Product.parts c.in_ok-parts-in-Product.ensures (ap (λ o. or_none (option_map form_last_step o)) c.in-None.is) c.arithmetic.result c.arithmetic.ensures
 
-pub factors-returns-in_err-parts : goal.factors-returns-in_err-parts
-factors-returns-in_err-parts t c =
-    let h = front_fault (within c.args.model.now c.args.locals.now) (part (node_of c.args.first)) (map form_mul_step c.args.steps.now) (or_none (option_map form_last_step c.args.last.now)) c.in_err-parts.field-0.0 c.in_err-parts.ensures in
+pub mul-returns-in_err-all-in-Some : goal.mul-returns-in_err-all-in-Some
+mul-returns-in_err-all-in-Some t c =
+    let h = back_wrong (within c.args.model.now c.args.locals.now) (arithmetic c.in-Product.at) (λ ns. made c.in-Product.at int ns (all_sorts is_number ns)) (typing-arithmetic _ c.in-Product.at) (form_mul c.args.t.now) (form_sign c.in-Product.first) (map form_mul_step c.in-Product.steps) (map form_mul_step c.as_slice-in-Product.result.now) (or_none (option_map form_last_step c.in-Product.last)) (ap form_mul c.in-Product.is ∙ form_mul-Product c.in-Product.at c.in-Product.first c.in-Product.steps c.in-Product.last) (ap (map form_mul_step) c.as_slice-in-Product.ensures) (λ e. c.if-is_alone.ensures.1 (ap (λ ss. map form_mul_step ss ++ or_none (option_map form_last_step c.in-Product.last)) c.as_slice.ensures ∙ e)) c.in_ok-first-in-Product.first c.in_ok-first-in-Product.ensures c.in_ok-parts-in-Product.parts c.in_ok-parts-in-Product.ensures c.in_err-all-in-Some.field-0.0
+    (gives-same (map node_of) (and_then (typed_parts (within c.args.model.now c.args.locals.now) (forms_of (or_none (option_map form_last_step c.in-Product.last)))) (λ ns. Ok (map node_of c.in_ok-parts-in-Product.parts ++ ns))) _ (Err c.in_err-all-in-Some.field-0.0)
+    (ap (λ gs. and_then (typed_parts (within c.args.model.now c.args.locals.now) (forms_of gs)) (λ ns. Ok (map node_of c.in_ok-parts-in-Product.parts ++ ns))) (ap (λ o. or_none (option_map form_last_step o)) c.in-Some.is))
+    c.in_err-all-in-Some.ensures) in
     search rules
 
-pub factors-returns-in_err-open-in-Some : goal.factors-returns-in_err-open-in-Some
-factors-returns-in_err-open-in-Some t c =
-    let h = last_fault (within c.args.model.now c.args.locals.now) _ c.in_ok-parts.parts (form_open (out-LastStep c.in-Some.last).factor) (front_typed (within c.args.model.now c.args.locals.now) (part (node_of c.args.first)) (map form_mul_step c.args.steps.now) (or_none (option_map form_last_step c.args.last.now)) c.in_ok-parts.parts c.in_ok-parts.ensures ∙ ap (λ gs. and_then (typed_parts (within c.args.model.now c.args.locals.now) (forms_of gs)) (λ ns. Ok (map node_of c.in_ok-parts.parts ++ ns))) (ap (λ o. or_none (option_map form_last_step o)) c.in-Some.is ∙ ap (λ f. f ∷ []) (form_last_step-is c.in-Some.last))) c.in_err-open-in-Some.field-0.0 c.in_err-open-in-Some.ensures in
+pub mul-returns-in_ok-all-in-Some : goal.mul-returns-in_ok-all-in-Some
+mul-returns-in_ok-all-in-Some t c =
+    back_made (within c.args.model.now c.args.locals.now) (arithmetic c.in-Product.at) (λ ns. made c.in-Product.at int ns (all_sorts is_number ns)) (typing-arithmetic _ c.in-Product.at) (form_mul c.args.t.now) (form_sign c.in-Product.first) (map form_mul_step c.in-Product.steps) (map form_mul_step c.as_slice-in-Product.result.now) (or_none (option_map form_last_step c.in-Product.last)) (ap form_mul c.in-Product.is ∙ form_mul-Product c.in-Product.at c.in-Product.first c.in-Product.steps c.in-Product.last) (ap (map form_mul_step) c.as_slice-in-Product.ensures) (λ e. c.if-is_alone.ensures.1 (ap (λ ss. map form_mul_step ss ++ or_none (option_map form_last_step c.in-Product.last)) c.as_slice.ensures ∙ e)) c.in_ok-first-in-Product.first c.in_ok-first-in-Product.ensures c.in_ok-parts-in-Product.parts c.in_ok-parts-in-Product.ensures c.in_ok-all-in-Some.all
+    (ap (λ gs. and_then (typed_parts (within c.args.model.now c.args.locals.now) (forms_of gs)) (λ ns. Ok (map node_of c.in_ok-parts-in-Product.parts ++ ns))) (ap (λ o. or_none (option_map form_last_step o)) c.in-Some.is) ∙ c.in_ok-all-in-Some.ensures)
+    c.arithmetic-in-Some.result c.arithmetic-in-Some.ensures
+
+pub with_last-returns-in_err-open : goal.with_last-returns-in_err-open
+with_last-returns-in_err-open t c =
+    let h = last_fault (within c.args.model.now c.args.locals.now) _ c.args.parts (form_open (out-LastStep c.args.last.now).factor) (ap (λ f. and_then (typed_parts (within c.args.model.now c.args.locals.now) (forms_of (f ∷ []))) (λ ns. Ok (map node_of c.args.parts ++ ns))) (form_last_step-is c.args.last.now)) c.in_err-open.field-0.0 c.in_err-open.ensures in
     search rules
 
-pub factors-returns-in_err-part-in-Some : goal.factors-returns-in_err-part-in-Some
-factors-returns-in_err-part-in-Some t c =
-    let h = last_wrong (within c.args.model.now c.args.locals.now) _ c.in_ok-parts.parts (form_open (out-LastStep c.in-Some.last).factor) (front_typed (within c.args.model.now c.args.locals.now) (part (node_of c.args.first)) (map form_mul_step c.args.steps.now) (or_none (option_map form_last_step c.args.last.now)) c.in_ok-parts.parts c.in_ok-parts.ensures ∙ ap (λ gs. and_then (typed_parts (within c.args.model.now c.args.locals.now) (forms_of gs)) (λ ns. Ok (map node_of c.in_ok-parts.parts ++ ns))) (ap (λ o. or_none (option_map form_last_step o)) c.in-Some.is ∙ ap (λ f. f ∷ []) (form_last_step-is c.in-Some.last))) c.in_ok-open-in-Some.field-0 c.in_ok-open-in-Some.ensures c.in_err-part-in-Some.field-0.0 c.in_err-part-in-Some.ensures in
+pub with_last-returns-in_err-part : goal.with_last-returns-in_err-part
+with_last-returns-in_err-part t c =
+    let h = last_wrong (within c.args.model.now c.args.locals.now) _ c.args.parts (form_open (out-LastStep c.args.last.now).factor) (ap (λ f. and_then (typed_parts (within c.args.model.now c.args.locals.now) (forms_of (f ∷ []))) (λ ns. Ok (map node_of c.args.parts ++ ns))) (form_last_step-is c.args.last.now)) c.in_ok-open.field-0 c.in_ok-open.ensures c.in_err-part.field-0.0 c.in_err-part.ensures in
     search rules
 
-pub factors-returns-in_ok-push-in-Some : goal.factors-returns-in_ok-push-in-Some
-factors-returns-in_ok-push-in-Some t c =
-    last_added (within c.args.model.now c.args.locals.now) _ c.in_ok-parts.parts (form_open (out-LastStep c.in-Some.last).factor) (front_typed (within c.args.model.now c.args.locals.now) (part (node_of c.args.first)) (map form_mul_step c.args.steps.now) (or_none (option_map form_last_step c.args.last.now)) c.in_ok-parts.parts c.in_ok-parts.ensures ∙ ap (λ gs. and_then (typed_parts (within c.args.model.now c.args.locals.now) (forms_of gs)) (λ ns. Ok (map node_of c.in_ok-parts.parts ++ ns))) (ap (λ o. or_none (option_map form_last_step o)) c.in-Some.is ∙ ap (λ f. f ∷ []) (form_last_step-is c.in-Some.last))) c.in_ok-open-in-Some.field-0 c.in_ok-part-in-Some.field-0 c.in_ok-open-in-Some.ensures c.in_ok-part-in-Some.ensures c.push.new.self c.in_ok-push-in-Some.ensures.ok
+pub with_last-returns : goal.with_last-returns
+with_last-returns t c =
+    last_added (within c.args.model.now c.args.locals.now) _ c.args.parts (form_open (out-LastStep c.args.last.now).factor) (ap (λ f. and_then (typed_parts (within c.args.model.now c.args.locals.now) (forms_of (f ∷ []))) (λ ns. Ok (map node_of c.args.parts ++ ns))) (form_last_step-is c.args.last.now)) c.in_ok-open.field-0 c.in_ok-part.field-0 c.in_ok-open.ensures c.in_ok-part.ensures c.push.new.self c.in_ok-push.ensures.ok
 
 pub mul_steps-returns-in_err-mul_step : goal.mul_steps-returns-in_err-mul_step
 mul_steps-returns-in_err-mul_step t c =
@@ -288,21 +298,21 @@ pairs-returns t c =
 
 pub described_set-returns-in_err-add-in-Ok : goal.described_set-returns-in_err-add-in-Ok
 described_set-returns-in_err-add-in-Ok t c =
-    let h = described_fault (within c.args.model.now c.args.locals.now) c.args.at (form_add c.args.value.now) (form_params c.args.params.now) (opened_in c.args.model.now c.in-Ok.opened) c.in-Ok.ensures (within c.args.model.now c.as_slice.result.now) (ap (within c.args.model.now) c.as_slice.ensures) c.in_err-add-in-Ok.field-0.0 c.in_err-add-in-Ok.ensures in
+    let h = described_fault (within c.args.model.now c.args.locals.now) c.args.at (form_add c.args.value.now) (form_params c.args.params.now) (opened_in c.args.model.now c.in-Ok.opened) (subst (Gives (opened_in c.args.model.now) (open_params data_alone (within c.args.model.now c.args.locals.now) (form_params c.args.params.now))) c.in-Ok.is c.requires) (within c.args.model.now c.as_slice.result.now) (ap (within c.args.model.now) c.as_slice.ensures) c.in_err-add-in-Ok.field-0.0 c.in_err-add-in-Ok.ensures in
     search rules
 
 pub described_set-returns-in_err-value-in-Ok : goal.described_set-returns-in_err-value-in-Ok
 described_set-returns-in_err-value-in-Ok t c =
-    let h = described_wrong (within c.args.model.now c.args.locals.now) c.args.at (form_add c.args.value.now) (form_params c.args.params.now) (opened_in c.args.model.now c.in-Ok.opened) c.in-Ok.ensures (within c.args.model.now c.as_slice.result.now) (ap (within c.args.model.now) c.as_slice.ensures) c.in_ok-add-in-Ok.field-0 c.in_ok-add-in-Ok.ensures c.in_err-value-in-Ok.field-0.0 c.in_err-value-in-Ok.ensures in
+    let h = described_wrong (within c.args.model.now c.args.locals.now) c.args.at (form_add c.args.value.now) (form_params c.args.params.now) (opened_in c.args.model.now c.in-Ok.opened) (subst (Gives (opened_in c.args.model.now) (open_params data_alone (within c.args.model.now c.args.locals.now) (form_params c.args.params.now))) c.in-Ok.is c.requires) (within c.args.model.now c.as_slice.result.now) (ap (within c.args.model.now) c.as_slice.ensures) c.in_ok-add-in-Ok.field-0 c.in_ok-add-in-Ok.ensures c.in_err-value-in-Ok.field-0.0 c.in_err-value-in-Ok.ensures in
     search rules
 
 pub described_set-returns-in_ok-value-in-Ok : goal.described_set-returns-in_ok-value-in-Ok
 described_set-returns-in_ok-value-in-Ok t c =
-    described_made (within c.args.model.now c.args.locals.now) c.args.at (form_add c.args.value.now) (form_params c.args.params.now) (opened_in c.args.model.now c.in-Ok.opened) c.in-Ok.ensures (within c.args.model.now c.as_slice.result.now) (ap (within c.args.model.now) c.as_slice.ensures) c.in_ok-add-in-Ok.field-0 c.in_ok-add-in-Ok.ensures c.in_ok-value-in-Ok.value c.in_ok-value-in-Ok.ensures c.described.result c.described.ensures
+    described_made (within c.args.model.now c.args.locals.now) c.args.at (form_add c.args.value.now) (form_params c.args.params.now) (opened_in c.args.model.now c.in-Ok.opened) (subst (Gives (opened_in c.args.model.now) (open_params data_alone (within c.args.model.now c.args.locals.now) (form_params c.args.params.now))) c.in-Ok.is c.requires) (within c.args.model.now c.as_slice.result.now) (ap (within c.args.model.now) c.as_slice.ensures) c.in_ok-add-in-Ok.field-0 c.in_ok-add-in-Ok.ensures c.in_ok-value-in-Ok.value c.in_ok-value-in-Ok.ensures c.described.result c.described.ensures
 
 pub described_set-returns-else-is_memory : goal.described_set-returns-else-is_memory
 described_set-returns-else-is_memory t c =
-    wrongly (opened_in c.args.model.now) (within c.args.model.now c.args.locals.now) c.args.at (form_add c.args.value.now) (form_params c.args.params.now) c.in-Err.fault c.in-Err.ensures c.if-is_memory.ensures.1 c.wrongly_described.result c.wrongly_described.ensures
+    wrongly (opened_in c.args.model.now) (within c.args.model.now c.args.locals.now) c.args.at (form_add c.args.value.now) (form_params c.args.params.now) c.in-Err.fault (subst (Gives (opened_in c.args.model.now) (open_params data_alone (within c.args.model.now c.args.locals.now) (form_params c.args.params.now))) c.in-Err.is c.requires) c.if-is_memory.ensures.1 c.wrongly_described.result c.wrongly_described.ensures
 
 pub open_group-returns : goal.open_group-returns
 open_group-returns t c =
@@ -315,41 +325,46 @@ open_group-returns t c =
 
 pub open_groups-returns-in_err-open_group : goal.open_groups-returns-in_err-open_group
 open_groups-returns-in_err-open_group t c =
-    let h = group_fault (λ (u : Unit {0}). opened_in c.args.model.now c.open_group.new.opened) (opened_in c.args.model.now) (open_groups (within c.args.model.now c.args.locals.now) (groups_of (form_group c.args.first.now ∷ map form_group_step c.args.rest.now))) (opened_in c.args.model.now (record { locals = c.in_ok-copied.field-0; kinds = c.new.result })) (form_group c.args.first.now) (map form_group_step c.args.rest.now) (groups_begin c.args.model.now c.args.locals.now c.in_ok-copied.field-0 c.new.result c.in_ok-copied.ensures c.new.ensures (form_group c.args.first.now ∷ map form_group_step c.args.rest.now)) c.in_err-open_group.field-0.0 c.in_err-open_group.ensures in
+    let h = group_fault (λ (u : Unit {0}). opened_in c.args.model.now c.open_group.new.opened) (opened_in c.args.model.now) (open_groups (within c.args.model.now c.args.locals.now) (groups_of (form_group (out-ParamsTree c.args.t.now).first ∷ map form_group_step (out-ParamsTree c.args.t.now).rest))) (opened_in c.args.model.now (record { locals = c.in_ok-copied.field-0; kinds = c.new.result })) (form_group (out-ParamsTree c.args.t.now).first) (map form_group_step (out-ParamsTree c.args.t.now).rest) (groups_begin c.args.model.now c.args.locals.now c.in_ok-copied.field-0 c.new.result c.in_ok-copied.ensures c.new.ensures (form_group (out-ParamsTree c.args.t.now).first ∷ map form_group_step (out-ParamsTree c.args.t.now).rest)) c.in_err-open_group.field-0.0 c.in_err-open_group.ensures in
     search rules
+
+pub open_groups-loop-step-init : goal.open_groups-loop-step-init
+open_groups-loop-step-init t c =
+    group_opened (open_groups (within c.args.model.now c.args.locals.now) (groups_of (form_group (out-ParamsTree c.args.t.now).first ∷ map form_group_step (out-ParamsTree c.args.t.now).rest))) (opened_in c.args.model.now (record { locals = c.in_ok-copied.field-0; kinds = c.new.result })) (form_group (out-ParamsTree c.args.t.now).first) (map form_group_step (out-ParamsTree c.args.t.now).rest) (groups_begin c.args.model.now c.args.locals.now c.in_ok-copied.field-0 c.new.result c.in_ok-copied.ensures c.new.ensures (form_group (out-ParamsTree c.args.t.now).first ∷ map form_group_step (out-ParamsTree c.args.t.now).rest)) (opened_in c.args.model.now c.open_group.new.opened) c.in_ok-open_group.ensures
+    ∙ ap (λ ss. open_each (opened_in c.args.model.now c.open_group.new.opened) (map form_group_step ss)) (sym c.as_slice-step-items.ensures)
 
 pub open_groups-returns-in_err-open_group-2 : goal.open_groups-returns-in_err-open_group-2
 open_groups-returns-in_err-open_group-2 t c =
-    let h = group_fault (λ (u : Unit {0}). opened_in c.args.model.now c.open_group-in-loop-step.new.opened) (opened_in c.args.model.now) (open_groups (within c.args.model.now c.args.locals.now) (groups_of (form_group c.args.first.now ∷ map form_group_step c.args.rest.now))) (opened_in c.args.model.now c.loop-step.opened) (form_group (out-GroupStep c.step-item.result).group) (map form_group_step (drop (c.loop-step.step-index + 1) c.args.rest.now)) (group_here form_group_step (open_groups (within c.args.model.now c.args.locals.now) (groups_of (form_group c.args.first.now ∷ map form_group_step c.args.rest.now))) (opened_in c.args.model.now c.loop-step.opened) c.args.rest.now c.loop-step.step-index (groups-opened (within c.args.model.now c.args.locals.now) (form_group c.args.first.now ∷ map form_group_step c.args.rest.now) ∙ c.loop-step.invariant) c.step-item.result c.loop-step-test.true c.step-item.is (form_group (out-GroupStep c.step-item.result).group) (form_group_step-is c.step-item.result)) c.in_err-open_group-2.field-0.0 c.in_err-open_group-2.ensures in
+    let h = group_fault (λ (u : Unit {0}). opened_in c.args.model.now c.open_group-in-loop-step.new.opened) (opened_in c.args.model.now) (open_groups (within c.args.model.now c.args.locals.now) (groups_of (form_group (out-ParamsTree c.args.t.now).first ∷ map form_group_step (out-ParamsTree c.args.t.now).rest))) (opened_in c.args.model.now c.loop-step.opened) (form_group (out-GroupStep c.step-item.result).group) (map form_group_step (drop (c.loop-step.step-index + 1) c.as_slice-step-items.result.now)) (group_here form_group_step (open_groups (within c.args.model.now c.args.locals.now) (groups_of (form_group (out-ParamsTree c.args.t.now).first ∷ map form_group_step (out-ParamsTree c.args.t.now).rest))) (opened_in c.args.model.now c.loop-step.opened) c.as_slice-step-items.result.now c.loop-step.step-index c.loop-step.invariant c.step-item.result c.loop-step-test.true c.step-item.is (form_group (out-GroupStep c.step-item.result).group) (form_group_step-is c.step-item.result)) c.in_err-open_group-2.field-0.0 c.in_err-open_group-2.ensures in
     search rules
 
 pub open_groups-loop-step-preserved : goal.open_groups-loop-step-preserved
 open_groups-loop-step-preserved t c =
-    group_opened _ (opened_in c.args.model.now c.loop-step.opened) (form_group (out-GroupStep c.step-item.result).group) (map form_group_step (drop (c.loop-step.step-index + 1) c.args.rest.now)) (group_here form_group_step _ (opened_in c.args.model.now c.loop-step.opened) c.args.rest.now c.loop-step.step-index c.loop-step.invariant c.step-item.result c.loop-step-test.true c.step-item.is (form_group (out-GroupStep c.step-item.result).group) (form_group_step-is c.step-item.result)) (opened_in c.args.model.now c.open_group-in-loop-step.new.opened) c.in_ok-open_group-2.ensures
+    group_opened (open_groups (within c.args.model.now c.args.locals.now) (groups_of (form_group (out-ParamsTree c.args.t.now).first ∷ map form_group_step (out-ParamsTree c.args.t.now).rest))) (opened_in c.args.model.now c.loop-step.opened) (form_group (out-GroupStep c.step-item.result).group) (map form_group_step (drop (c.loop-step.step-index + 1) c.as_slice-step-items.result.now)) (group_here form_group_step (open_groups (within c.args.model.now c.args.locals.now) (groups_of (form_group (out-ParamsTree c.args.t.now).first ∷ map form_group_step (out-ParamsTree c.args.t.now).rest))) (opened_in c.args.model.now c.loop-step.opened) c.as_slice-step-items.result.now c.loop-step.step-index c.loop-step.invariant c.step-item.result c.loop-step-test.true c.step-item.is (form_group (out-GroupStep c.step-item.result).group) (form_group_step-is c.step-item.result)) (opened_in c.args.model.now c.open_group-in-loop-step.new.opened) c.in_ok-open_group-2.ensures
 
 pub open_groups-returns : goal.open_groups-returns
 open_groups-returns t c =
-    groups_end form_group_step (open_groups (within c.args.model.now c.args.locals.now) (groups_of (form_group c.args.first.now ∷ map form_group_step c.args.rest.now))) (opened_in c.args.model.now c.loop-step.opened) c.args.rest.now c.loop-step.step-index (groups-opened (within c.args.model.now c.args.locals.now) (form_group c.args.first.now ∷ map form_group_step c.args.rest.now) ∙ c.loop-step.invariant) c.loop-step-test.false
+    groups_end form_group_step (open_groups (within c.args.model.now c.args.locals.now) (groups_of (form_group (out-ParamsTree c.args.t.now).first ∷ map form_group_step (out-ParamsTree c.args.t.now).rest))) (opened_in c.args.model.now c.loop-step.opened) c.as_slice-step-items.result.now c.loop-step.step-index c.loop-step.invariant c.loop-step-test.false
 
 pub open_params-returns-in_err-opened : goal.open_params-returns-in_err-opened
 open_params-returns-in_err-opened t c =
-    let h = params_fault (opened_in c.args.model.now) (within c.args.model.now c.args.locals.now) (need_of c.args.need) (form_params c.args.t.now) (form_group (out-ParamsTree c.args.t.now).first ∷ map form_group_step (out-ParamsTree c.args.t.now).rest) (form_group (out-ParamsTree c.args.t.now).first ∷ map form_group_step c.as_slice.result.now) (option_map form_expr (out-ParamsTree c.args.t.now).condition) (form_params-is c.args.t.now) (ap (λ ss. form_group (out-ParamsTree c.args.t.now).first ∷ map form_group_step ss) c.as_slice.ensures) c.in_err-opened.field-0.0 c.in_err-opened.ensures in
+    let h = params_fault (opened_in c.args.model.now) (within c.args.model.now c.args.locals.now) (need_of c.args.need) (form_params c.args.t.now) (form_group (out-ParamsTree c.args.t.now).first ∷ map form_group_step (out-ParamsTree c.args.t.now).rest) (form_group (out-ParamsTree c.args.t.now).first ∷ map form_group_step (out-ParamsTree c.args.t.now).rest) (option_map form_expr (out-ParamsTree c.args.t.now).condition) (form_params-is c.args.t.now) refl c.in_err-opened.field-0.0 c.in_err-opened.ensures in
     search rules
 
 pub open_params-returns-in-None : goal.open_params-returns-in-None
 open_params-returns-in-None t c =
-    no_condition (within c.args.model.now c.args.locals.now) (need_of c.args.need) (form_params c.args.t.now) (form_group (out-ParamsTree c.args.t.now).first ∷ map form_group_step (out-ParamsTree c.args.t.now).rest) (form_group (out-ParamsTree c.args.t.now).first ∷ map form_group_step c.as_slice.result.now) (option_map form_expr (out-ParamsTree c.args.t.now).condition) (form_params-is c.args.t.now) (ap (λ ss. form_group (out-ParamsTree c.args.t.now).first ∷ map form_group_step ss) c.as_slice.ensures) (ap (option_map form_expr) c.in-None.is) (opened_in c.args.model.now c.in_ok-opened.opened) c.in_ok-opened.ensures
+    no_condition (within c.args.model.now c.args.locals.now) (need_of c.args.need) (form_params c.args.t.now) (form_group (out-ParamsTree c.args.t.now).first ∷ map form_group_step (out-ParamsTree c.args.t.now).rest) (form_group (out-ParamsTree c.args.t.now).first ∷ map form_group_step (out-ParamsTree c.args.t.now).rest) (option_map form_expr (out-ParamsTree c.args.t.now).condition) (form_params-is c.args.t.now) refl (ap (option_map form_expr) c.in-None.is) (opened_in c.args.model.now c.in_ok-opened.opened) c.in_ok-opened.ensures
 
 pub open_params-returns-in_err-node-in-Some : goal.open_params-returns-in_err-node-in-Some
 open_params-returns-in_err-node-in-Some t c =
-    let h = condition_fault (within c.args.model.now c.args.locals.now) (need_of c.args.need) (form_params c.args.t.now) (form_group (out-ParamsTree c.args.t.now).first ∷ map form_group_step (out-ParamsTree c.args.t.now).rest) (form_group (out-ParamsTree c.args.t.now).first ∷ map form_group_step c.as_slice.result.now) (option_map form_expr (out-ParamsTree c.args.t.now).condition) (form_params-is c.args.t.now) (ap (λ ss. form_group (out-ParamsTree c.args.t.now).first ∷ map form_group_step ss) c.as_slice.ensures) (form_expr c.get.result.now) (ap (option_map form_expr) c.in-Some.is ∙ ap (λ x. Some (form_expr x)) (sym c.get.ensures)) (opened_in c.args.model.now c.in_ok-opened.opened) c.in_ok-opened.ensures (within c.args.model.now c.as_slice-in-Some.result.now) (ap (within c.args.model.now) c.as_slice-in-Some.ensures) (opened_in c.args.model.now) c.in_err-node-in-Some.field-0.0 c.in_err-node-in-Some.ensures in
+    let h = condition_fault (within c.args.model.now c.args.locals.now) (need_of c.args.need) (form_params c.args.t.now) (form_group (out-ParamsTree c.args.t.now).first ∷ map form_group_step (out-ParamsTree c.args.t.now).rest) (form_group (out-ParamsTree c.args.t.now).first ∷ map form_group_step (out-ParamsTree c.args.t.now).rest) (option_map form_expr (out-ParamsTree c.args.t.now).condition) (form_params-is c.args.t.now) refl (form_expr c.get.result.now) (ap (option_map form_expr) c.in-Some.is ∙ ap (λ x. Some (form_expr x)) (sym c.get.ensures)) (opened_in c.args.model.now c.in_ok-opened.opened) c.in_ok-opened.ensures (within c.args.model.now c.as_slice.result.now) (ap (within c.args.model.now) c.as_slice.ensures) (opened_in c.args.model.now) c.in_err-node-in-Some.field-0.0 c.in_err-node-in-Some.ensures in
     search rules
 
 pub open_params-returns-in_err-settled-in-Some : goal.open_params-returns-in_err-settled-in-Some
 open_params-returns-in_err-settled-in-Some t c =
-    let h = condition_wrong (within c.args.model.now c.args.locals.now) (need_of c.args.need) (form_params c.args.t.now) (form_group (out-ParamsTree c.args.t.now).first ∷ map form_group_step (out-ParamsTree c.args.t.now).rest) (form_group (out-ParamsTree c.args.t.now).first ∷ map form_group_step c.as_slice.result.now) (option_map form_expr (out-ParamsTree c.args.t.now).condition) (form_params-is c.args.t.now) (ap (λ ss. form_group (out-ParamsTree c.args.t.now).first ∷ map form_group_step ss) c.as_slice.ensures) (form_expr c.get.result.now) (ap (option_map form_expr) c.in-Some.is ∙ ap (λ x. Some (form_expr x)) (sym c.get.ensures)) (opened_in c.args.model.now c.in_ok-opened.opened) c.in_ok-opened.ensures (within c.args.model.now c.as_slice-in-Some.result.now) (ap (within c.args.model.now) c.as_slice-in-Some.ensures) c.in_ok-node-in-Some.node c.in_ok-node-in-Some.ensures c.is_truth-is_taken.result c.is_truth-is_taken.ensures (opened_in c.args.model.now) c.in_err-settled-in-Some.field-0.0 c.in_err-settled-in-Some.ensures in
+    let h = condition_wrong (within c.args.model.now c.args.locals.now) (need_of c.args.need) (form_params c.args.t.now) (form_group (out-ParamsTree c.args.t.now).first ∷ map form_group_step (out-ParamsTree c.args.t.now).rest) (form_group (out-ParamsTree c.args.t.now).first ∷ map form_group_step (out-ParamsTree c.args.t.now).rest) (option_map form_expr (out-ParamsTree c.args.t.now).condition) (form_params-is c.args.t.now) refl (form_expr c.get.result.now) (ap (option_map form_expr) c.in-Some.is ∙ ap (λ x. Some (form_expr x)) (sym c.get.ensures)) (opened_in c.args.model.now c.in_ok-opened.opened) c.in_ok-opened.ensures (within c.args.model.now c.as_slice.result.now) (ap (within c.args.model.now) c.as_slice.ensures) c.in_ok-node-in-Some.node c.in_ok-node-in-Some.ensures c.is_truth-is_taken.result c.is_truth-is_taken.ensures (opened_in c.args.model.now) c.in_err-settled-in-Some.field-0.0 c.in_err-settled-in-Some.ensures in
     search rules
 
 pub open_params-returns-in_ok-add_kinds-in-Some : goal.open_params-returns-in_ok-add_kinds-in-Some
 open_params-returns-in_ok-add_kinds-in-Some t c =
-    condition_taken (within c.args.model.now c.args.locals.now) (need_of c.args.need) (form_params c.args.t.now) (form_group (out-ParamsTree c.args.t.now).first ∷ map form_group_step (out-ParamsTree c.args.t.now).rest) (form_group (out-ParamsTree c.args.t.now).first ∷ map form_group_step c.as_slice.result.now) (option_map form_expr (out-ParamsTree c.args.t.now).condition) (form_params-is c.args.t.now) (ap (λ ss. form_group (out-ParamsTree c.args.t.now).first ∷ map form_group_step ss) c.as_slice.ensures) (form_expr c.get.result.now) (ap (option_map form_expr) c.in-Some.is ∙ ap (λ x. Some (form_expr x)) (sym c.get.ensures)) (opened_in c.args.model.now c.in_ok-opened.opened) c.in_ok-opened.ensures (within c.args.model.now c.as_slice-in-Some.result.now) (ap (within c.args.model.now) c.as_slice-in-Some.ensures) c.in_ok-node-in-Some.node c.in_ok-node-in-Some.ensures c.is_truth-is_taken.result c.is_truth-is_taken.ensures c.in_ok-settled-in-Some.field-0 c.in_ok-settled-in-Some.ensures (map sort c.add_kinds.new.kinds) c.in_ok-add_kinds-in-Some.ensures
+    condition_taken (within c.args.model.now c.args.locals.now) (need_of c.args.need) (form_params c.args.t.now) (form_group (out-ParamsTree c.args.t.now).first ∷ map form_group_step (out-ParamsTree c.args.t.now).rest) (form_group (out-ParamsTree c.args.t.now).first ∷ map form_group_step (out-ParamsTree c.args.t.now).rest) (option_map form_expr (out-ParamsTree c.args.t.now).condition) (form_params-is c.args.t.now) refl (form_expr c.get.result.now) (ap (option_map form_expr) c.in-Some.is ∙ ap (λ x. Some (form_expr x)) (sym c.get.ensures)) (opened_in c.args.model.now c.in_ok-opened.opened) c.in_ok-opened.ensures (within c.args.model.now c.as_slice.result.now) (ap (within c.args.model.now) c.as_slice.ensures) c.in_ok-node-in-Some.node c.in_ok-node-in-Some.ensures c.is_truth-is_taken.result c.is_truth-is_taken.ensures c.in_ok-settled-in-Some.field-0 c.in_ok-settled-in-Some.ensures (map sort c.add_kinds.new.kinds) c.in_ok-add_kinds-in-Some.ensures

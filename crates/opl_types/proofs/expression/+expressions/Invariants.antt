@@ -1,7 +1,7 @@
-use Rattle.std.proofs.Common.{Ok, [], drop, map, ◌++◌, ◌∷◌, ◌≡◌}
-use Rattle.opl_tree.specs.declared.expression.CompareTree.TheViews.{out-PostTree}
-use Rattle.opl_types.specs.Expressions.{part, typed_pairs, typed_parts, typing}
-use Rattle.opl_types.specs.Forms.{form_add, form_add_step, form_and, form_group, form_group_step, form_imp, form_keyed, form_mul_step, form_neg, form_post, form_suffix, forms_of, pairs_of}
+use Rattle.std.proofs.Common.{Ok, drop, map, ◌++◌, ◌∷◌, ◌≡◌}
+use Rattle.opl_tree.specs.declared.expression.CompareTree.TheViews.{out-ParamsTree, out-PostTree}
+use Rattle.opl_types.specs.Expressions.{open_groups, part, typed_pairs, typed_parts, typing}
+use Rattle.opl_types.specs.Forms.{form_add, form_add_step, form_and, form_group, form_group_step, form_imp, form_keyed, form_mul_step, form_neg, form_post, form_suffix, forms_of, groups_of, pairs_of}
 use Rattle.opl_types.specs.Scope.{and_then}
 use Rattle.opl_types.specs.Steps.{open_each, suffixed}
 use Rattle.opl_types.specs.Values.{node_of, opened_in, within}
@@ -54,5 +54,5 @@ invariant-pairs-loop-t l =
 
 abbrev pub invariant-open_groups-loop-step : goal.invariant-open_groups-loop-step
 invariant-open_groups-loop-step l =
-    open_each (record { scope = within l.model l.locals; kinds = [] }) (form_group l.first ∷ map form_group_step l.rest)
-    ≡ open_each (opened_in l.model l.opened) (map form_group_step (drop l.step-index l.rest))
+    open_groups (within l.model l.locals) (groups_of (form_group (out-ParamsTree l.t).first ∷ map form_group_step (out-ParamsTree l.t).rest))
+    ≡ open_each (opened_in l.model l.opened) (map form_group_step (drop l.step-index l.step-items))
