@@ -14,6 +14,7 @@ use Rattle.opl_tree.specs.declared.declaration.FieldTree.{FieldTree}
 use Rattle.opl_tree.specs.declared.declaration.InitialTree.{InitialTree}
 use Rattle.opl_tree.specs.declared.declaration.InitialTree.TheVariants as initials
 use Rattle.opl_tree.specs.declared.declaration.RangeTree.{RangeTree}
+use Rattle.opl_tree.specs.declared.declaration.ScheduleEnd.{ScheduleEnd}
 use Rattle.opl_tree.specs.declared.declaration.ScheduleEnd.TheVariants as ends
 use Rattle.opl_tree.specs.declared.declaration.ScheduleTree.{ScheduleTree}
 use Rattle.opl_tree.specs.declared.declaration.StructTree.{StructTree}
@@ -26,7 +27,6 @@ use Rattle.opl_tree.specs.declared.expression.AddTree.{AddTree}
 use Rattle.opl_tree.specs.declared.expression.CompareTree.TheViews.{out-KeyedTree}
 use Rattle.opl_tree.specs.declared.expression.KeyedTree.{KeyedTree}
 use Rattle.opl_tree.specs.declared.expression.NameTree.{NameTree}
-use Rattle.opl_types.specs.declared.fault.TypeFault.{TypeFault}
 use Rattle.opl_types.specs.declared.fault.TypeFault.TheVariants.{Duplicate, Mismatch}
 use Rattle.opl_types.specs.declared.kind.Ty.{Ty}
 use Rattle.opl_types.specs.declared.names.Entry.{Entry}
@@ -44,19 +44,15 @@ use Rattle.opl_types.specs.Expressions.{Opened, Node, Range, kinds, kinds_in, ty
 use Rattle.opl_types.specs.Expressions.Need.{data_alone}
 use Rattle.opl_types.specs.Declarations.{Dimensions, Shape, no_dimensions, dimensions, with_dimension, fresh_in, all_dims, cell_indices, cells_left, enum_names, with_names, enum_decl, field_list, struct_decl, initial, initial_cells, initial_kinds, initial_pairs, is_decidable, is_given, given, makes, maybe_number, named_type, number_kinds, bounds_kinds, shape, shaped, variable_type, written_type, data_decl, range_decl, variable_decl, activity_decl, unary_decl, discrete_decl, schedule_decl, decl, all_decls, next}
 use Rattle.opl_types.specs.Steps.{front, behind}
-use Rattle.opl_types.specs.DeclarationSteps.{Seen, fresh_name, seen_more, see_one, see_each, nothing_seen, seen, cells_seen, is_any, front_numbers, front_number, front_bounds, front_initial, data_behind, range_behind, variable_behind, activity_behind, unary_behind, discrete_behind, schedule_behind, name_one, name_each, enum_steps, field_one, field_each, struct_steps, Held, held, initial_by, plain_value, cells_behind, pair_behind, pairs_behind, decls_behind}
+use Rattle.opl_types.specs.DeclarationSteps.{Seen, fresh_name, seen_more, see_each, nothing_seen, seen, cells_seen, is_any, front_number, front_bounds, front_initial, data_behind, range_behind, variable_behind, activity_behind, unary_behind, discrete_behind, schedule_behind, name_each, enum_steps, field_each, struct_steps, Held, held, initial_by, plain_value, cells_behind, pair_behind, pairs_behind, decls_behind}
 use Rattle.opl_types.proofs.Forms.{form_keyed-is}
-use Rattle.opl_types.specs.Values.{Gives, scope_of, within, with_entries, with_locals, thing_of}
+use Rattle.opl_types.specs.Values.{scope_of, within, with_entries, with_locals, thing_of}
 
 -- ---- one check behind another
 
 under : {A B : Type 0} (c : Checked A) (f g : A → Checked B) → ((a : A) → f a ≡ g a) → and_then c f ≡ and_then c g
 under (Ok a) f g h = h a
 under (Err e) f g h = refl
-
--- equal checks have the same fault
-pub same-fault : {A : Type 0} (c d : Checked A) (e : TypeFault) → c ≡ d → Gives {A = A} {B = A} (λ a. a) c (Err e) → Gives {A = A} {B = A} (λ a. a) d (Err e)
-same-fault c d e p h = subst (λ x. Gives (λ a. a) x (Err e)) p h
 
 front-none : (ks : List Sort) → Ok ks ≡ front ks (Ok [])
 front-none ks = ap Ok (sym (append-nil ks))
@@ -263,8 +259,8 @@ data-by ks sc t (Ok s) (Ok u) (Err e) = refl
 data-by ks sc t (Ok s) (Ok u) (Ok d) =
     made-behind ks d.dims.kinds sc t.name (value (shaped d.dims.indices s)) (initial_kinds d.inner s (cell_indices d.dims) t.initial)
     ∙ ap (λ c. and_then c (λ more. makes sc t.name (value (shaped d.dims.indices s)) more))
-        (ap (λ is. front (ks ++ d.dims.kinds) (initial_kinds d.inner s is t.initial)) (cells-left d.dims.names d.dims.indices)
-        ∙ initial-front (ks ++ d.dims.kinds) d.inner s (cells_seen (any_name d.dims.names) d.dims.indices) t.initial)
+    (ap (λ is. front (ks ++ d.dims.kinds) (initial_kinds d.inner s is t.initial)) (cells-left d.dims.names d.dims.indices)
+    ∙ initial-front (ks ++ d.dims.kinds) d.inner s (cells_seen (any_name d.dims.names) d.dims.indices) t.initial)
 
 data-law : (ks : List Sort) (sc : Scope) (t : DataTree) → behind ks (data_decl sc t) ≡ data_behind ks sc t
 data-law ks sc t = data-by ks sc t (written_type t.kind sc) (fresh sc t.name) (shape sc t.dims) ∙ ap (data_seen ks sc t) (sym (seen-shape sc t.dims))
@@ -338,9 +334,9 @@ activity-by ks sc t (Ok u) (Err e) = refl
 activity-by ks sc t (Ok u) (Ok d) =
     made-two-behind ks d.dims.kinds sc t.name (activities (shaped d.dims.indices activity)) (number_kinds d.inner t.shortest) (maybe_number d.inner t.longest)
     ∙ under (front (ks ++ d.dims.kinds) (number_kinds d.inner t.shortest))
-        (λ k. and_then (front k (maybe_number d.inner t.longest)) (λ more. makes sc t.name (activities (shaped d.dims.indices activity)) more))
-        (λ k. and_then (front_number k d.inner t.longest) (λ more. makes sc t.name (activities (shaped d.dims.indices activity)) more))
-        (λ k. ap (λ c. and_then c (λ more. makes sc t.name (activities (shaped d.dims.indices activity)) more)) (number-front k d.inner t.longest))
+    (λ k. and_then (front k (maybe_number d.inner t.longest)) (λ more. makes sc t.name (activities (shaped d.dims.indices activity)) more))
+    (λ k. and_then (front_number k d.inner t.longest) (λ more. makes sc t.name (activities (shaped d.dims.indices activity)) more))
+    (λ k. ap (λ c. and_then c (λ more. makes sc t.name (activities (shaped d.dims.indices activity)) more)) (number-front k d.inner t.longest))
 
 activity-law : (ks : List Sort) (sc : Scope) (t : ActivityTree) → behind ks (activity_decl sc t) ≡ activity_behind ks sc t
 activity-law ks sc t = activity-by ks sc t (fresh sc t.name) (shape sc t.dims) ∙ ap (activity_seen ks sc t) (sym (seen-shape sc t.dims))
@@ -414,7 +410,7 @@ enum-law ks k sc t =
     enum-by ks (with_names k (enum_names t.names) (declared t.name.text (enum_type k) sc)) (fresh sc t.name) (all_fresh (declared t.name.text (value anything) sc) (enum_names t.names))
     ∙ ap (λ ls. and_then (and_then (fresh sc t.name) (λ u. and_then (all_fresh (declared t.name.text (value anything) sc) (enum_names t.names)) (λ v. Ok (with_names k (enum_names t.names) (declared t.name.text (enum_type k) sc))))) (λ s. Ok (record { scope = s; kinds = ls }))) (append-nil ks)
     ∙ ap (λ c. and_then (and_then (fresh sc t.name) (λ u. c)) (λ s. Ok (record { scope = s; kinds = ks })))
-        (sym (names-each k (enum_names t.names) (declared t.name.text (value anything) sc) (declared t.name.text (enum_type k) sc) (agree-declared sc sc t.name.text (value anything) (enum_type k) (λ n. refl))))
+    (sym (names-each k (enum_names t.names) (declared t.name.text (value anything) sc) (declared t.name.text (enum_type k) sc) (agree-declared sc sc t.name.text (value anything) (enum_type k) (λ n. refl))))
 
 -- ---- structs
 
@@ -468,7 +464,7 @@ fields-each sc [] taken fs h = ap Ok (sym (append-nil fs))
 fields-each sc (f ∷ others) taken fs h =
     ap (λ x. and_then (and_then (written_type f.kind sc) (λ s. and_then x (λ u. Ok (fs ++ record { name = f.name.text; sort = s } ∷ [])))) (λ done. field_each sc done others)) (fresh-known taken fs f.name h)
     ∙ fields-next sc taken fs f others (written_type f.kind sc) (fresh taken f.name)
-        (λ s. fields-each sc others (declared f.name.text (value anything) taken) (fs ++ record { name = f.name.text; sort = s } ∷ []) (known-more taken fs f.name.text (value anything) s h))
+    (λ s. fields-each sc others (declared f.name.text (value anything) taken) (fs ++ record { name = f.name.text; sort = s } ∷ []) (known-more taken fs f.name.text (value anything) s h))
 
 struct-by : (ks : List Sort) (k : ℕ) (sc : Scope) (name : NameTree) (x : Checked (Unit {0})) (c : Checked (List Field)) →
     behind ks (and_then x (λ u. and_then c (λ fields. makes sc name (struct_type k fields) [])))
@@ -556,15 +552,32 @@ unfolding declared
 horizon-set [] sc = refl
 horizon-set (e ∷ es) sc = horizon-set es (declared e.name (thing_of e.thing) sc)
 
-pub origin-given : (n : Names) → scope_of (record n { has_origin = true }) ≡ given ends.Origin (scope_of n)
-unfolding scope_of
-origin-given n = origin-set n.entries (record { entries = []; is_search = n.is_search; has_origin = n.has_origin; has_horizon = n.has_horizon })
+same-scope : (es ds : List Entry) (a b c d e f : Bool) → es ≡ ds → a ≡ b → c ≡ d → e ≡ f →
+    with_entries es (record { entries = []; is_search = a; has_origin = c; has_horizon = e }) ≡ with_entries ds (record { entries = []; is_search = b; has_origin = d; has_horizon = f })
+same-scope es ds a b c d e f p q r s =
+    ap (λ xs. with_entries xs (record { entries = []; is_search = a; has_origin = c; has_horizon = e })) p
+    ∙ ap (λ x. with_entries ds (record { entries = []; is_search = x; has_origin = c; has_horizon = e })) q
+    ∙ ap (λ x. with_entries ds (record { entries = []; is_search = b; has_origin = x; has_horizon = e })) r
+    ∙ ap (λ x. with_entries ds (record { entries = []; is_search = b; has_origin = d; has_horizon = x })) s
 
-pub horizon-given : (n : Names) → scope_of (record n { has_horizon = true }) ≡ given ends.Horizon (scope_of n)
+-- the same names, with one end of the schedule given
+pub origin-given : (n m : Names) (end : ScheduleEnd) → end ≡ ends.Origin → m.entries ≡ n.entries → m.is_search ≡ n.is_search → m.has_origin ≡ true → m.has_horizon ≡ n.has_horizon →
+    scope_of m ≡ given end (scope_of n)
 unfolding scope_of
-horizon-given n = horizon-set n.entries (record { entries = []; is_search = n.is_search; has_origin = n.has_origin; has_horizon = n.has_horizon })
+origin-given n m end is p q r s =
+    same-scope m.entries n.entries m.is_search n.is_search m.has_origin true m.has_horizon n.has_horizon p q r s
+    ∙ origin-set n.entries (record { entries = []; is_search = n.is_search; has_origin = n.has_origin; has_horizon = n.has_horizon })
+    ∙ ap (λ e. given e (scope_of n)) (sym is)
 
-pub ruleset ends_given = (origin-seen, horizon-seen, origin-given, horizon-given)
+pub horizon-given : (n m : Names) (end : ScheduleEnd) → end ≡ ends.Horizon → m.entries ≡ n.entries → m.is_search ≡ n.is_search → m.has_origin ≡ n.has_origin → m.has_horizon ≡ true →
+    scope_of m ≡ given end (scope_of n)
+unfolding scope_of
+horizon-given n m end is p q r s =
+    same-scope m.entries n.entries m.is_search n.is_search m.has_origin n.has_origin m.has_horizon true p q r s
+    ∙ horizon-set n.entries (record { entries = []; is_search = n.is_search; has_origin = n.has_origin; has_horizon = n.has_horizon })
+    ∙ ap (λ e. given e (scope_of n)) (sym is)
+
+pub ruleset ends_given = (origin-seen, horizon-seen)
 
 -- ---- initial values
 

@@ -1,5 +1,5 @@
 -- Declarations as the program goes through them, one part after the other. The laws between these and the rules stand in proofs.
-use Rattle.std.specs.Prelude.{ℕ, Bool, true, false, cond, not, List, [], ◌∷◌, ◌++◌, map, Option, Some, None, is_some, Ok, Err}
+use Rattle.std.specs.Prelude.{ℕ, Bool, true, false, cond, not, List, [], ◌∷◌, ◌++◌, map, Option, Some, None, is_some, Ok}
 use Rattle.opl_tree.specs.declared.declaration.ActivityTree.{ActivityTree}
 use Rattle.opl_tree.specs.declared.declaration.BoundsTree.{BoundsTree}
 use Rattle.opl_tree.specs.declared.declaration.DataTree.{DataTree}
@@ -25,14 +25,14 @@ use Rattle.opl_types.specs.declared.names.Names.{Names}
 use Rattle.opl_types.specs.declared.plain.Cells as found
 use Rattle.opl_types.specs.Types.{Sort, is_set, sort}
 use Rattle.opl_types.specs.Types.Sort.{activity, unary, discrete}
-use Rattle.opl_types.specs.Scope.{Checked, ◌>>=◌, ◌>>◌, unless, Scope, Field, Text, lookup, declared, fresh, fits_in, field_sort}
+use Rattle.opl_types.specs.Scope.{Checked, ◌>>=◌, ◌>>◌, unless, Scope, Field, declared, fresh, fits_in, field_sort}
 use Rattle.opl_types.specs.Scope.Thing.{range, enum_type, enum_name, struct_type, value, variable, activities, resource}
 use Rattle.opl_types.specs.Forms.{Form, Forms, Pair, Pairs, forms_of, pairs_of, form_add, form_keyed, form_set}
 use Rattle.opl_types.specs.Forms.Form.{cells, keyed_cells}
 use Rattle.opl_types.specs.Forms.Forms.{no_forms, more_forms}
 use Rattle.opl_types.specs.Expressions.{Opened, kinds, kinds_in, used, typing, typed_set, or_anything}
 use Rattle.opl_types.specs.Expressions.Need.{data_alone}
-use Rattle.opl_types.specs.Declarations.{all_dims, cell_indices, decl, enum_names, initial, initial_cells, initial_kinds, initial_pairs, is_decidable, is_given, given, makes, next, number_kinds, shape, shaped, variable_type, written_type}
+use Rattle.opl_types.specs.Declarations.{all_dims, decl, enum_names, initial, initial_cells, initial_pairs, is_decidable, is_given, given, makes, next, number_kinds, shaped, variable_type, written_type}
 use Rattle.opl_types.specs.Steps.{front, behind}
 use Rattle.opl_types.specs.Values.{within}
 

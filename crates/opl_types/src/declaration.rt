@@ -156,7 +156,11 @@ fn add_dimensions(
 
 /// The dimensions of an item; none where it is single.
 #[tactic(auto, using(crate::proofs::Declared::names_within))]
-fn dims_of(alloc: Global, model: &Names<'_>, dims: &Option<DimsTree>) -> Result<Dimensions, TypeFault>
+fn dims_of(
+    alloc: Global,
+    model: &Names<'_>,
+    dims: &Option<DimsTree>,
+) -> Result<Dimensions, TypeFault>
     ensures { Gives (step.seen_in model.now) (step.seen (scope_of model.now) dims.now) result }
 {
     let mut found = Dimensions {
@@ -480,7 +484,12 @@ fn all_enum_names<'a>(
 
 /// `enum NAME NAMES;`
 #[tactic(auto, using(crate::proofs::Declared::names_within))]
-fn enumeration<'a>(alloc: Global, model: &mut Names<'a>, number: u32, t: &'a EnumTree) -> Result<(), TypeFault>
+fn enumeration<'a>(
+    alloc: Global,
+    model: &mut Names<'a>,
+    number: u32,
+    t: &'a EnumTree,
+) -> Result<(), TypeFault>
     ensures { Gives (λ u. scope_of model.new) (step.enum_steps number (scope_of model.old) t.now) result }
 {
     fresh(model, &[], &t.name)?;
@@ -541,7 +550,12 @@ fn all_fields(
 
 /// `struct NAME {FIELD FIELD ..};`
 #[tactic(auto, using(crate::proofs::Declared::names_within))]
-fn structure<'a>(alloc: Global, model: &mut Names<'a>, number: u32, t: &'a StructTree) -> Result<(), TypeFault>
+fn structure<'a>(
+    alloc: Global,
+    model: &mut Names<'a>,
+    number: u32,
+    t: &'a StructTree,
+) -> Result<(), TypeFault>
     ensures { Gives (λ u. scope_of model.new) (step.struct_steps number (scope_of model.old) t.now) result }
 {
     fresh(model, &[], &t.name)?;
@@ -682,7 +696,6 @@ fn is_given(model: &Names<'_>, end: ScheduleEnd) -> bool
 }
 
 /// Gives that end of the schedule.
-#[tactic(auto, using(crate::proofs::Declared::ends_given))]
 fn give(model: &mut Names<'_>, end: ScheduleEnd)
     ensures { scope_of model.new ≡ spec.given end (scope_of model.old) }
 {

@@ -4,8 +4,8 @@ ghost use Rattle.opl_types.specs.DeclarationSteps as step;
 ghost use Rattle.opl_types.specs.Forms.{form_add, form_mul, form_open, form_post, form_prim, form_sign};
 
 use opl_tree::{
-    AddStep, AddTree, KeyedTree, LastStep, MulStep, MulTree, OpenTree, PostTree, PrimTree, SignTree,
-    SuffixTree,
+    AddStep, AddTree, KeyedTree, LastStep, MulStep, MulTree, OpenTree, PostTree, PrimTree,
+    SignTree, SuffixTree,
 };
 
 /// The cells of an array.
@@ -78,11 +78,7 @@ fn cells_of_open(t: &OpenTree) -> Cells<'_>
 }
 
 /// The same of a product.
-fn cells_of_product<'a>(
-    head: &'a SignTree,
-    steps: &[MulStep],
-    last: &Option<LastStep>,
-) -> Cells<'a>
+fn cells_of_product<'a>(head: &'a SignTree, steps: &[MulStep], last: &Option<LastStep>) -> Cells<'a>
     ensures { step.held_in result ≡ step.alone_or (form_sign head.now) steps.now last.now }
 {
     match steps.split_first() {
