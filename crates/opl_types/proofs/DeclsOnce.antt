@@ -17,13 +17,7 @@ use Rattle.opl_types.specs.Expressions.{Opened, kinds_in, or_anything, typed_set
 use Rattle.opl_types.specs.Expressions.Need.{data_alone}
 use Rattle.opl_types.specs.Declarations.{Dimensions, no_dimensions, fresh_in, with_dimension, dimensions, all_dims, Shape, shape, shaped, written_type, initial_kinds, cell_indices, number_kinds, maybe_number, makes, enum_names, with_names, field_list, variable_type, bounds_kinds, is_decidable, is_given, given, decl, all_decls}
 use Rattle.opl_types.specs.Laws.{DeclsDeclareOnce, DimsDeclareOnce}
-use Rattle.opl_types.proofs.Once.{Once, names_of, pushed, names-declared, names-values, fresh-once, all_fresh-once, unit-ok, went, declared_once, once_declared}
-
-same_scope : (a b : Scope) → ◌≡◌ {A = Checked Scope} (Ok a) (Ok b) → a ≡ b
-same_scope a b h = cc
-
-same_opened : (a b : Opened) → ◌≡◌ {A = Checked Opened} (Ok a) (Ok b) → a ≡ b
-same_opened a b h = cc
+use Rattle.opl_types.proofs.Once.{Once, names_of, pushed, names-declared, names-values, fresh-once, all_fresh-once, unit-ok, went, same_scope, same_opened, declared_once, once_declared}
 
 same_dimensions : (a b : Dimensions) → ◌≡◌ {A = Checked Dimensions} (Ok a) (Ok b) → a ≡ b
 same_dimensions a b h = cc
@@ -50,20 +44,24 @@ dim-named (Some name) before more s ks rest h once below =
     let inner = below (subst Once (sym same) (fresh-once before name (unit-ok _ w.0 w.1) once)) in
     record { once = subst (λ ts. Once (pushed rest.names ts)) same inner.once; even = (let e = inner.even in omega arith) }
 
+same-named : (before : Scope) (a d : Dimensions) → ◌≡◌ {A = Checked Dimensions} (Ok a) (Ok d) → Named before a → Named before d
+same-named before a d h = subst (Named before) (same_dimensions a d h)
+
 dims-named : (ds : List DimTree) (sc before : Scope) (d : Dimensions) → dimensions sc before ds ≡ Ok d → Once (names_of before) → Named before d
 dims-named [] sc before d h once = subst (Named before) (same_dimensions no_dimensions d h) (record { once = once; even = refl })
 dims-named (x ∷ xs) sc before d h once =
     let w = went (fresh_in before x.name) (λ more. and_then (typed_set data_alone is_set sc (form_set x.set)) (λ over. and_then (dimensions sc more xs) (λ rest. Ok (with_dimension x.name (or_anything over.element) (kinds_in over.nodes) rest)))) d h in
     let y = went (typed_set data_alone is_set sc (form_set x.set)) (λ over. and_then (dimensions sc w.0 xs) (λ rest. Ok (with_dimension x.name (or_anything over.element) (kinds_in over.nodes) rest))) d w.2 in
     let z = went (dimensions sc w.0 xs) (λ rest. Ok (with_dimension x.name (or_anything y.0.element) (kinds_in y.0.nodes) rest)) d y.2 in
-    subst (Named before) (same_dimensions _ d z.2) (dim-named x.name before w.0 (or_anything y.0.element) (kinds_in y.0.nodes) z.0 w.1 once (λ o. dims-named xs sc w.0 z.0 z.1 o))
+    same-named before (with_dimension x.name (or_anything y.0.element) (kinds_in y.0.nodes) z.0) d z.2
+    (dim-named x.name before w.0 (or_anything y.0.element) (kinds_in y.0.nodes) z.0 w.1 once (λ o. dims-named xs sc w.0 z.0 z.1 o))
 
 shape-once : (sc : Scope) (dims : Option DimsTree) (s : Shape) → shape sc dims ≡ Ok s → Once (names_of sc) → Once (names_of s.inner)
 shape-once sc dims s h once =
     let w = went (dimensions sc sc (all_dims dims)) (λ d. Ok (record { dims = d; inner = with_values d.names d.named sc })) s h in
     let named = dims-named (all_dims dims) sc sc w.0 w.1 once in
     let inner : Once (names_of (with_values w.0.names w.0.named sc)) = subst Once (sym (names-values w.0.names w.0.named sc named.even)) named.once in
-    subst (λ (x : Shape). Once (names_of x.inner)) (same_shape _ s w.2) inner
+    subst (λ (x : Shape). Once (names_of x.inner)) (same_shape (record { dims = w.0; inner = with_values w.0.names w.0.named sc }) s w.2) inner
 
 pub dims_declare_once : DimsDeclareOnce
 dims_declare_once sc dims s h e = declared_once s.inner (shape-once sc dims s e (once_declared sc h))

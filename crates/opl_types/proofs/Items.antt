@@ -328,6 +328,14 @@ branch-adds t at op params body sc ks ms ns o is h same g =
     ap (λ x. front ks (statement x sc)) is ∙ ap (front ks) (statement-Branch at op params body sc)
     ∙ opened-then data_or_questions params.params (each (order params.order ∷ statement body ∷ [])) sc ks ms o h same ∙ g
 
+pub branch-same : (t : StatementTree) (at : ℕ) (op : BranchOp) (params : OrderedParamsTree) (body one : StatementTree) (sc inner : Scope) (ks ms : List Sort) (o : Opened) → t ≡ statement_trees.Branch at op params body →
+    open_params data_or_questions sc (form_params params.params) ≡ Ok o → ms ≡ ks ++ o.kinds → one ≡ body → inner ≡ o.scope →
+    front ks (statement t sc) ≡ front ms (each (order params.order ∷ statement one ∷ []) inner)
+branch-same t at op params body one sc inner ks ms o is h same this there =
+    ap (λ x. front ks (statement x sc)) is ∙ ap (front ks) (statement-Branch at op params body sc)
+    ∙ opened-then data_or_questions params.params (each (order params.order ∷ statement body ∷ [])) sc ks ms o h same
+    ∙ ap (λ x. front ms (each (order params.order ∷ statement x ∷ []) o.scope)) (sym this) ∙ ap (λ x. front ms (each (order params.order ∷ statement one ∷ []) x)) (sym there)
+
 pub ordered-adds : (t : Option OrderTree) (body : StatementTree) (sc : Scope) (ks ms ns : List Sort) → front ks (order t sc) ≡ Ok ms → front ms (statement body sc) ≡ Ok ns →
     front ks (each (order t ∷ statement body ∷ []) sc) ≡ Ok ns
 ordered-adds t body sc ks ms ns h g = then-last (order t) (statement body) sc ks ms h ∙ g

@@ -13,3 +13,4 @@ pub mod DeclsOnce
 pub mod Joins
 pub mod Patterns
 pub mod Places
+pub mod EachOnce

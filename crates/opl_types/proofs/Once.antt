@@ -14,7 +14,7 @@ use Rattle.opl_types.specs.Scope.{Checked, and_then, unless, Text, Scope, Entry,
 use Rattle.opl_types.specs.Scope.Thing.{value}
 use Rattle.opl_types.specs.Types.Sort.{anything}
 use Rattle.opl_types.specs.Forms.Form.{named}
-use Rattle.opl_types.specs.Expressions.{Node, typing, name_node}
+use Rattle.opl_types.specs.Expressions.{Node, Opened, typing, name_node}
 use Rattle.opl_types.specs.Laws.{entry_at, IsDeclaredOnce, Declared, IsUsed, NamesAreDeclared}
 
 -- ---- texts
@@ -187,6 +187,12 @@ fresh-once sc name h o = (fresh-unseen sc name h, o)
 pub went : {A B : Type 0} (c : Checked A) (f : A → Checked B) (b : B) → and_then c f ≡ Ok b → (a : A) × (c ≡ Ok a) × (f a ≡ Ok b)
 went (Ok a) f b h = (a, refl, h)
 went (Err e) f b h = absurd (cc)
+
+pub same_scope : (a b : Scope) → ◌≡◌ {A = Checked Scope} (Ok a) (Ok b) → a ≡ b
+same_scope a b h = cc
+
+pub same_opened : (a b : Opened) → ◌≡◌ {A = Checked Opened} (Ok a) (Ok b) → a ≡ b
+same_opened a b h = cc
 
 pub unit-ok : (c : Checked (Unit {0})) (u : Unit {0}) → c ≡ Ok u → c ≡ Ok tt
 unit-ok c tt h = h

@@ -9,3 +9,4 @@ pub mod Types
 pub mod Values
 pub mod Resources
 pub mod Laws
+pub mod Apart
