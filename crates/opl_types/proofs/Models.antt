@@ -21,9 +21,17 @@ unfolding declared
 searching [] sc = refl
 searching (e ∷ es) sc = searching es (declared e.name (thing_of e.thing) sc)
 
-pub search-scope : (n : Names) → scope_of (record n { is_search = true }) ≡ record (scope_of n) { is_search = true }
-unfolding scope_of
-search-scope n = searching n.entries _
+begin : Bool → Bool → Bool → Scope
+begin is_search has_origin has_horizon = record { entries = []; is_search = is_search; has_origin = has_origin; has_horizon = has_horizon }
+
+pub search-scope : (n m : Names) → m.entries ≡ n.entries → m.is_search ≡ true → m.has_origin ≡ n.has_origin → m.has_horizon ≡ n.has_horizon → scope_of m ≡ record (scope_of n) { is_search = true }
+unfolding scope_of begin
+search-scope n m these here origin horizon =
+    ap (λ (es : List Entry). with_entries es (begin m.is_search m.has_origin m.has_horizon)) these
+    ∙ ap (λ b. with_entries n.entries (begin b m.has_origin m.has_horizon)) here
+    ∙ ap (λ b. with_entries n.entries (begin true b m.has_horizon)) origin
+    ∙ ap (λ b. with_entries n.entries (begin true n.has_origin b)) horizon
+    ∙ searching n.entries (begin n.is_search n.has_origin n.has_horizon)
 
 -- ---- models
 
@@ -79,7 +87,5 @@ pub instr-faulty : (t : ModelTree) (ds : List DeclTree) (ks : List Sort) (sc : S
     Gives {A = List Sort} {B = List Sort} (λ ms. ms) (front o.kinds (instr t.instr o.scope)) (Err e) → ds ≡ t.decls → ks ≡ [] → sc ≡ empty_scope → Gives (map sort) (model t) (Err e)
 instr-faulty t ds ks sc o e h g these none empty =
     faulty {A = List Sort} {B = List Sort} (front o.kinds (instr t.instr o.scope)) (model t) (λ ms. ms) (map sort) e (λ f i. model-fault t o f (sym (begun ds t.decls ks sc these none empty) ∙ h) i) g
-
-pub ruleset search_names = (search-scope)
 
 pub ruleset models = (model-declared, model-fault, model-search)

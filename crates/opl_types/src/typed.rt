@@ -26,7 +26,6 @@ pub struct Typed {
 }
 
 /// The names as the search section sees them.
-#[tactic(auto, using(crate::proofs::Models::search_names))]
 fn enter_search(names: &mut Names<'_>)
     ensures { scope_of names.new ≡ record (scope_of names.old) { is_search = true } }
 {

@@ -1,8 +1,10 @@
-use Rattle.std.proofs.Common.{◌≡◌, ◌++◌, map, ap}
+use Rattle.std.proofs.Common.{◌≡◌, [], ◌∷◌, ◌++◌, map, ap}
 use Rattle.std.proofs.lemmas.Result.{err_from_is_err_and}
+use Rattle.opl_types.specs.Models.{each, order, statement}
+use Rattle.opl_types.specs.Steps.{front}
 use Rattle.opl_types.specs.Types.{sort}
 use Rattle.opl_types.specs.Values.{opened_in, within}
-use Rattle.opl_types.proofs.Items.{try-adds, branch-adds, branch-same, while-adds, statement_if-adds, statements-adds, sorts-behind}
+use Rattle.opl_types.proofs.Items.{try-adds, branch-adds, branch-same, err-same, while-adds, statement_if-adds, statements-adds, sorts-behind}
 use Rattle.opl_types.proofs.search.+statements.Goals as goal
 
 pub statement-returns-in_ok-alternatives-in-Try : goal.statement-returns-in_ok-alternatives-in-Try
@@ -29,7 +31,10 @@ statement-returns-in_err-ordered-in-Branch t c =
       (within c.args.model.now c.as_slice-locals.result.now) (map sort c.args.kinds.now) (map sort c.append.new.front) (opened_in c.args.model.now opened) c.in-Branch.is c.in_ok-opened-in-Branch.ensures
       (sorts-behind c.args.kinds.now opened.kinds c.append.new.front appended) body (ap (within c.args.model.now) inside) in
     let p = err_from_is_err_and c.from_residual-in_err-ordered-in-Branch.result c.from_residual-in_err-ordered-in-Branch.ensures.1 in
-    rw (p.1, p.2, same) c.in_err-ordered-in-Branch.ensures
+    rw (p.1, p.2)
+    (err-same (front (map sort c.args.kinds.now) (statement c.args.t.now (within c.args.model.now c.args.locals.now)))
+      (front (map sort c.append.new.front) (each (order c.in-Branch.params.order ∷ statement c.get.result.now ∷ []) (within c.args.model.now c.as_slice-locals.result.now)))
+      c.in_err-ordered-in-Branch.field-0.0 same c.in_err-ordered-in-Branch.ensures)
 
 pub statement-returns-in_ok-statement-in-While : goal.statement-returns-in_ok-statement-in-While
 statement-returns-in_ok-statement-in-While t c =
