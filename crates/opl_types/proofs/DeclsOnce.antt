@@ -1,5 +1,5 @@
 -- Declarations have names that nothing visible has, each once.
-use Rattle.std.proofs.Common.{◌≡◌, ℕ, suc, Bool, not, List, [], ◌∷◌, ◌++◌, length, Option, None, Some, Result, Ok, Err, refl, ap, ◌∙◌, sym, subst, arith}
+use Rattle.std.proofs.Common.{◌≡◌, ℕ, suc, not, List, [], ◌∷◌, ◌++◌, length, Option, None, Some, Ok, refl, ap, ◌∙◌, sym, subst, arith}
 use Rattle.opl_tree.specs.declared.declaration.DeclTree.{DeclTree}
 use Rattle.opl_tree.specs.declared.declaration.DeclTree.TheVariants as decls
 use Rattle.opl_tree.specs.declared.declaration.DimTree.{DimTree}
@@ -77,7 +77,7 @@ after sc c f h = record { kept = λ o e once. let w = went c f o e in (h w.0 w.1
 made : (sc : Scope) (name : NameTree) (thing : Thing) (ks : List Sort) → fresh sc name ≡ Ok tt → Keeps sc (makes sc name thing ks)
 made sc name thing ks f = record {
   kept = λ o e once.
-    subst (λ (x : Opened). Once (names_of x.scope)) (same_opened (record { scope = declared name.text thing sc; kinds = ks }) o e) (subst Once (sym (names-declared name.text thing sc)) (fresh-once sc name f once));
+      subst (λ (x : Opened). Once (names_of x.scope)) (same_opened (record { scope = declared name.text thing sc; kinds = ks }) o e) (subst Once (sym (names-declared name.text thing sc)) (fresh-once sc name f once));
 }
 
 names-enum : (k : ℕ) (ns : List NameTree) (sc : Scope) → names_of (with_names k ns sc) ≡ pushed ns (names_of sc)
@@ -88,8 +88,8 @@ enum-made : (k : ℕ) (sc : Scope) (name : NameTree) (ns : List NameTree) → al
     Keeps sc (Ok (record { scope = with_names k ns (declared name.text (enum_type k) sc); kinds = [] }))
 enum-made k sc name ns f = record {
   kept = λ o e once.
-    subst (λ (x : Opened). Once (names_of x.scope)) (same_opened (record { scope = with_names k ns (declared name.text (enum_type k) sc); kinds = [] }) o e)
-    (subst Once (sym (names-enum k ns (declared name.text (enum_type k) sc) ∙ ap (pushed ns) (names-declared name.text (enum_type k) sc))) (all_fresh-once (name ∷ ns) sc f once));
+      subst (λ (x : Opened). Once (names_of x.scope)) (same_opened (record { scope = with_names k ns (declared name.text (enum_type k) sc); kinds = [] }) o e)
+      (subst Once (sym (names-enum k ns (declared name.text (enum_type k) sc) ∙ ap (pushed ns) (names-declared name.text (enum_type k) sc))) (all_fresh-once (name ∷ ns) sc f once));
 }
 
 given-names : (end : ScheduleEnd) (sc : Scope) → names_of (given end sc) ≡ names_of sc
@@ -105,25 +105,25 @@ decl-keeps : (k : ℕ) (sc : Scope) (d : DeclTree) → Keeps sc (decl k sc d)
 unfolding decl
 decl-keeps k sc (decls.Data t) =
     after sc (written_type t.kind sc) _ (λ s _. after sc (fresh sc t.name) _ (λ u f. after sc (shape sc t.dims) _ (λ d _.
-      after sc (initial_kinds d.inner s (cell_indices d.dims) t.initial) _ (λ ks _. made sc t.name (value (shaped d.dims.indices s)) (d.dims.kinds ++ ks) (unit-ok (fresh sc t.name) u f)))))
+    after sc (initial_kinds d.inner s (cell_indices d.dims) t.initial) _ (λ ks _. made sc t.name (value (shaped d.dims.indices s)) (d.dims.kinds ++ ks) (unit-ok (fresh sc t.name) u f)))))
 decl-keeps k sc (decls.Range t) =
     after sc (fresh sc t.name) _ (λ u f. after sc (number_kinds sc t.low) _ (λ low _. after sc (number_kinds sc t.high) _ (λ high _.
-      made sc t.name range (low ++ high) (unit-ok (fresh sc t.name) u f))))
+    made sc t.name range (low ++ high) (unit-ok (fresh sc t.name) u f))))
 decl-keeps k sc (decls.Enumeration t) =
     after sc (all_fresh sc (t.name ∷ enum_names t.names)) _ (λ u f. enum-made k sc t.name (enum_names t.names) (unit-ok (all_fresh sc (t.name ∷ enum_names t.names)) u f))
 decl-keeps k sc (decls.Structure t) =
     after sc (fresh sc t.name) _ (λ u f. after sc (field_list sc empty_scope (t.first ∷ t.rest)) _ (λ fs _. made sc t.name (struct_type k fs) [] (unit-ok (fresh sc t.name) u f)))
 decl-keeps k sc (decls.Variable t) =
     after sc (variable_type sc t.kind) _ (λ s _. after sc (fresh sc t.name) _ (λ u f. after sc (shape sc t.dims) _ (λ d _. after sc (bounds_kinds d.inner t.bounds) _ (λ ks _.
-      after sc (unless (is_decidable t.kind t.bounds s) (Mismatch t.at)) _ (λ v _. made sc t.name (variable (shaped d.dims.indices s)) (d.dims.kinds ++ ks) (unit-ok (fresh sc t.name) u f))))))
+    after sc (unless (is_decidable t.kind t.bounds s) (Mismatch t.at)) _ (λ v _. made sc t.name (variable (shaped d.dims.indices s)) (d.dims.kinds ++ ks) (unit-ok (fresh sc t.name) u f))))))
 decl-keeps k sc (decls.Activity t) =
     after sc (fresh sc t.name) _ (λ u f. after sc (shape sc t.dims) _ (λ d _. after sc (number_kinds d.inner t.shortest) _ (λ short _. after sc (maybe_number d.inner t.longest) _ (λ long _.
-      made sc t.name (activities (shaped d.dims.indices activity)) (d.dims.kinds ++ (short ++ long)) (unit-ok (fresh sc t.name) u f)))))
+    made sc t.name (activities (shaped d.dims.indices activity)) (d.dims.kinds ++ (short ++ long)) (unit-ok (fresh sc t.name) u f)))))
 decl-keeps k sc (decls.Unary t) =
     after sc (fresh sc t.name) _ (λ u f. after sc (shape sc t.dims) _ (λ d _. made sc t.name (resource (shaped d.dims.indices unary)) d.dims.kinds (unit-ok (fresh sc t.name) u f)))
 decl-keeps k sc (decls.Discrete t) =
     after sc (fresh sc t.name) _ (λ u f. after sc (shape sc t.dims) _ (λ d _. after sc (number_kinds d.inner t.capacity) _ (λ ks _.
-      made sc t.name (resource (shaped d.dims.indices discrete)) (d.dims.kinds ++ ks) (unit-ok (fresh sc t.name) u f))))
+    made sc t.name (resource (shaped d.dims.indices discrete)) (d.dims.kinds ++ ks) (unit-ok (fresh sc t.name) u f))))
 decl-keeps k sc (decls.Schedule t) =
     after sc (number_kinds sc t.value) _ (λ ks _. after sc (unless (not (is_given t.end sc)) (Duplicate t.at)) _ (λ v _. given-made t.end sc ks))
 
@@ -133,7 +133,7 @@ decls-once (d ∷ ds) k sc o h once =
     let w = went (decl k sc d) (λ first. and_then (all_decls (suc k) first.scope ds) (λ rest. Ok (record { scope = rest.scope; kinds = first.kinds ++ rest.kinds }))) o h in
     let x = went (all_decls (suc k) w.0.scope ds) (λ rest. Ok (record { scope = rest.scope; kinds = w.0.kinds ++ rest.kinds })) o w.2 in
     let inner : Once (names_of w.0.scope) = (decl-keeps k sc d).kept w.0 w.1 once in
-    subst (λ (s : Scope). Once (names_of s)) (ap (λ (v : Opened). v.scope) (same_opened _ o x.2)) (decls-once ds (suc k) w.0.scope x.0 x.1 inner)
+    subst (λ (s : Scope). Once (names_of s)) (ap (λ (v : Opened). v.scope) (same_opened (record { scope = x.0.scope; kinds = w.0.kinds ++ x.0.kinds }) o x.2)) (decls-once ds (suc k) w.0.scope x.0 x.1 inner)
 
 pub decls_declare_once : DeclsDeclareOnce
 decls_declare_once ds o h = declared_once o.scope (decls-once ds 0 empty_scope o h tt)

@@ -1,8 +1,8 @@
 -- Each name in an expression that typing accepts has exactly one visible declaration.
-use Rattle.std.proofs.Common.{◌≡◌, ℕ, Bool, true, List, [], ◌∷◌, ◌++◌, map, length, Option, Some, Ok, Err, refl, ap, ◌∙◌, sym, subst}
+use Rattle.std.proofs.Common.{◌≡◌, Bool, List, Ok, ◌∙◌, sym, subst}
 use Rattle.std.specs.List.{flat_map}
 use Rattle.opl_tree.specs.declared.expression.PatternTree.{PatternTree}
-use Rattle.opl_types.specs.Types.{Sort, is_set, is_truth, is_number}
+use Rattle.opl_types.specs.Types.{Sort, is_set, is_truth}
 use Rattle.opl_types.specs.Scope.{Checked, and_then, Scope, all_fresh}
 use Rattle.opl_types.specs.Forms.{Form, Forms, Pairs, SetForm, Groups, Params}
 use Rattle.opl_types.specs.Forms.Form.{number, named, bracket, negative, arithmetic, absolute, related, member, connected, aggregate, cardinality, all_different, subscripted, field, tuple, listed, described, cells, keyed_cells, question}
@@ -11,10 +11,10 @@ use Rattle.opl_types.specs.Forms.Pairs.{no_pairs, more_pairs}
 use Rattle.opl_types.specs.Forms.SetForm.{whole, between}
 use Rattle.opl_types.specs.Forms.Groups.{no_groups, more_groups}
 use Rattle.opl_types.specs.Forms.Params.{all_of, those_of}
-use Rattle.opl_types.specs.Expressions.{Node, Need, Opened, Range, kinds, kinds_in, used, part, data_number, any_type, or_anything, pattern_names, bind_patterns, typing, typed_parts, typed_pairs, typed_set, open_groups, open_params, scope_within}
+use Rattle.opl_types.specs.Expressions.{Node, Need, Opened, Range, used, part, data_number, any_type, or_anything, pattern_names, bind_patterns, typing, typed_parts, typed_pairs, typed_set, open_groups, open_params, scope_within}
 use Rattle.opl_types.specs.Expressions.Need.{nothing, data_alone}
 use Rattle.opl_types.specs.Laws.{IsDeclaredOnce, EachDeclared, AllDeclared, PairsDeclared, SetDeclared, GroupsDeclared, ParamsDeclared, TypedIsDeclared}
-use Rattle.opl_types.proofs.Once.{Once, names_of, pushed, all_fresh-once, unit-ok, went, same_opened, declared_once, once_declared, names_are_declared}
+use Rattle.opl_types.proofs.Once.{Once, all_fresh-once, unit-ok, went, same_opened, declared_once, once_declared, names_are_declared}
 use Rattle.opl_types.proofs.ParamsOnce.{groups-once, params-once, patterns-bind}
 
 -- what typing has found of an expression that a place accepts
@@ -39,6 +39,7 @@ inner-once sc ps s inner once f h = declared_once inner (subst Once (sym (patter
 
 mutual
   unfolding typing typed_parts typed_pairs typed_set open_groups open_params
+
   each : (f : Form) (sc : Scope) (n : Node) → IsDeclaredOnce sc → typing sc f ≡ Ok n → EachDeclared sc f
   each (number at) sc n once h = tt
   each (named name) sc n once h = (names_are_declared sc name n once h).declared
@@ -65,9 +66,10 @@ mutual
       let w = went (open_params data_alone sc p) _ n h in
       let x = went (and_then (typing w.0.scope f) part) _ n w.2 in
       let l = placed w.0.scope f part x.0 x.1 in
-      let inner : IsDeclaredOnce w.0.scope = declared_once w.0.scope (params-once data_alone sc p w.0 w.1 (once_declared sc once)) in
-      (params p data_alone sc w.0 once w.1,
-       λ o g. subst (λ (v : Opened). EachDeclared v.scope f) (one_opened (open_params data_alone sc p) w.0 o w.1 g) (each f w.0.scope l.0 inner l.1))
+      let inner : IsDeclaredOnce w.0.scope = declared_once w.0.scope (params-once data_alone sc p w.0 w.1 (once_declared sc once)) in (
+        params p data_alone sc w.0 once w.1,
+        λ o g. subst (λ (v : Opened). EachDeclared v.scope f) (one_opened (open_params data_alone sc p) w.0 o w.1 g) (each f w.0.scope l.0 inner l.1),
+      )
   each (cardinality at f) sc n once h =
       let w = went (and_then (typing sc f) part) _ n h in let m = placed sc f part w.0 w.1 in each f sc m.0 once m.1
   each (all_different at f) sc n once h =
@@ -86,9 +88,10 @@ mutual
       let x = went (open_params data_alone sc p) _ n w.2 in
       let l = placed (scope_within sc p (open_params data_alone sc p)) f part w.0 w.1 in
       let inner : IsDeclaredOnce x.0.scope = declared_once x.0.scope (params-once data_alone sc p x.0 x.1 (once_declared sc once)) in
-      let is : typing x.0.scope f ≡ Ok l.0 = within-opened sc p x.0 f l.0 x.1 l.1 in
-      (params p data_alone sc x.0 once x.1,
-       λ o g. subst (λ (v : Opened). EachDeclared v.scope f) (one_opened (open_params data_alone sc p) x.0 o x.1 g) (each f x.0.scope l.0 inner is))
+      let is : typing x.0.scope f ≡ Ok l.0 = within-opened sc p x.0 f l.0 x.1 l.1 in (
+        params p data_alone sc x.0 once x.1,
+        λ o g. subst (λ (v : Opened). EachDeclared v.scope f) (one_opened (open_params data_alone sc p) x.0 o x.1 g) (each f x.0.scope l.0 inner is),
+      )
   each (cells at fs) sc n once h = let w = went (typed_parts sc fs) _ n h in all fs sc w.0 once w.1
   each (keyed_cells at ps) sc n once h = let w = went (typed_pairs sc ps) _ n h in pairs ps sc w.0 once w.1
   each (question at op f) sc n once h =
@@ -129,11 +132,12 @@ mutual
       let x = went (typed_set data_alone is_set sc over) _ o w.2 in
       let y = went (bind_patterns sc (or_anything x.0.element) ps) _ o x.2 in
       let z = went (open_groups y.0 others) _ o y.2 in
-      let inner = inner-once sc ps (or_anything x.0.element) y.0 once (unit-ok (all_fresh sc (flat_map pattern_names ps)) w.0 w.1) y.1 in
-      (set over data_alone is_set sc x.0 once x.1,
-       λ range there e g.
-         let same : y.0 ≡ there = same_inner (bind_patterns sc (or_anything range.element) ps) y.0 there (subst (λ (r : Range). bind_patterns sc (or_anything r.element) ps ≡ Ok y.0) (same_range (typed_set data_alone is_set sc over) x.0 range x.1 e) y.1) g in
-         subst (λ (s : Scope). GroupsDeclared s others) same (groups others y.0 z.0 inner z.1))
+      let inner = inner-once sc ps (or_anything x.0.element) y.0 once (unit-ok (all_fresh sc (flat_map pattern_names ps)) w.0 w.1) y.1 in (
+        set over data_alone is_set sc x.0 once x.1,
+        λ range there e g.
+            let same : y.0 ≡ there = same_inner (bind_patterns sc (or_anything range.element) ps) y.0 there (subst (λ (r : Range). bind_patterns sc (or_anything r.element) ps ≡ Ok y.0) (same_range (typed_set data_alone is_set sc over) x.0 range x.1 e) y.1) g in
+            subst (λ (s : Scope). GroupsDeclared s others) same (groups others y.0 z.0 inner z.1),
+      )
 
   params : (p : Params) (need : Need) (sc : Scope) (o : Opened) → IsDeclaredOnce sc → open_params need sc p ≡ Ok o → ParamsDeclared sc p
   params (all_of gs) need sc o once h = groups gs sc o once h
@@ -141,9 +145,10 @@ mutual
       let w = went (open_groups sc gs) _ o h in
       let x = went (and_then (typing w.0.scope condition) (used need is_truth)) _ o w.2 in
       let l = placed w.0.scope condition (used need is_truth) x.0 x.1 in
-      let inner : IsDeclaredOnce w.0.scope = declared_once w.0.scope (groups-once gs sc w.0 w.1 (once_declared sc once)) in
-      (groups gs sc w.0 once w.1,
-       λ v g. subst (λ (v : Opened). EachDeclared v.scope condition) (one_opened (open_groups sc gs) w.0 v w.1 g) (each condition w.0.scope l.0 inner l.1))
+      let inner : IsDeclaredOnce w.0.scope = declared_once w.0.scope (groups-once gs sc w.0 w.1 (once_declared sc once)) in (
+        groups gs sc w.0 once w.1,
+        λ v g. subst (λ (v : Opened). EachDeclared v.scope condition) (one_opened (open_groups sc gs) w.0 v w.1 g) (each condition w.0.scope l.0 inner l.1),
+      )
 
 pub typed_is_declared : TypedIsDeclared
 typed_is_declared sc f n once h = each f sc n once h

@@ -1,13 +1,8 @@
 -- Each visible name has one declaration.
-use Rattle.std.proofs.Common.{◌≡◌, ℕ, zero, suc, Bool, true, false, not, List, [], ◌∷◌, ◌++◌, map, length, Option, None, Some, Result, Ok, Err, refl, ap, ◌∙◌, sym, subst, cond, arith}
-use Rattle.std.specs.Prelude.{nat_eq}
-use Rattle.std.specs.List.{flat_map}
+use Rattle.std.proofs.Common.{◌≡◌, ℕ, zero, suc, Bool, true, false, not, List, [], ◌∷◌, ◌++◌, length, Option, None, Some, Ok, Err, refl, ap, ◌∙◌, sym, subst, cond, arith}
 use Rattle.std.specs.Str.{bytes_eq}
-use Rattle.std.proofs.lemmas.Bool.{eqb-true}
 use Rattle.std.proofs.lemmas.Slice.Eq.{bytes_eq-Decides}
 use Rattle.opl_tree.specs.declared.expression.NameTree.{NameTree}
-use Rattle.opl_tree.specs.declared.expression.PatternTree.{PatternTree}
-use Rattle.opl_tree.specs.declared.expression.PatternTree.TheVariants as patterns
 use Rattle.opl_types.specs.declared.fault.TypeFault.{TypeFault}
 use Rattle.opl_types.specs.Types.{Sort}
 use Rattle.opl_types.specs.Scope.{Checked, and_then, unless, Text, Scope, Entry, Thing, found, lookup, declared, is_visible, fresh, all_fresh, with_values, sort_of}
@@ -15,7 +10,7 @@ use Rattle.opl_types.specs.Scope.Thing.{value}
 use Rattle.opl_types.specs.Types.Sort.{anything}
 use Rattle.opl_types.specs.Forms.Form.{named}
 use Rattle.opl_types.specs.Expressions.{Node, Opened, typing, name_node}
-use Rattle.opl_types.specs.Laws.{entry_at, IsDeclaredOnce, Declared, IsUsed, NamesAreDeclared}
+use Rattle.opl_types.specs.Laws.{entry_at, IsDeclaredOnce, IsUsed, NamesAreDeclared}
 
 -- ---- texts
 

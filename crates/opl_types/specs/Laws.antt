@@ -6,7 +6,7 @@ use Rattle.opl_tree.specs.declared.expression.NameTree.{NameTree}
 use Rattle.opl_tree.specs.declared.model.ModelTree.{ModelTree}
 use Rattle.opl_types.specs.declared.fault.TypeFault.{TypeFault}
 use Rattle.opl_types.specs.Types.{Sort, is_set}
-use Rattle.opl_types.specs.Scope.{Checked, Scope, Entry, Text, empty_scope, sort_of}
+use Rattle.opl_types.specs.Scope.{Scope, Entry, Text, empty_scope, sort_of}
 use Rattle.opl_types.specs.Forms.{Form, Forms, Pairs, SetForm, Groups, Params}
 use Rattle.opl_types.specs.Forms.Form.{number, named, bracket, negative, arithmetic, absolute, related, member, connected, aggregate, cardinality, all_different, subscripted, field, tuple, listed, described, cells, keyed_cells, question}
 use Rattle.opl_types.specs.Forms.Forms.{no_forms, more_forms}

@@ -28,13 +28,13 @@ statement-returns-in_err-ordered-in-Branch t c =
     let body : c.get.result.now ≡ c.in-Branch.body = cc (c.get.ensures) in
     let inside : c.as_slice-locals.result.now ≡ opened.locals = cc (c.as_slice-locals.ensures) in
     let same = branch-same c.args.t.now c.in-Branch.field-0 c.in-Branch.field-1 c.in-Branch.params c.in-Branch.body c.get.result.now (within c.args.model.now c.args.locals.now)
-      (within c.args.model.now c.as_slice-locals.result.now) (map sort c.args.kinds.now) (map sort c.append.new.front) (opened_in c.args.model.now opened) c.in-Branch.is c.in_ok-opened-in-Branch.ensures
-      (sorts-behind c.args.kinds.now opened.kinds c.append.new.front appended) body (ap (within c.args.model.now) inside) in
+    (within c.args.model.now c.as_slice-locals.result.now) (map sort c.args.kinds.now) (map sort c.append.new.front) (opened_in c.args.model.now opened) c.in-Branch.is c.in_ok-opened-in-Branch.ensures
+    (sorts-behind c.args.kinds.now opened.kinds c.append.new.front appended) body (ap (within c.args.model.now) inside) in
     let p = err_from_is_err_and c.from_residual-in_err-ordered-in-Branch.result c.from_residual-in_err-ordered-in-Branch.ensures.1 in
     rw (p.1, p.2)
     (err-same (front (map sort c.args.kinds.now) (statement c.args.t.now (within c.args.model.now c.args.locals.now)))
-      (front (map sort c.append.new.front) (each (order c.in-Branch.params.order ∷ statement c.get.result.now ∷ []) (within c.args.model.now c.as_slice-locals.result.now)))
-      c.in_err-ordered-in-Branch.field-0.0 same c.in_err-ordered-in-Branch.ensures)
+    (front (map sort c.append.new.front) (each (order c.in-Branch.params.order ∷ statement c.get.result.now ∷ []) (within c.args.model.now c.as_slice-locals.result.now)))
+    c.in_err-ordered-in-Branch.field-0.0 same c.in_err-ordered-in-Branch.ensures)
 
 pub statement-returns-in_ok-statement-in-While : goal.statement-returns-in_ok-statement-in-While
 statement-returns-in_ok-statement-in-While t c =
