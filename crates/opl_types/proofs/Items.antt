@@ -1,5 +1,5 @@
 -- The types in each item and each statement, one layer at a time.
-use Rattle.std.proofs.Common.{◌≡◌, ℕ, Bool, List, [], ◌∷◌, ◌++◌, map, Option, None, Some, Result, Ok, Err, refl, ap, ◌∙◌, sym, append_assoc}
+use Rattle.std.proofs.Common.{◌≡◌, ℕ, Bool, List, [], ◌∷◌, ◌++◌, map, Option, None, Some, Result, Ok, Err, refl, ap, ◌∙◌, sym, subst, append_assoc}
 use Rattle.std.specs.Option.{option_map}
 use Rattle.opl_tree.specs.declared.expression.ExprTree.{ExprTree}
 use Rattle.opl_tree.specs.declared.expression.ParamsTree.{ParamsTree}
@@ -27,6 +27,7 @@ use Rattle.opl_tree.specs.declared.search.StatementsTree.TheVariants as statemen
 use Rattle.opl_tree.specs.declared.search.StatementTree.TheViews.{out-SearchBlockTree, roll-SearchBlockTree, roll-out-SearchBlockTree}
 use Rattle.opl_tree.specs.declared.search.StatementTree.TheFolds.{fold-roll-StatementTree, fold-roll-StatementsTree, fold-roll-SearchBlockTree}
 use Rattle.opl_types.specs.declared.names.Names.{Names}
+use Rattle.opl_types.specs.declared.fault.TypeFault.{TypeFault}
 use Rattle.opl_types.specs.declared.kind.Ty.{Ty}
 use Rattle.opl_types.specs.Resources.{objective}
 use Rattle.opl_types.specs.Types.{Sort, sort, is_number}
@@ -36,7 +37,7 @@ use Rattle.opl_types.specs.Expressions.{Node, Need, Opened, kinds, used, typing,
 use Rattle.opl_types.specs.Expressions.Need.{nothing, data_alone, data_or_questions}
 use Rattle.opl_types.specs.Models.{Looked, each, if_written, within, condition, precedes, requires, label, order, item, items, block, instr, statement, statements, search_block}
 use Rattle.opl_types.specs.Steps.{front}
-use Rattle.opl_types.specs.Values.{scope_of, within as scope_within}
+use Rattle.opl_types.specs.Values.{Gives, scope_of, within as scope_within}
 
 -- ---- one after the other
 
@@ -327,6 +328,18 @@ pub branch-adds : (t : StatementTree) (at : ℕ) (op : BranchOp) (params : Order
 branch-adds t at op params body sc ks ms ns o is h same g =
     ap (λ x. front ks (statement x sc)) is ∙ ap (front ks) (statement-Branch at op params body sc)
     ∙ opened-then data_or_questions params.params (each (order params.order ∷ statement body ∷ [])) sc ks ms o h same ∙ g
+
+-- a fault behind those before
+pub err-same : (c d : Checked (List Sort)) (e : TypeFault) → c ≡ d → Gives {A = List Sort} {B = List Sort} (λ ms. ms) d (Err e) → Gives {A = List Sort} {B = List Sort} (λ ms. ms) c (Err e)
+err-same c d e same h = subst (λ (x : Checked (List Sort)). Gives {A = List Sort} {B = List Sort} (λ ms. ms) x (Err e)) (sym same) h
+
+pub branch-same : (t : StatementTree) (at : ℕ) (op : BranchOp) (params : OrderedParamsTree) (body one : StatementTree) (sc inner : Scope) (ks ms : List Sort) (o : Opened) → t ≡ statement_trees.Branch at op params body →
+    open_params data_or_questions sc (form_params params.params) ≡ Ok o → ms ≡ ks ++ o.kinds → one ≡ body → inner ≡ o.scope →
+    front ks (statement t sc) ≡ front ms (each (order params.order ∷ statement one ∷ []) inner)
+branch-same t at op params body one sc inner ks ms o is h same this there =
+    ap (λ x. front ks (statement x sc)) is ∙ ap (front ks) (statement-Branch at op params body sc)
+    ∙ opened-then data_or_questions params.params (each (order params.order ∷ statement body ∷ [])) sc ks ms o h same
+    ∙ ap (λ x. front ms (each (order params.order ∷ statement x ∷ []) o.scope)) (sym this) ∙ ap (λ x. front ms (each (order params.order ∷ statement one ∷ []) x)) (sym there)
 
 pub ordered-adds : (t : Option OrderTree) (body : StatementTree) (sc : Scope) (ks ms ns : List Sort) → front ks (order t sc) ≡ Ok ms → front ms (statement body sc) ≡ Ok ns →
     front ks (each (order t ∷ statement body ∷ []) sc) ≡ Ok ns

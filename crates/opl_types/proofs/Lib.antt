@@ -2,6 +2,7 @@ pub mod ArrayCells
 pub mod Chains
 pub mod Declared
 pub mod DeclsOnce
+pub mod EachOnce
 pub mod Examples
 pub mod Forms
 pub mod Inside

@@ -1,5 +1,6 @@
 -- The types of a whole model, one part after the other.
 use Rattle.std.proofs.Common.{◌≡◌, ℕ, Bool, true, List, [], ◌∷◌, ◌++◌, map, subst, Option, None, Some, Result, Ok, Err, refl, ap, ◌∙◌, sym, append_assoc}
+use Rattle.opl_tree.specs.declared.declaration.DeclTree.{DeclTree}
 use Rattle.opl_tree.specs.declared.model.ModelTree.{ModelTree}
 use Rattle.opl_types.specs.declared.fault.TypeFault.{TypeFault}
 use Rattle.opl_types.specs.declared.names.Entry.{Entry}
@@ -20,9 +21,17 @@ unfolding declared
 searching [] sc = refl
 searching (e ∷ es) sc = searching es (declared e.name (thing_of e.thing) sc)
 
-pub search-scope : (n : Names) → scope_of (record n { is_search = true }) ≡ record (scope_of n) { is_search = true }
-unfolding scope_of
-search-scope n = searching n.entries _
+begin : Bool → Bool → Bool → Scope
+begin is_search has_origin has_horizon = record { entries = []; is_search = is_search; has_origin = has_origin; has_horizon = has_horizon }
+
+pub search-scope : (n m : Names) → m.entries ≡ n.entries → m.is_search ≡ true → m.has_origin ≡ n.has_origin → m.has_horizon ≡ n.has_horizon → scope_of m ≡ record (scope_of n) { is_search = true }
+unfolding scope_of begin
+search-scope n m these here origin horizon =
+    ap (λ (es : List Entry). with_entries es (begin m.is_search m.has_origin m.has_horizon)) these
+    ∙ ap (λ b. with_entries n.entries (begin b m.has_origin m.has_horizon)) here
+    ∙ ap (λ b. with_entries n.entries (begin true b m.has_horizon)) origin
+    ∙ ap (λ b. with_entries n.entries (begin true n.has_origin b)) horizon
+    ∙ searching n.entries (begin n.is_search n.has_origin n.has_horizon)
 
 -- ---- models
 
@@ -40,6 +49,10 @@ model-steps : (t : ModelTree) →
     model t ≡ and_then (behind [] (all_decls 0 empty_scope t.decls)) (λ o. and_then (front o.kinds (instr t.instr o.scope)) (λ ks. front ks (search t.search o.scope)))
 unfolding model
 model-steps t = steps (all_decls 0 empty_scope t.decls) (instr t.instr) (search t.search)
+
+begun : (ds es : List DeclTree) (ks : List Sort) (sc : Scope) → ds ≡ es → ks ≡ [] → sc ≡ empty_scope → behind ks (all_decls 0 sc ds) ≡ behind [] (all_decls 0 empty_scope es)
+begun ds es ks sc these none empty =
+    ap (λ ms. behind ms (all_decls 0 sc ds)) none ∙ ap (λ x. behind [] (all_decls 0 x ds)) empty ∙ ap (λ x. behind [] (all_decls 0 empty_scope x)) these
 
 pub model-declared : (t : ModelTree) (e : TypeFault) → behind [] (all_decls 0 empty_scope t.decls) ≡ Err e → model t ≡ Err e
 model-declared t e h = model-steps t ∙ ap (λ c. and_then c (λ o. and_then (front o.kinds (instr t.instr o.scope)) (λ ks. front ks (search t.search o.scope)))) h
@@ -64,11 +77,15 @@ pub model-fault : (t : ModelTree) (o : Opened) (e : TypeFault) → behind [] (al
 model-fault t o e h g = model-instr t o h ∙ ap (λ c. and_then c (λ ks. front ks (search t.search o.scope))) g
 
 -- a fault among the declarations, and one in the instruction
-pub declared-faulty : {B : Type 0} (t : ModelTree) (ks : List Sort) (sc : Scope) (r : B → Opened) (e : TypeFault) → ks ≡ [] → sc ≡ empty_scope → Gives r (behind ks (all_decls 0 sc t.decls)) (Err e) →
-    Gives (map sort) (model t) (Err e)
-declared-faulty t ks sc r e none empty h = faulty (behind [] (all_decls 0 empty_scope t.decls)) (model t) r (map sort) e (model-declared t)
-    (subst (λ (s : Scope). Gives r (behind [] (all_decls 0 s t.decls)) (Err e)) empty (subst (λ (ms : List Sort). Gives r (behind ms (all_decls 0 sc t.decls)) (Err e)) none h))
+pub declared-faulty : (t : ModelTree) (ds : List DeclTree) (ks : List Sort) (sc : Scope) (e : TypeFault) → Gives {A = Opened} {B = Opened} (λ o. o) (behind ks (all_decls 0 sc ds)) (Err e) →
+    ds ≡ t.decls → ks ≡ [] → sc ≡ empty_scope → Gives (map sort) (model t) (Err e)
+declared-faulty t ds ks sc e h these none empty =
+    faulty {A = Opened} {B = Opened} (behind [] (all_decls 0 empty_scope t.decls)) (model t) (λ o. o) (map sort) e (model-declared t)
+    (subst (λ (c : Checked Opened). Gives {A = Opened} {B = Opened} (λ o. o) c (Err e)) (begun ds t.decls ks sc these none empty) h)
 
-pub ruleset search_names = (search-scope)
+pub instr-faulty : (t : ModelTree) (ds : List DeclTree) (ks : List Sort) (sc : Scope) (o : Opened) (e : TypeFault) → behind ks (all_decls 0 sc ds) ≡ Ok o →
+    Gives {A = List Sort} {B = List Sort} (λ ms. ms) (front o.kinds (instr t.instr o.scope)) (Err e) → ds ≡ t.decls → ks ≡ [] → sc ≡ empty_scope → Gives (map sort) (model t) (Err e)
+instr-faulty t ds ks sc o e h g these none empty =
+    faulty {A = List Sort} {B = List Sort} (front o.kinds (instr t.instr o.scope)) (model t) (λ ms. ms) (map sort) e (λ f i. model-fault t o f (sym (begun ds t.decls ks sc these none empty) ∙ h) i) g
 
 pub ruleset models = (model-declared, model-fault, model-search)

@@ -1,21 +1,16 @@
 -- Each visible name has one declaration.
-use Rattle.std.proofs.Common.{◌≡◌, ℕ, zero, suc, Bool, true, false, not, List, [], ◌∷◌, ◌++◌, map, length, Option, None, Some, Result, Ok, Err, refl, ap, ◌∙◌, sym, subst, cond, arith}
-use Rattle.std.specs.Prelude.{nat_eq}
-use Rattle.std.specs.List.{flat_map}
+use Rattle.std.proofs.Common.{◌≡◌, ℕ, zero, suc, Bool, true, false, not, List, [], ◌∷◌, ◌++◌, length, Option, None, Some, Ok, Err, refl, ap, ◌∙◌, sym, subst, cond, arith}
 use Rattle.std.specs.Str.{bytes_eq}
-use Rattle.std.proofs.lemmas.Bool.{eqb-true}
 use Rattle.std.proofs.lemmas.Slice.Eq.{bytes_eq-Decides}
 use Rattle.opl_tree.specs.declared.expression.NameTree.{NameTree}
-use Rattle.opl_tree.specs.declared.expression.PatternTree.{PatternTree}
-use Rattle.opl_tree.specs.declared.expression.PatternTree.TheVariants as patterns
 use Rattle.opl_types.specs.declared.fault.TypeFault.{TypeFault}
 use Rattle.opl_types.specs.Types.{Sort}
 use Rattle.opl_types.specs.Scope.{Checked, and_then, unless, Text, Scope, Entry, Thing, found, lookup, declared, is_visible, fresh, all_fresh, with_values, sort_of}
 use Rattle.opl_types.specs.Scope.Thing.{value}
 use Rattle.opl_types.specs.Types.Sort.{anything}
 use Rattle.opl_types.specs.Forms.Form.{named}
-use Rattle.opl_types.specs.Expressions.{Node, typing, name_node}
-use Rattle.opl_types.specs.Laws.{entry_at, IsDeclaredOnce, Declared, IsUsed, NamesAreDeclared}
+use Rattle.opl_types.specs.Expressions.{Node, Opened, typing, name_node}
+use Rattle.opl_types.specs.Laws.{entry_at, IsDeclaredOnce, IsUsed, NamesAreDeclared}
 
 -- ---- texts
 
@@ -187,6 +182,12 @@ fresh-once sc name h o = (fresh-unseen sc name h, o)
 pub went : {A B : Type 0} (c : Checked A) (f : A → Checked B) (b : B) → and_then c f ≡ Ok b → (a : A) × (c ≡ Ok a) × (f a ≡ Ok b)
 went (Ok a) f b h = (a, refl, h)
 went (Err e) f b h = absurd (cc)
+
+pub same_scope : (a b : Scope) → ◌≡◌ {A = Checked Scope} (Ok a) (Ok b) → a ≡ b
+same_scope a b h = cc
+
+pub same_opened : (a b : Opened) → ◌≡◌ {A = Checked Opened} (Ok a) (Ok b) → a ≡ b
+same_opened a b h = cc
 
 pub unit-ok : (c : Checked (Unit {0})) (u : Unit {0}) → c ≡ Ok u → c ≡ Ok tt
 unit-ok c tt h = h

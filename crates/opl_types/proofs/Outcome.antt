@@ -1,6 +1,5 @@
 -- A model has one list of types or one first fault.
-use Rattle.std.proofs.Common.{◌≡◌, ◌∷◌, List, Ok, Err}
-use Rattle.opl_tree.specs.declared.model.ModelTree.{ModelTree}
+use Rattle.std.proofs.Common.{◌≡◌, List, Ok, Err}
 use Rattle.opl_types.specs.declared.fault.TypeFault.{TypeFault}
 use Rattle.opl_types.specs.Types.{Sort}
 use Rattle.opl_types.specs.Scope.{Checked}

@@ -5,6 +5,7 @@ use mathlib.Core.Logic.{◌⊎◌, inl, inr}
 use mathlib.Core.HLevel.{collapsible→set}
 use mathlib.Core.List.{is_set as List-set}
 use mathlib.Core.Sum.{⊎_set}
+use native.Mathlib.Nat.{ℕ_set}
 use Rattle.opl_types.specs.declared.fault.TypeFault.{TypeFault}
 use Rattle.opl_types.specs.declared.fault.TypeFault.TheVariants.{Unknown, Duplicate, Mismatch, NotData, OutOfMemory}
 use Rattle.opl_types.specs.Types.{Sort, Sorts}
@@ -93,7 +94,7 @@ mutual
   same_sorts (more_sorts s ss) = ap (λ t. more_sorts t (sorts_back (copies ss))) (same_sort s) ∙ ap (more_sorts s) (same_sorts ss)
 
 pub Sort-set : IsSet Sort
-Sort-set = retract_set copy sort_back same_sort Copy-set
+Sort-set = retract_set copy sort_back same_sort (Copy-set ℕ_set)
 
 -- a copy of the faults
 data Copied : Type 0 where
@@ -123,7 +124,7 @@ same_fault (NotData at) = refl
 same_fault OutOfMemory = refl
 
 pub TypeFault-set : IsSet TypeFault
-TypeFault-set = retract_set copied fault_back same_fault Copied-set
+TypeFault-set = retract_set copied fault_back same_fault (Copied-set ℕ_set)
 
 abbrev sum : Checked (List Sort) → List Sort ⊎ TypeFault
 sum (Ok ks) = inl ks

@@ -10,3 +10,4 @@ pub mod Types
 pub mod Values
 pub mod Resources
 pub mod Laws
+pub mod Apart

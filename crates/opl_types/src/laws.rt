@@ -1,5 +1,5 @@
 //! Laws of typing, as contracts of functions without effect.
-ghost use Rattle.opl_types.specs.Laws.{DeclsDeclareOnce, DimsDeclareOnce, NamesAreDeclared, NoFault, OneFault, OneList, ParamsDeclareOnce};
+ghost use Rattle.opl_types.specs.Laws.{DeclsDeclareOnce, DimsDeclareOnce, NamesAreDeclared, NoFault, OneFault, OneList, ParamsDeclareOnce, TypedIsDeclared};
 
 /// A model has the types of its expressions in one way at most.
 pub fn one_list()
@@ -35,4 +35,9 @@ pub fn dims_declare_once()
 /// Nor do parameters.
 pub fn params_declare_once()
     ensures { ParamsDeclareOnce }
+{}
+
+/// So each name in an expression that typing accepts, its parameters being visible inside it, has exactly one declaration.
+pub fn typed_is_declared()
+    ensures { TypedIsDeclared }
 {}

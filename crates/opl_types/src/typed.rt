@@ -1,5 +1,6 @@
 //! Models with the types of their expressions.
 ghost use Rattle.std.specs.Prelude.{◌≡◌, Ok, IfOk, map, true};
+ghost use Rattle.opl_types.specs.Apart.{Checked-set};
 ghost use Rattle.opl_types.specs.Models as spec;
 ghost use Rattle.opl_types.specs.Steps.{front};
 ghost use Rattle.opl_types.specs.Types.{sort};
@@ -21,11 +22,10 @@ pub struct Typed {
     pub tree: ModelTree,
     /// The types of the expressions in preorder.
     pub kinds: Seq<Ty>,
-    ghost is_typed: { ∥ spec.model tree ≡ Ok (map sort kinds) ∥₁ },
+    pub ghost is_typed: { spec.model tree ≡ Ok (map sort kinds) } by { Checked-set (spec.model tree) (Ok (map sort kinds)) },
 }
 
 /// The names as the search section sees them.
-#[tactic(auto, using(crate::proofs::Models::search_names))]
 fn enter_search(names: &mut Names<'_>)
     ensures { scope_of names.new ≡ record (scope_of names.old) { is_search = true } }
 {
