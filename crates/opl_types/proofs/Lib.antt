@@ -18,6 +18,9 @@ pub mod Outcome
 pub mod ParamsOnce
 pub mod Patterns
 pub mod Places
+pub mod Pure
+pub mod PureDecls
+pub mod PureItems
 pub mod Resources
 pub mod Sorts
 pub mod Steps

@@ -5,6 +5,7 @@ use Rattle.opl_tree.specs.declared.declaration.DimsTree.{DimsTree}
 use Rattle.opl_tree.specs.declared.expression.NameTree.{NameTree}
 use Rattle.opl_tree.specs.declared.model.ModelTree.{ModelTree}
 use Rattle.opl_types.specs.declared.fault.TypeFault.{TypeFault}
+use Rattle.opl_types.specs.declared.fault.TypeFault.TheVariants.{OutOfMemory}
 use Rattle.opl_types.specs.Types.{Sort, is_set}
 use Rattle.opl_types.specs.Scope.{Scope, Entry, Text, empty_scope, sort_of}
 use Rattle.opl_types.specs.Forms.{Form, Forms, Pairs, SetForm, Groups, Params}
@@ -39,6 +40,10 @@ NoFault = (t : ModelTree) (ks : List Sort) (e : TypeFault) → HasKinds t ks →
 -- a model has one first fault at most
 abbrev pub OneFault : Type 0
 OneFault = (t : ModelTree) (d e : TypeFault) → HasFault t d → HasFault t e → d ≡ e
+
+-- want of memory is no fault of a model
+abbrev pub NeverMemory : Type 0
+NeverMemory = (t : ModelTree) → model t ≡ Err OutOfMemory → ⊥
 
 -- ---- one declaration for each name
 

@@ -1,3 +1,4 @@
+pub mod Apart
 pub mod DeclarationSteps
 pub mod Declarations
 pub mod Expressions

@@ -1,5 +1,5 @@
 //! Laws of typing, as contracts of functions without effect.
-ghost use Rattle.opl_types.specs.Laws.{DeclsDeclareOnce, DimsDeclareOnce, NamesAreDeclared, NoFault, OneFault, OneList, ParamsDeclareOnce, TypedIsDeclared};
+ghost use Rattle.opl_types.specs.Laws.{DeclsDeclareOnce, DimsDeclareOnce, NamesAreDeclared, NeverMemory, NoFault, OneFault, OneList, ParamsDeclareOnce, TypedIsDeclared};
 
 /// A model has the types of its expressions in one way at most.
 pub fn one_list()
@@ -14,6 +14,11 @@ pub fn none_faulty()
 /// A model has one first fault at most.
 pub fn one_fault()
     ensures { OneFault }
+{}
+
+/// Want of memory is never a fault of a model.
+pub fn never_memory()
+    ensures { NeverMemory }
 {}
 
 /// Where no two visible declarations have one name, a name that typing accepts has exactly one of them, and the type that
