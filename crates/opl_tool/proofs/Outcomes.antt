@@ -18,7 +18,7 @@ use Rattle.opl_types.specs.Models.{model}
 use Rattle.opl_types.specs.declared.fault.TypeFault.{TypeFault}
 use Rattle.opl_types.specs.declared.fault.TypeFault.TheVariants as types
 use Rattle.opl_types.specs.Types.{Sort}
-use Rattle.opl_types.proofs.Pure.{never_memory}
+use Rattle.opl_types.proofs.PureItems.{never_memory}
 use Rattle.opl_tree.specs.Reading.{IsTreeOf, StopsAt, OpensAt}
 use Rattle.opl_tool.specs.declared.refusal.Refusal.{Refusal}
 use Rattle.opl_tool.specs.declared.refusal.Refusal.TheVariants.{Words, Absent, TooLong, BadByte, OpenComment, OpenString, NumberTooLarge, Syntax, TooDeep, NotYet, Unknown, Duplicate, NotData, Mismatch}

@@ -1,0 +1,14 @@
+pub mod Apart
+pub mod DeclarationSteps
+pub mod Declarations
+pub mod Expressions
+pub mod Forms
+pub mod Models
+pub mod Places
+pub mod Scope
+pub mod Steps
+pub mod Types
+pub mod Values
+pub mod Resources
+pub mod Laws
+pub mod Apart

@@ -1,0 +1,74 @@
+//! Models with the types of their expressions.
+ghost use Rattle.std.specs.Prelude.{◌≡◌, Ok, IfOk, map, true};
+ghost use Rattle.opl_types.specs.Apart.{Checked-set};
+ghost use Rattle.opl_types.specs.Models as spec;
+ghost use Rattle.opl_types.specs.Steps.{front};
+ghost use Rattle.opl_types.specs.Types.{sort};
+ghost use Rattle.opl_types.specs.Values.{Gives, scope_of};
+
+use crate::declaration::all_decls;
+use crate::fault::TypeFault;
+use crate::item::instr;
+use crate::kind::Ty;
+use crate::names::Names;
+use crate::search::search_block;
+use opl_list::Seq;
+use opl_tree::{ModelTree, SearchTree};
+use std::alloc::Global;
+
+/// A model whose expressions fit together, with their types.
+#[derive(Drop)]
+pub struct Typed {
+    pub tree: ModelTree,
+    /// The types of the expressions in preorder.
+    pub kinds: Seq<Ty>,
+    pub ghost is_typed: { spec.model tree ≡ Ok (map sort kinds) } by { Checked-set (spec.model tree) (Ok (map sort kinds)) },
+}
+
+/// The names as the search section sees them.
+fn enter_search(names: &mut Names<'_>)
+    ensures { scope_of names.new ≡ record (scope_of names.old) { is_search = true } }
+{
+    names.is_search = true;
+}
+
+/// The types of the expressions of a search section, if there is one.
+#[tactic(auto, using(crate::proofs::Items::outside))]
+fn searched(
+    alloc: Global,
+    names: &mut Names<'_>,
+    search: &Option<SearchTree>,
+    kinds: &mut Seq<Ty>,
+) -> Result<(), TypeFault>
+    ensures { Gives (λ u. map sort kinds.new) (front (map sort kinds.old) (spec.search search.now (scope_of names.old))) result }
+{
+    match search {
+        None => Ok(()),
+        Some(search) => {
+            enter_search(names);
+            search_block(alloc, names, &[], &search.block, kinds)
+        }
+    }
+}
+
+/// The types of a model's expressions.
+#[tactic(auto, using(crate::proofs::Models::models))]
+fn kinds_of(alloc: Global, model: &ModelTree) -> Result<Seq<Ty>, TypeFault>
+    ensures { Gives (map sort) (spec.model model.now) result }
+{
+    let mut names = Names::new(alloc);
+    let mut kinds = Seq::new(alloc);
+    all_decls(alloc, &mut names, model.decls.as_slice(), &mut kinds)?;
+    instr(alloc, &names, &model.instr, &mut kinds)?;
+    searched(alloc, &mut names, &model.search, &mut kinds)?;
+    Ok(kinds)
+}
+
+/// The model with the types of its expressions.
+pub fn check(alloc: Global, model: ModelTree) -> Result<Typed, TypeFault>
+    ensures gives { Gives (λ t. map sort t.kinds) (spec.model model) result }
+    ensures tree { IfOk result (λ t. t.tree ≡ model) }
+{
+    let kinds = kinds_of(alloc, &model)?;
+    Ok(Typed { tree: model, kinds })
+}
