@@ -3,12 +3,11 @@ pub mod DeclarationSteps
 pub mod Declarations
 pub mod Expressions
 pub mod Forms
+pub mod Laws
 pub mod Models
 pub mod Places
+pub mod Resources
 pub mod Scope
 pub mod Steps
 pub mod Types
 pub mod Values
-pub mod Resources
-pub mod Laws
-pub mod Apart
