@@ -5,7 +5,7 @@ ghost use Rattle.opl_outside.specs.Files.{max_bytes};
 ghost use Rattle.opl_plain.specs.Plain.{AreNear, plain_of};
 ghost use Rattle.opl_plain.specs.Sides.{place_of};
 ghost use Rattle.opl_tool.specs.Judged.{Held, Scanned, Parsed, HasTypes, tree_of, Plain, Understood, Read};
-ghost use Rattle.opl_tool.specs.Stage.{Gives, GivesRead, CountsRead};
+ghost use Rattle.opl_tool.specs.Stage.{Gives, GivesRead, CountsRead, Then};
 
 use crate::refusal::Refusal;
 use crate::stop::Stop;
@@ -98,14 +98,22 @@ fn plain(alloc: Global, typed: &Typed) -> Result<PlainModel, Stop>
     }
 }
 
+/// The model of a tree, in its plain form, once its expressions have types.
+fn model(alloc: Global, tree: ModelTree) -> Result<PlainModel, Stop>
+    ensures gives { Gives (Then (HasTypes tree) Plain) result }
+    ensures near { IfOk result (λ model. All AreNear model.variables) }
+{
+    let typed = typed(alloc, tree)?;
+    plain(alloc, &typed)
+}
+
 /// The model of the tokens of a text with `end` bytes, in its plain form.
 fn understand(alloc: Global, tokens: &[Token], end: u32) -> Result<PlainModel, Stop>
     ensures gives { Gives (Understood tokens.now end) result }
     ensures near { IfOk result (λ model. All AreNear model.variables) }
 {
     let tree = tree(alloc, tokens, end)?;
-    let typed = typed(alloc, tree)?;
-    plain(alloc, &typed)
+    model(alloc, tree)
 }
 
 /// The model of a text, in its plain form.

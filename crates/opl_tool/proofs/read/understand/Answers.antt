@@ -5,5 +5,4 @@ use Rattle.opl_tool.proofs.read.understand.Goals as goal
 
 pub returns-clause-gives : goal.returns-clause-gives
 returns-clause-gives c =
-    then-gives (Parsed c.args.tokens.now c.args.end) (λ tree. Then (HasTypes tree) Plain) c.in_ok-tree.tree c.plain.result c.in_ok-tree.ensures
-    (then-gives (HasTypes c.in_ok-tree.tree) Plain c.in_ok-typed-in_ok-tree.typed.tree c.plain.result c.in_ok-typed-in_ok-tree.ensures c.plain.ensures.gives)
+    then-gives (Parsed c.args.tokens.now c.args.end) (λ tree. Then (HasTypes tree) Plain) c.in_ok-tree.tree c.model.result c.in_ok-tree.ensures c.model.ensures.gives
