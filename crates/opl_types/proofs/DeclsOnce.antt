@@ -15,7 +15,7 @@ use Rattle.opl_types.specs.Scope.Thing.{range, value, enum_type, enum_name, stru
 use Rattle.opl_types.specs.Forms.{form_set}
 use Rattle.opl_types.specs.Expressions.{Opened, kinds_in, or_anything, typed_set}
 use Rattle.opl_types.specs.Expressions.Need.{data_alone}
-use Rattle.opl_types.specs.Declarations.{Dimensions, no_dimensions, fresh_in, with_dimension, dimensions, all_dims, Shape, shape, shaped, written_type, initial_kinds, cell_indices, number_kinds, maybe_number, makes, enum_names, with_names, field_list, variable_type, bounds_kinds, is_decidable, is_given, given, decl, all_decls}
+use Rattle.opl_types.specs.Declarations.{Dimensions, no_dimensions, fresh_in, with_dimension, dimensions, all_dims, Shape, shape, shaped, written_type, initial_kinds, cell_indices, number_kinds, maybe_number, makes, enum_names, with_names, field_list, variable_type, bounds_kinds, is_decidable, is_given, given, next, decl, all_decls}
 use Rattle.opl_types.specs.Laws.{DeclsDeclareOnce, DimsDeclareOnce}
 use Rattle.opl_types.proofs.Once.{Once, names_of, pushed, names-declared, names-values, fresh-once, all_fresh-once, unit-ok, went, same_scope, same_opened, declared_once, once_declared}
 
@@ -130,10 +130,10 @@ decl-keeps k sc (decls.Schedule t) =
 decls-once : (ds : List DeclTree) (k : ℕ) (sc : Scope) (o : Opened) → all_decls k sc ds ≡ Ok o → Once (names_of sc) → Once (names_of o.scope)
 decls-once [] k sc o h once = subst (λ (x : Opened). Once (names_of x.scope)) (same_opened (record { scope = sc; kinds = [] }) o h) once
 decls-once (d ∷ ds) k sc o h once =
-    let w = went (decl k sc d) (λ first. and_then (all_decls (suc k) first.scope ds) (λ rest. Ok (record { scope = rest.scope; kinds = first.kinds ++ rest.kinds }))) o h in
-    let x = went (all_decls (suc k) w.0.scope ds) (λ rest. Ok (record { scope = rest.scope; kinds = w.0.kinds ++ rest.kinds })) o w.2 in
+    let w = went (decl k sc d) (λ first. and_then (all_decls (next k) first.scope ds) (λ rest. Ok (record { scope = rest.scope; kinds = first.kinds ++ rest.kinds }))) o h in
+    let x = went (all_decls (next k) w.0.scope ds) (λ rest. Ok (record { scope = rest.scope; kinds = w.0.kinds ++ rest.kinds })) o w.2 in
     let inner : Once (names_of w.0.scope) = (decl-keeps k sc d).kept w.0 w.1 once in
-    subst (λ (s : Scope). Once (names_of s)) (ap (λ (v : Opened). v.scope) (same_opened (record { scope = x.0.scope; kinds = w.0.kinds ++ x.0.kinds }) o x.2)) (decls-once ds (suc k) w.0.scope x.0 x.1 inner)
+    subst (λ (s : Scope). Once (names_of s)) (ap (λ (v : Opened). v.scope) (same_opened (record { scope = x.0.scope; kinds = w.0.kinds ++ x.0.kinds }) o x.2)) (decls-once ds (next k) w.0.scope x.0 x.1 inner)
 
 pub decls_declare_once : DeclsDeclareOnce
 decls_declare_once ds o h = declared_once o.scope (decls-once ds 0 empty_scope o h tt)
