@@ -104,6 +104,7 @@ fn stops(rt: HostRuntime) {
 
 /// The tree of a text that has one.
 fn tree_of(rt: &impl Abort, alloc: Global, text: &[u8]) -> ModelTree {
+    assert!(rt; text.len() < 1000);
     let tokens = tokens_of(rt, alloc, text);
     match parse_model(alloc, tokens.as_slice(), text.len() as u32) {
         Ok(tree) => tree,
