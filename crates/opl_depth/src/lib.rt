@@ -7,7 +7,5 @@ mod instruction;
 mod level;
 mod model;
 mod search;
-#[cfg(test)]
-mod tests;
 
 pub use model::depth_model;

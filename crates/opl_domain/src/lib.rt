@@ -7,8 +7,6 @@ mod interval;
 pub mod laws;
 mod only;
 mod steps;
-#[cfg(test)]
-mod tests;
 mod view;
 
 pub use domain::Domain;

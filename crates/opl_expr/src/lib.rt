@@ -10,8 +10,6 @@ mod model;
 mod numbers;
 mod search;
 mod tables;
-#[cfg(test)]
-mod tests;
 
 pub use eval::{holds, value};
 pub use forms::{Ask, Cons, Expr, Op};

@@ -5,6 +5,4 @@ mod Adding
 mod Mentioned
 mod Trying
 mod Outcomes
-mod Ends
 mod Refuting
-mod Example

@@ -6,8 +6,6 @@ mod generic;
 pub mod laws;
 mod outcome;
 mod rounds;
-#[cfg(test)]
-mod tests;
 mod variables;
 
 pub use filter::Filter;

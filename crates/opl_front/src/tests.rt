@@ -1,5 +1,6 @@
 //! Texts with their tree, spelt again, and texts that have none, worked out by hand.
 use crate::{depth_model, parse_model, scan, spell_model};
+use opl_term::{Step, Term, expr_term};
 use opl_token::{Kind, Seq, Token};
 use opl_tree::{
     AddOp, AddStep, AddTree, CompareTree, ExprTree, ImpTree, InstrTree, ItemTree, ItemsTree,
@@ -28,9 +29,10 @@ fn same_kind(kind: &Kind, other: &Kind) -> bool {
 }
 
 /// Models with the levels that they nest. Each rule of the grammar stands in one of them.
-const MODELS: [(&[u8], u32); 9] = [
+const MODELS: [(&[u8], u32); 10] = [
     (b"var int x in 1..2;\nsolve { x <> 1; };", 1),
     (b"solve { };", 1),
+    (b"solve {};", 1),
     (
         b"int n = ...; range R 1..n; enum E {a,b}; enum F = ...; struct S { int f; {int} g; }; {S} s = {<1,{}>}; solve { };",
         3,
@@ -200,4 +202,115 @@ fn implications_go_from_the_right(rt: HostRuntime) {
         panic!(rt; "from the left")
     };
     assert!(rt; third.conclusion.is_none());
+}
+
+/// Expressions, with the form that each has when a bracket round it is left away, and the number of its parts.
+const FORMS: [(&[u8], &str, usize); 24] = [
+    (b"solve { 12; };", "number", 0),
+    (b"solve { (x); };", "name", 0),
+    (b"solve { - x; };", "negative", 1),
+    (b"solve { - sum(i in S) i; };", "negative", 1),
+    (b"solve { 8 - 3 - x; };", "chain", 3),
+    (b"solve { 2 * x div y mod max(i in S) i; };", "chain", 4),
+    (b"solve { x <= y + 1; };", "related", 2),
+    (b"solve { x in 1..3; };", "member", 1),
+    (b"solve { a <=> b <=> c; };", "equivalent", 3),
+    (b"solve { a => b => c; };", "implied", 2),
+    (b"solve { a \\/ b & c \\/ d; };", "or", 3),
+    (b"solve { a & not b; };", "and", 2),
+    (b"solve { not a = 1; };", "not", 1),
+    (
+        b"solve { prod(i in S, ordered j,k in T : j < k) i; };",
+        "aggregate",
+        2,
+    ),
+    (b"solve { abs(x); };", "call", 1),
+    (b"solve { alldifferent(x); };", "alldifferent", 1),
+    (b"solve { bound(x); };", "question", 1),
+    (b"solve { a[1,2]; };", "element", 2),
+    (b"solve { a[1].f; };", "field", 1),
+    (b"solve { <1,2,3>; };", "record", 3),
+    (b"solve { ({1,2}); };", "listed", 2),
+    (b"solve { ({i | <i,j> in S}); };", "described", 1),
+    (b"solve { ([1,2]); };", "array", 2),
+    (b"solve { (#[1:2,3:4]#); };", "keyed array", 2),
+];
+
+/// What a bracket holds.
+fn inside(term: &Term) -> &Term {
+    match term {
+        Term::Bracket(_, inner) => inner.get(),
+        _ => term,
+    }
+}
+
+/// The form of an expression, and the number of its parts: of an element the subscripts, of what has parameters the groups.
+fn form(term: &Term) -> (&'static str, usize) {
+    match term {
+        Term::Number(..) => ("number", 0),
+        Term::Named(..) => ("name", 0),
+        Term::Bracket(..) => ("bracket", 1),
+        Term::Negative(..) => ("negative", 1),
+        Term::Chain(_, _, steps) => ("chain", steps.len().saturating_add(1)),
+        Term::Related(..) => ("related", 2),
+        Term::Member(..) => ("member", 1),
+        Term::Equivalent(_, parts) => ("equivalent", parts.len()),
+        Term::Implied(..) => ("implied", 2),
+        Term::Or(_, parts) => ("or", parts.len()),
+        Term::And(_, parts) => ("and", parts.len()),
+        Term::Not(..) => ("not", 1),
+        Term::Aggregate(_, _, groups, ..) => ("aggregate", groups.len()),
+        Term::Call(..) => ("call", 1),
+        Term::AllDifferent(..) => ("alldifferent", 1),
+        Term::Question(..) => ("question", 1),
+        Term::Element(_, _, subscripts) => ("element", subscripts.len()),
+        Term::Field(..) => ("field", 1),
+        Term::Record(_, parts) => ("record", parts.len()),
+        Term::Listed(_, elements) => ("listed", elements.len()),
+        Term::Described(_, _, groups, _) => ("described", groups.len()),
+        Term::Array(_, cells) => ("array", cells.len()),
+        Term::KeyedArray(_, keys, _) => ("keyed array", keys.len()),
+    }
+}
+
+/// What the first item of a model says.
+fn term_of(rt: &impl Abort, alloc: Global, text: &[u8]) -> Result<Term, Fail> {
+    assert!(rt; text.len() < 1000);
+    let tree = tree_of(rt, alloc, text);
+    let Some(item) = first_item(&tree) else {
+        panic!(rt; "no item")
+    };
+    Ok(expr_term(alloc, item)?)
+}
+
+#[test]
+fn forms(rt: HostRuntime) -> Result<(), Fail> {
+    for (text, name, parts) in &FORMS {
+        let term = term_of(&rt, rt.alloc(), text)?;
+        let (found, count) = form(inside(&term));
+        assert_eq!(rt; found, *name);
+        assert_eq!(rt; count, *parts);
+    }
+    Ok(())
+}
+
+fn takes_three_away(step: &Step) -> bool {
+    matches!(step, Step::Minus(Term::Number(12, 3)))
+}
+
+/// `8 - 3 - x`: from 8 first 3 is taken away.
+fn is_difference(term: &Term) -> bool {
+    match term {
+        Term::Chain(8, first, steps) => {
+            matches!(first.get(), Term::Number(8, 8)) && steps.get(0).is_some_and(takes_three_away)
+        }
+        _ => false,
+    }
+}
+
+#[test]
+fn parts_have_their_places(rt: HostRuntime) -> Result<(), Fail> {
+    let term = term_of(&rt, rt.alloc(), b"solve { 8 - 3 - x; };")?;
+    assert!(rt; is_difference(&term));
+    Ok(())
 }

@@ -9,11 +9,14 @@ use Rattle.opl_token.specs.declared.fault.ScanFault.{ScanFault}
 use Rattle.opl_token.specs.declared.fault.ScanFault.TheVariants as scan
 use Rattle.opl_token.specs.declared.token.Token.{Token}
 use Rattle.opl_plain.specs.declared.model.PlainModel.{PlainModel}
+use Rattle.opl_types.specs.Models.{model}
+use Rattle.opl_types.specs.declared.fault.TypeFault.{TypeFault}
+use Rattle.opl_types.specs.Types.{Sort}
 use Rattle.opl_tool.specs.declared.refusal.Refusal.{Refusal}
 use Rattle.opl_tool.specs.declared.refusal.Refusal.TheVariants.{Syntax, NotYet}
 use Rattle.opl_tool.specs.declared.stop.Stop.{Stop}
 use Rattle.opl_tool.specs.declared.stop.Stop.TheVariants.{Refused, ReadFault, WriteFault, OutOfMemory}
-use Rattle.opl_tool.specs.Judged.{IsSolve, Named, Held, refusal_of_scan, Scanned, IsSyntaxFault, Parsed, Plain, Understood, Resolved, Read, Fetched, Judged}
+use Rattle.opl_tool.specs.Judged.{IsSolve, Named, Held, refusal_of_scan, Scanned, IsSyntaxFault, Parsed, HasTypes, refusal_of_type, Plain, Understood, Resolved, Read, Fetched, Judged}
 use Rattle.opl_tool.specs.Laws.{SameOutcome}
 use Rattle.opl_tool.specs.Stage.{Stage, Then, Gives, GivesRead}
 
@@ -131,6 +134,16 @@ parsed_one tokens end (Ok t) (Err e) p q = absurd (no_syntax_fault tokens end t 
 parsed_one tokens end (Err e) (Ok u) p q = absurd (no_syntax_fault tokens end u e q p)
 parsed_one tokens end (Err e) (Err f) p q = syntax_faults tokens end e f p q
 
+typed_one : (tree : ModelTree) → IsOne (HasTypes tree)
+typed_one tree (Ok t) (Ok u) p q = inl (ap Ok (p.0 ∙ sym q.0))
+typed_one tree (Ok t) (Err e) p q = let no : ◌≡◌ {A = Result (List Sort) TypeFault} (Ok p.1) (Err q.0) = sym p.2 ∙ q.2 in absurd (cc)
+typed_one tree (Err e) (Ok u) p q = let no : ◌≡◌ {A = Result (List Sort) TypeFault} (Ok q.1) (Err p.0) = sym q.2 ∙ p.2 in absurd (cc)
+typed_one tree (Err e) (Err f) p q =
+    let both : ◌≡◌ {A = Result (List Sort) TypeFault} (Err p.0) (Err q.0) = sym p.2 ∙ q.2 in
+    let same : p.0 ≡ q.0 = cc in
+    let told : Some e ≡ Some f = sym p.1 ∙ (ap refusal_of_type same ∙ q.1) in
+    let one : e ≡ f = cc in inl (ap Err one)
+
 plain_one : (tree : ModelTree) → IsOne (Plain tree)
 plain_one tree (Ok m) (Ok n) p q = let e : ◌≡◌ {A = Result PlainModel ℕ} (Ok m) (Ok n) = sym p ∙ q in let same : m ≡ n = cc in inl (ap Ok same)
 plain_one tree (Ok m) (Err e) p q = let no : ◌≡◌ {A = Result PlainModel ℕ} (Ok m) (Err q.0) = sym p ∙ q.2 in absurd (cc)
@@ -148,5 +161,5 @@ resolved_one model (Err e) (Err f) p q = let both : Some e ≡ Some f = sym p �
 -- words and files come to at most one outcome
 pub judged_one : (words : List (List ℕ)) (files : Files) → IsOne (Judged words files)
 judged_one words files =
-    then_one _ _ (then_one _ _ (named_one words) (λ name. then_one _ _ (held_one files name) (λ bytes. then_one _ _ (scanned_one bytes) (λ tokens. then_one _ _ (parsed_one tokens (length bytes)) plain_one))))
+    then_one _ _ (then_one _ _ (named_one words) (λ name. then_one _ _ (held_one files name) (λ bytes. then_one _ _ (scanned_one bytes) (λ tokens. then_one _ _ (parsed_one tokens (length bytes)) (λ tree. then_one _ _ (typed_one tree) plain_one)))))
     resolved_one

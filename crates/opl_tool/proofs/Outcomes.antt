@@ -14,11 +14,16 @@ use Rattle.opl_token.specs.declared.fault.ScanFault.TheVariants as scan
 use Rattle.opl_token.specs.declared.token.Token.{Token}
 use Rattle.opl_token.specs.Scan.{Scans, Faults}
 use Rattle.opl_plain.specs.declared.model.PlainModel.{PlainModel}
+use Rattle.opl_types.specs.Models.{model}
+use Rattle.opl_types.specs.declared.fault.TypeFault.{TypeFault}
+use Rattle.opl_types.specs.declared.fault.TypeFault.TheVariants as types
+use Rattle.opl_types.specs.Types.{Sort}
+use Rattle.opl_types.proofs.PureItems.{never_memory}
 use Rattle.opl_tree.specs.Reading.{IsTreeOf, StopsAt, OpensAt}
 use Rattle.opl_tool.specs.declared.refusal.Refusal.{Refusal}
-use Rattle.opl_tool.specs.declared.refusal.Refusal.TheVariants.{Words, Absent, TooLong, BadByte, OpenComment, OpenString, NumberTooLarge, Syntax, TooDeep, NotYet}
+use Rattle.opl_tool.specs.declared.refusal.Refusal.TheVariants.{Words, Absent, TooLong, BadByte, OpenComment, OpenString, NumberTooLarge, Syntax, TooDeep, NotYet, Unknown, Duplicate, NotData, Mismatch}
 use Rattle.opl_tool.specs.Faults.{model_fault}
-use Rattle.opl_tool.specs.Judged.{IsSolve, Named, Held, Scanned, Parsed, Plain, Resolved, Fetched, Judged}
+use Rattle.opl_tool.specs.Judged.{IsSolve, Named, Held, Scanned, Parsed, HasTypes, Plain, Resolved, Fetched, Judged}
 use Rattle.opl_tool.specs.Laws.{OneOutcome}
 use Rattle.opl_tool.specs.Stage.{Stage, Then}
 use Rattle.opl_tool.proofs.JudgedLemmas.{judged_one}
@@ -80,6 +85,14 @@ parsed_by tokens end (inl t) = (Ok t.0, (t.1, t.2))
 parsed_by tokens end (inr (inl s)) = (Err (Syntax s.0), inl (s.0, refl, s.1))
 parsed_by tokens end (inr (inr o)) = (Err (TooDeep o.0), inr (o.0, refl, o.1))
 
+typed_by : (tree : ModelTree) (r : Result (List Sort) TypeFault) → model tree ≡ r → Comes (HasTypes tree)
+typed_by tree (Ok kinds) e = (Ok tree, (refl, kinds, e))
+typed_by tree (Err (types.Unknown at)) e = (Err (Unknown at), (types.Unknown at, refl, e))
+typed_by tree (Err (types.Duplicate at)) e = (Err (Duplicate at), (types.Duplicate at, refl, e))
+typed_by tree (Err (types.NotData at)) e = (Err (NotData at), (types.NotData at, refl, e))
+typed_by tree (Err (types.Mismatch at)) e = (Err (Mismatch at), (types.Mismatch at, refl, e))
+typed_by tree (Err types.OutOfMemory) e = absurd (never_memory tree e)
+
 plain_by : (tree : ModelTree) (r : Result PlainModel ℕ) → plain_of tree ≡ r → Comes (Plain tree)
 plain_by tree (Ok m) e = (Ok m, e)
 plain_by tree (Err at) e = (Err (NotYet at), (at, refl, e))
@@ -92,7 +105,8 @@ judged_comes : (words : List (List ℕ)) (files : Files) → Comes (Judged words
 judged_comes words files =
     then_comes (Fetched words files) Resolved
     (then_comes (Named words) _ (named_comes words) (λ name. then_comes (Held files name) _ (held_at files name (files name) refl)
-    (λ bytes. then_comes (Scanned bytes) _ (scanned_by bytes (total bytes)) (λ tokens. then_comes (Parsed tokens (length bytes)) Plain (parsed_by tokens (length bytes) (parse_total tokens (length bytes))) (λ tree. plain_by tree (plain_of tree) refl)))))
+    (λ bytes. then_comes (Scanned bytes) _ (scanned_by bytes (total bytes)) (λ tokens. then_comes (Parsed tokens (length bytes)) _ (parsed_by tokens (length bytes) (parse_total tokens (length bytes)))
+    (λ tree. then_comes (HasTypes tree) Plain (typed_by tree (model tree) refl) (λ t. plain_by t (plain_of t) refl))))))
     (λ model. resolved_by model (model_fault model) refl)
 
 pub one_outcome : OneOutcome

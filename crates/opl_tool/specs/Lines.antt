@@ -5,7 +5,7 @@ use Rattle.opl_outside.specs.Counts.{Rose}
 use Rattle.opl_tool.specs.declared.answer.Answer.{Answer}
 use Rattle.opl_tool.specs.declared.answer.Answer.TheVariants as answer
 use Rattle.opl_tool.specs.declared.refusal.Refusal.{Refusal}
-use Rattle.opl_tool.specs.declared.refusal.Refusal.TheVariants.{Words, Absent, TooLong, BadByte, OpenComment, OpenString, NumberTooLarge, Syntax, TooDeep, NotYet, Duplicate, Unknown}
+use Rattle.opl_tool.specs.declared.refusal.Refusal.TheVariants.{Words, Absent, TooLong, BadByte, OpenComment, OpenString, NumberTooLarge, Syntax, TooDeep, Unknown, Duplicate, NotData, Mismatch, NotYet}
 use Rattle.opl_tool.specs.declared.stop.Stop.{Stop}
 use Rattle.opl_tool.specs.declared.stop.Stop.TheVariants.{Refused, ReadFault, WriteFault, OutOfMemory}
 use Rattle.opl_tool.specs.Printing.{GainsFront}
@@ -35,9 +35,11 @@ refusal_text (OpenString at) file = placed_text (codes "OpenString") file at
 refusal_text (NumberTooLarge at) file = placed_text (codes "NumberTooLarge") file at
 refusal_text (Syntax at) file = placed_text (codes "Syntax") file at
 refusal_text (TooDeep at) file = placed_text (codes "TooDeep") file at
-refusal_text (NotYet at) file = placed_text (codes "NotYet") file at
-refusal_text (Duplicate at) file = placed_text (codes "Duplicate") file at
 refusal_text (Unknown at) file = placed_text (codes "Unknown") file at
+refusal_text (Duplicate at) file = placed_text (codes "Duplicate") file at
+refusal_text (NotData at) file = placed_text (codes "NotData") file at
+refusal_text (Mismatch at) file = placed_text (codes "Mismatch") file at
+refusal_text (NotYet at) file = placed_text (codes "NotYet") file at
 
 -- the line of a call that ends before its whole text is printed
 abbrev pub stop_text : Stop → List ℕ → List ℕ

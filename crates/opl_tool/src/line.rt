@@ -59,9 +59,11 @@ fn refusal_line(alloc: Global, refusal: Refusal, file: &[u8]) -> Result<Vec<u8>,
         Refusal::NumberTooLarge(at) => placed_line(alloc, b"NumberTooLarge", file, at),
         Refusal::Syntax(at) => placed_line(alloc, b"Syntax", file, at),
         Refusal::TooDeep(at) => placed_line(alloc, b"TooDeep", file, at),
-        Refusal::NotYet(at) => placed_line(alloc, b"NotYet", file, at),
-        Refusal::Duplicate(at) => placed_line(alloc, b"Duplicate", file, at),
         Refusal::Unknown(at) => placed_line(alloc, b"Unknown", file, at),
+        Refusal::Duplicate(at) => placed_line(alloc, b"Duplicate", file, at),
+        Refusal::NotData(at) => placed_line(alloc, b"NotData", file, at),
+        Refusal::Mismatch(at) => placed_line(alloc, b"Mismatch", file, at),
+        Refusal::NotYet(at) => placed_line(alloc, b"NotYet", file, at),
     }
 }
 

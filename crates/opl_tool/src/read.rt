@@ -2,9 +2,10 @@
 ghost use Rattle.std.specs.Prelude.{◌≡◌, ◌≤◌, ◌<◌, ◌^◌, All, length, IfSome, IfOk};
 ghost use Rattle.opl_outside.specs.Becomes.{Becomes};
 ghost use Rattle.opl_outside.specs.Files.{max_bytes};
-ghost use Rattle.opl_plain.specs.Plain.{AreNear};
-ghost use Rattle.opl_tool.specs.Judged.{Held, Scanned, Parsed, Plain, Understood, Read};
-ghost use Rattle.opl_tool.specs.Stage.{Gives, GivesRead, CountsRead};
+ghost use Rattle.opl_plain.specs.Plain.{AreNear, plain_of};
+ghost use Rattle.opl_plain.specs.Sides.{place_of};
+ghost use Rattle.opl_tool.specs.Judged.{Held, Scanned, Parsed, HasTypes, tree_of, Plain, Understood, Read};
+ghost use Rattle.opl_tool.specs.Stage.{Gives, GivesRead, CountsRead, Then};
 
 use crate::refusal::Refusal;
 use crate::stop::Stop;
@@ -13,6 +14,7 @@ use opl_parse::parse_model;
 use opl_plain::{PlainFault, PlainModel, plain_model};
 use opl_token::{ScanFault, Seq, Token, scan};
 use opl_tree::{ModelTree, SyntaxFault};
+use opl_types::{TypeFault, Typed, check};
 use std::alloc::Global;
 
 /// The bytes of the file of this name.
@@ -59,16 +61,50 @@ fn tree(alloc: Global, tokens: &[Token], end: u32) -> Result<ModelTree, Stop>
     }
 }
 
-/// The plain form of a tree.
-fn plain(alloc: Global, tree: &ModelTree) -> Result<PlainModel, Stop>
-    ensures gives { Gives (Plain tree.now) result }
+/// The tree with the types of its expressions.
+fn typed(alloc: Global, tree: ModelTree) -> Result<Typed, Stop>
+    ensures { Gives (HasTypes tree) (tree_of result) }
+{
+    match check(alloc, tree) {
+        Ok(typed) => Ok(typed),
+        Err(TypeFault::Unknown(at)) => Err(Stop::Refused(Refusal::Unknown(at))),
+        Err(TypeFault::Duplicate(at)) => Err(Stop::Refused(Refusal::Duplicate(at))),
+        Err(TypeFault::NotData(at)) => Err(Stop::Refused(Refusal::NotData(at))),
+        Err(TypeFault::Mismatch(at)) => Err(Stop::Refused(Refusal::Mismatch(at))),
+        Err(TypeFault::OutOfMemory) => Err(Stop::OutOfMemory),
+    }
+}
+
+/// The place of the first form, in the order of the text, that does not run today; None exactly where all of the model runs.
+/// It takes no memory.
+pub fn not_yet(model: &Typed) -> Option<u32>
+    ensures { result ≡ place_of (plain_of model.now.tree) }
+{
+    opl_plain::not_yet(&model.tree)
+}
+
+/// The plain form of a typed model.
+fn plain(alloc: Global, typed: &Typed) -> Result<PlainModel, Stop>
+    ensures gives { Gives (Plain typed.now.tree) result }
     ensures near { IfOk result (λ model. All AreNear model.variables) }
 {
-    match plain_model(alloc, tree) {
+    if let Some(at) = not_yet(typed) {
+        return Err(Stop::Refused(Refusal::NotYet(at)));
+    }
+    match plain_model(alloc, &typed.tree) {
         Ok(model) => Ok(model),
         Err(PlainFault::NotYet(at)) => Err(Stop::Refused(Refusal::NotYet(at))),
         Err(PlainFault::OutOfMemory) => Err(Stop::OutOfMemory),
     }
+}
+
+/// The model of a tree, in its plain form, once its expressions have types.
+fn model(alloc: Global, tree: ModelTree) -> Result<PlainModel, Stop>
+    ensures gives { Gives (Then (HasTypes tree) Plain) result }
+    ensures near { IfOk result (λ model. All AreNear model.variables) }
+{
+    let typed = typed(alloc, tree)?;
+    plain(alloc, &typed)
 }
 
 /// The model of the tokens of a text with `end` bytes, in its plain form.
@@ -77,7 +113,7 @@ fn understand(alloc: Global, tokens: &[Token], end: u32) -> Result<PlainModel, S
     ensures near { IfOk result (λ model. All AreNear model.variables) }
 {
     let tree = tree(alloc, tokens, end)?;
-    plain(alloc, &tree)
+    model(alloc, tree)
 }
 
 /// The model of a text, in its plain form.

@@ -21,10 +21,14 @@ pub enum Refusal {
     Syntax(u32),
     /// A token that opens a level of nesting too many.
     TooDeep(u32),
+    /// A name that is not visible where it is used, a field that is not there, or a name that is no type.
+    Unknown(u32),
+    /// A name is declared that is visible already.
+    Duplicate(u32),
+    /// A variable, an activity or a question where data is needed.
+    NotData(u32),
+    /// An expression of a type that does not fit its place.
+    Mismatch(u32),
     /// A form that does not run today.
     NotYet(u32),
-    /// A name is declared a second time.
-    Duplicate(u32),
-    /// A name is used that is not declared.
-    Unknown(u32),
 }

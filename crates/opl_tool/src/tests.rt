@@ -197,7 +197,7 @@ fn names_the_first_fault(rt: HostRuntime) -> Result<(), Fail> {
         ),
         (
             "var int x in 1..2; var int y in 0..4611686018427387905; var int x in 1..2; solve { };",
-            "refused: NotYet m.mod 35\n",
+            "refused: Duplicate m.mod 64\n",
         ),
         (
             "var int x in -4611686018427387905..0; solve { };",
@@ -209,11 +209,28 @@ fn names_the_first_fault(rt: HostRuntime) -> Result<(), Fail> {
         ),
         ("", "refused: Syntax m.mod 0\n"),
         ("var int x in 1..2;\nsolve {", "refused: Syntax m.mod 26\n"),
-        // What does not run yet comes after the syntax and before names.
+        // What does not run yet comes after the syntax and after the types.
+        (
+            "solve { 1 + (2 = 3 & 4); };",
+            "refused: Mismatch m.mod 13\n",
+        ),
+        (
+            "var int x in 1..2; var int y in 1..x; solve { };",
+            "refused: NotData m.mod 35\n",
+        ),
+        (
+            "var int x in 1..2; var int y in 0..4611686018427387905; solve { };",
+            "refused: NotYet m.mod 35\n",
+        ),
+        ("solve { 1 in {1} & 1 = 2; };", "refused: NotYet m.mod 8\n"),
+        (
+            "int n = 2; var int x in 1..n; solve { };",
+            "refused: NotYet m.mod 0\n",
+        ),
         ("solve { x + 1 = 2 }", "refused: Syntax m.mod 19\n"),
         (
             "var int x in 1..2; var int x in 1..2; solve { y = z + 1; };",
-            "refused: NotYet m.mod 50\n",
+            "refused: Duplicate m.mod 27\n",
         ),
         (
             "var int x in 1..2; solve { not (x = 1 & (x) = 2); };",
@@ -221,24 +238,24 @@ fn names_the_first_fault(rt: HostRuntime) -> Result<(), Fail> {
         ),
         (
             "var int x in 1..2; solve { x; };",
-            "refused: NotYet m.mod 27\n",
+            "refused: Mismatch m.mod 27\n",
         ),
-        ("var int x; solve { };", "refused: NotYet m.mod 0\n"),
+        ("var int x; solve { };", "refused: Mismatch m.mod 0\n"),
         (
             "var int x[1..2] in 1..2; solve { };",
             "refused: NotYet m.mod 9\n",
         ),
-        ("var T x in 1..2; solve { };", "refused: NotYet m.mod 4\n"),
+        ("var T x in 1..2; solve { };", "refused: Unknown m.mod 4\n"),
         (
             "var int x in 1..n; solve { };",
-            "refused: NotYet m.mod 16\n",
+            "refused: Unknown m.mod 16\n",
         ),
         ("range R 1..2; solve { };", "refused: NotYet m.mod 0\n"),
         (
             "solve { { 1 = 1; forall(i in 1..2) i = i; }; };",
             "refused: NotYet m.mod 17\n",
         ),
-        ("solve { x in {1} & y = 2; };", "refused: NotYet m.mod 8\n"),
+        ("solve { x in {1} & y = 2; };", "refused: Unknown m.mod 8\n"),
         (
             "var int x in 1..2; solve { x = 1 => not (z = 1) \\/ y = 1; };",
             "refused: Unknown m.mod 41\n",

@@ -11,7 +11,6 @@ pub mod SweepLaws
 pub mod Examples
 pub mod StoredSets
 pub mod Removals
-pub mod Smaller
 pub mod Posting
 pub mod Products
 pub mod Found

@@ -4,8 +4,6 @@
 mod closing;
 pub mod laws;
 mod sets;
-#[cfg(test)]
-mod tests;
 
 pub use closing::{Test, closed};
 pub use sets::Sets;

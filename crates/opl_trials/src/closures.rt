@@ -1,5 +1,5 @@
 //! Closures of small models that were worked out by hand.
-use crate::models::{model, set_goal};
+use crate::models::{model, model_with_goal};
 use opl_domain::{OutOfMemory, View};
 use opl_expr::Core;
 use opl_marks::{CoreRanges, closure_of};
@@ -9,7 +9,7 @@ use std::alloc::Global;
 use std::test::Fail;
 
 /// A closure, or why there is none.
-#[derive(Debug, Drop)]
+#[derive(Drop)]
 enum Closure {
     /// For each variable the ends of its set and the number of its values.
     Sets(Vec<(i64, i64, u32)>),
@@ -19,7 +19,7 @@ enum Closure {
 }
 
 /// For each variable the ends of its set and the number of its values.
-fn ends(alloc: Global, sets: &Sets) -> Result<Vec<(i64, i64, u32)>, OutOfMemory> {
+pub fn ends(alloc: Global, sets: &Sets) -> Result<Vec<(i64, i64, u32)>, OutOfMemory> {
     let mut ends = Vec::new(alloc);
     for x in 0..sets.vars() {
         ends.push((sets.min(x), sets.max(x), sets.size(x)))?;
@@ -51,13 +51,9 @@ fn of(alloc: Global, sets: &[(i64, i64)], texts: &[&str]) -> Result<Closure, Out
 
 /// The closure of maximizing the sum of two numbers up to 3, where it must be better than `best`.
 fn better(alloc: Global, best: i128) -> Result<Closure, OutOfMemory> {
-    let Some(mut core) = model(alloc, &[(0, 3), (0, 3)], &[])? else {
-        return Ok(Closure::NotAsked);
-    };
-    if set_goal(alloc, &mut core, true, "xy+")? {
-        closed(alloc, &core, Some(best))
-    } else {
-        Ok(Closure::NotAsked)
+    match model_with_goal(alloc, &[(0, 3), (0, 3)], &[], true, "xy+")? {
+        None => Ok(Closure::NotAsked),
+        Some(core) => closed(alloc, &core, Some(best)),
     }
 }
 
@@ -68,28 +64,55 @@ fn is_made_of(closure: &Closure, want: &[(i64, i64, u32)]) -> bool {
     }
 }
 
+/// Whether the closure of constraints over declared sets has these ends and numbers of values.
+fn leaves(
+    alloc: Global,
+    sets: &[(i64, i64)],
+    texts: &[&str],
+    want: &[(i64, i64, u32)],
+) -> Result<bool, OutOfMemory> {
+    Ok(is_made_of(&of(alloc, sets, texts)?, want))
+}
+
+/// Whether constraints over declared sets have no closure.
+fn fails(alloc: Global, sets: &[(i64, i64)], texts: &[&str]) -> Result<bool, OutOfMemory> {
+    Ok(matches!(of(alloc, sets, texts)?, Closure::Failed))
+}
+
 /// `x < y` and `y < z` leave 0..1, 1..2 and 2..3.
 #[test]
 fn chains(rt: HostRuntime) -> Result<(), Fail> {
-    let found = of(rt.alloc(), &[(0, 3), (0, 3), (0, 3)], &["xy<", "yz<"])?;
-    assert!(rt; is_made_of(&found, &[(0, 1, 2), (1, 2, 2), (2, 3, 2)]));
+    let want = [(0, 1, 2), (1, 2, 2), (2, 3, 2)];
+    assert!(rt; leaves(rt.alloc(), &[(0, 3); 3], &["xy<", "yz<"], &want)?);
     Ok(())
 }
 
 /// `x = y` goes by values: what one can't be, the other can't either.
 #[test]
 fn holes(rt: HostRuntime) -> Result<(), Fail> {
-    let found = of(rt.alloc(), &[(0, 4), (1, 5)], &["x3!", "y2!", "xy="])?;
-    assert!(rt; is_made_of(&found, &[(1, 4, 2), (1, 4, 2)]));
+    let want = [(1, 4, 2), (1, 4, 2)];
+    assert!(rt; leaves(rt.alloc(), &[(0, 4), (1, 5)], &["x3!", "y2!", "xy="], &want)?);
     Ok(())
 }
 
-/// Nothing is better than 6, and no value of the objective is 7.
+/// Sums above 3 leave 1 to 3 twice.
 #[test]
 fn bounds(rt: HostRuntime) -> Result<(), Fail> {
     let found = better(rt.alloc(), 3)?;
     assert!(rt; is_made_of(&found, &[(1, 3, 3), (1, 3, 3)]));
+    Ok(())
+}
+
+/// Nothing is better than 6.
+#[test]
+fn best_of_all(rt: HostRuntime) -> Result<(), Fail> {
     assert!(rt; matches!(better(rt.alloc(), 6)?, Closure::Failed));
+    Ok(())
+}
+
+/// No value of the objective is 7.
+#[test]
+fn no_value(rt: HostRuntime) -> Result<(), Fail> {
     assert!(rt; matches!(better(rt.alloc(), 7)?, Closure::NotAsked));
     Ok(())
 }
@@ -97,9 +120,8 @@ fn bounds(rt: HostRuntime) -> Result<(), Fail> {
 /// Three numbers of two values can't differ, but each two can: so no value goes.
 #[test]
 fn failures(rt: HostRuntime) -> Result<(), Fail> {
-    let apart = of(rt.alloc(), &[(1, 2), (3, 4)], &["xy="])?;
-    assert!(rt; matches!(&apart, Closure::Failed));
-    let three = of(rt.alloc(), &[(1, 2), (1, 2), (1, 2)], &["xyz3D"])?;
-    assert!(rt; is_made_of(&three, &[(1, 2, 2), (1, 2, 2), (1, 2, 2)]));
+    assert!(rt; fails(rt.alloc(), &[(1, 2), (3, 4)], &["xy="])?);
+    let want = [(1, 2, 2), (1, 2, 2), (1, 2, 2)];
+    assert!(rt; leaves(rt.alloc(), &[(1, 2); 3], &["xyz3D"], &want)?);
     Ok(())
 }

@@ -2,9 +2,17 @@
 #![tactic(auto)]
 
 #[cfg(test)]
+mod closing;
+#[cfg(test)]
 mod closures;
 #[cfg(test)]
+mod copies;
+#[cfg(test)]
 mod default_search;
+#[cfg(test)]
+mod filters;
+#[cfg(test)]
+mod intervals;
 #[cfg(test)]
 mod models;
 #[cfg(test)]

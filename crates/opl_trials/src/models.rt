@@ -1,6 +1,6 @@
 //! Ground models, made of short texts.
 use crate::reader::{constraint, expression};
-use opl_expr::{Cell, Cons, Core, Goal, OutOfMemory, Resource, Table, Use};
+use opl_expr::{Cell, Cons, Core, Goal, OutOfMemory, Resource, Step, Table, Use};
 use opl_list::Seq;
 use std::alloc::Global;
 
@@ -16,16 +16,22 @@ fn constraints(alloc: Global, texts: &[&str]) -> Result<Option<Seq<Cons>>, OutOf
     Ok(Some(cons))
 }
 
-/// A model with these declared sets and constraints.
-fn made(alloc: Global, sets: Seq<(i64, i64)>, cons: Seq<Cons>) -> Core {
+/// A model with these parts, and with no tables and resources.
+fn made(
+    alloc: Global,
+    sets: Seq<(i64, i64)>,
+    cons: Seq<Cons>,
+    goal: Option<Goal>,
+    search: Option<Step>,
+) -> Core {
     Core {
         names: Seq::new(alloc),
         sets,
         tables: Seq::new(alloc),
         resources: Seq::new(alloc),
         cons,
-        goal: None,
-        search: None,
+        goal,
+        search,
     }
 }
 
@@ -38,22 +44,41 @@ pub fn model(
     let sets = Seq::from_slice(alloc, sets)?;
     match constraints(alloc, texts)? {
         None => Ok(None),
-        Some(cons) => Ok(Some(made(alloc, sets, cons))),
+        Some(cons) => Ok(Some(made(alloc, sets, cons, None, None))),
     }
 }
 
-/// Gives a model an objective; false where the text is no expression.
-pub fn set_goal(
+/// A model with a search section.
+pub fn model_with_search(
     alloc: Global,
-    core: &mut Core,
+    sets: &[(i64, i64)],
+    texts: &[&str],
+    section: Step,
+) -> Result<Option<Core>, OutOfMemory> {
+    let sets = Seq::from_slice(alloc, sets)?;
+    match constraints(alloc, texts)? {
+        None => Ok(None),
+        Some(cons) => Ok(Some(made(alloc, sets, cons, None, Some(section)))),
+    }
+}
+
+/// A model with an objective; none, too, where its text is no expression.
+pub fn model_with_goal(
+    alloc: Global,
+    sets: &[(i64, i64)],
+    texts: &[&str],
     maximize: bool,
-    text: &str,
-) -> Result<bool, OutOfMemory> {
-    match expression(alloc, text)? {
-        None => Ok(false),
+    value: &str,
+) -> Result<Option<Core>, OutOfMemory> {
+    let sets = Seq::from_slice(alloc, sets)?;
+    let Some(cons) = constraints(alloc, texts)? else {
+        return Ok(None);
+    };
+    match expression(alloc, value)? {
+        None => Ok(None),
         Some(value) => {
-            core.goal = Some(Goal { maximize, value });
-            Ok(true)
+            let goal = Goal { maximize, value };
+            Ok(Some(made(alloc, sets, cons, Some(goal), None)))
         }
     }
 }

@@ -12,7 +12,7 @@ use opl_list::{Boxed, Seq};
 use std::alloc::Global;
 
 /// What is read and isn't yet a part of another form.
-#[derive(Debug, Drop)]
+#[derive(Drop)]
 struct Reader {
     alloc: Global,
     terms: Vec<Expr>,

@@ -4,7 +4,7 @@ use opl_marks::Mark;
 use std::alloc::Global;
 
 /// The values of all solutions in a row, the number of choices, and whether a Cut ends the search.
-#[derive(Debug, Drop)]
+#[derive(Drop)]
 pub struct Seen {
     pub values: Vec<i64>,
     pub choices: u64,
@@ -29,4 +29,14 @@ pub fn read_off(alloc: Global, marks: &[Mark]) -> Result<Seen, OutOfMemory> {
         choices,
         is_cut,
     })
+}
+
+/// Whether a search found these solutions, whose values stand in a row, by so many choices, and ended by a Cut.
+pub fn is_found(found: &Option<Seen>, values: &[i64], choices: u64, is_cut: bool) -> bool {
+    match found {
+        None => false,
+        Some(found) => {
+            found.values.as_slice() == values && found.choices == choices && found.is_cut == is_cut
+        }
+    }
 }

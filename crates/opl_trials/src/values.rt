@@ -22,43 +22,62 @@ fn holds_on(
     Ok((true, holds(core, &c, values)))
 }
 
+/// The values of x, y, z, w, b and u.
+const ASSIGNMENT: [i64; 6] = [2, 0, 0, 2, 1, 0];
+
+/// Constraints, and whether they hold on the assignment.
+const CONSTRAINTS: [(&str, Option<bool>); 29] = [
+    ("xw=", Some(true)),
+    ("xw!", Some(false)),
+    ("xy<", Some(false)),
+    ("yxl", Some(true)),
+    ("xz/0=", None),
+    ("xz%0=", None),
+    ("7x/3=", Some(true)),
+    ("7_x/3_=", Some(true)),
+    ("7_x%1_=", Some(true)),
+    ("7x_%1=", Some(true)),
+    ("xw*4=", Some(true)),
+    ("y3_+|3=", Some(true)),
+    ("xy2m0=", Some(true)),
+    ("xyb3M2=", Some(true)),
+    ("xr0=", Some(true)),
+    ("bzq3=", Some(true)),
+    ("9r0=", None),
+    ("x3=t0=", Some(true)),
+    ("xyz3D", Some(false)),
+    ("xyb3D", Some(true)),
+    ("x2=y0=&", Some(true)),
+    ("x2=xz/0=v", None),
+    ("x3=y5=i", Some(true)),
+    ("x2=y5=i", Some(false)),
+    ("x2=y0=e", Some(true)),
+    ("x2=~", Some(false)),
+    ("0k", Some(true)),
+    ("1k", Some(false)),
+    ("2k", Some(true)),
+];
+
+/// The first constraint that holds otherwise.
+fn wrong_constraint(alloc: Global, core: &Core) -> Result<Option<&'static str>, OutOfMemory> {
+    for (text, want) in &CONSTRAINTS {
+        if holds_on(alloc, core, &ASSIGNMENT, text)? != (true, *want) {
+            return Ok(Some(text));
+        }
+    }
+    Ok(None)
+}
+
+/// The first such constraint over the six variables.
+fn wrong_row(alloc: Global) -> Result<Option<&'static str>, OutOfMemory> {
+    match six(alloc)? {
+        None => Ok(Some("no model")),
+        Some(core) => wrong_constraint(alloc, &core),
+    }
+}
+
 #[test]
 fn constraints(rt: HostRuntime) -> Result<(), Fail> {
-    let core = six(rt.alloc())?.ok_or("a text")?;
-    let rows = [
-        ("xw=", Some(true)),
-        ("xw!", Some(false)),
-        ("xy<", Some(false)),
-        ("yxl", Some(true)),
-        ("xz/0=", None),
-        ("xz%0=", None),
-        ("7x/3=", Some(true)),
-        ("7_x/3_=", Some(true)),
-        ("7_x%1_=", Some(true)),
-        ("7x_%1=", Some(true)),
-        ("xw*4=", Some(true)),
-        ("y3_+|3=", Some(true)),
-        ("xy2m0=", Some(true)),
-        ("xyb3M2=", Some(true)),
-        ("xr0=", Some(true)),
-        ("bzq3=", Some(true)),
-        ("9r0=", None),
-        ("x3=t0=", Some(true)),
-        ("xyz3D", Some(false)),
-        ("xyb3D", Some(true)),
-        ("x2=y0=&", Some(true)),
-        ("x2=xz/0=v", None),
-        ("x3=y5=i", Some(true)),
-        ("x2=y5=i", Some(false)),
-        ("x2=y0=e", Some(true)),
-        ("x2=~", Some(false)),
-        ("0k", Some(true)),
-        ("1k", Some(false)),
-        ("2k", Some(true)),
-    ];
-    for (text, want) in rows {
-        let found = holds_on(rt.alloc(), &core, &[2, 0, 0, 2, 1, 0], text)?;
-        assert_eq!(rt; found, (true, want), "at {text}");
-    }
+    assert_eq!(rt; wrong_row(rt.alloc())?, None);
     Ok(())
 }

@@ -1,5 +1,5 @@
 -- Declarations have names that nothing visible has, each once.
-use Rattle.std.proofs.Common.{◌≡◌, ℕ, suc, not, List, [], ◌∷◌, ◌++◌, length, Option, None, Some, Ok, refl, ap, ◌∙◌, sym, subst, arith}
+use Rattle.std.proofs.Common.{◌≡◌, ℕ, not, List, [], ◌∷◌, ◌++◌, length, Option, None, Some, Ok, refl, ap, ◌∙◌, sym, subst, arith}
 use Rattle.opl_tree.specs.declared.declaration.DeclTree.{DeclTree}
 use Rattle.opl_tree.specs.declared.declaration.DeclTree.TheVariants as decls
 use Rattle.opl_tree.specs.declared.declaration.DimTree.{DimTree}
@@ -16,7 +16,7 @@ use Rattle.opl_types.specs.Forms.{form_set}
 use Rattle.opl_types.specs.Expressions.{Opened, kinds_in, or_anything, typed_set}
 use Rattle.opl_types.specs.Expressions.Need.{data_alone}
 use Rattle.opl_types.specs.Declarations.{Dimensions, no_dimensions, fresh_in, with_dimension, dimensions, all_dims, Shape, shape, shaped, written_type, initial_kinds, cell_indices, number_kinds, maybe_number, makes, enum_names, with_names, field_list, variable_type, bounds_kinds, is_decidable, is_given, given, next, decl, all_decls}
-use Rattle.opl_types.specs.Laws.{DeclsDeclareOnce, DimsDeclareOnce}
+use Rattle.opl_types.specs.Laws.{IsDeclaredOnce, DeclsDeclareOnce, DimsDeclareOnce}
 use Rattle.opl_types.proofs.Once.{Once, names_of, pushed, names-declared, names-values, fresh-once, all_fresh-once, unit-ok, went, same_scope, same_opened, declared_once, once_declared}
 
 same_dimensions : (a b : Dimensions) → ◌≡◌ {A = Checked Dimensions} (Ok a) (Ok b) → a ≡ b
@@ -126,6 +126,10 @@ decl-keeps k sc (decls.Discrete t) =
     made sc t.name (resource (shaped d.dims.indices discrete)) (d.dims.kinds ++ ks) (unit-ok (fresh sc t.name) u f))))
 decl-keeps k sc (decls.Schedule t) =
     after sc (number_kinds sc t.value) _ (λ ks _. after sc (unless (not (is_given t.end sc)) (Duplicate t.at)) _ (λ v _. given-made t.end sc ks))
+
+-- a declaration keeps each visible name's declaration the only one
+pub decl-once : (k : ℕ) (sc : Scope) (d : DeclTree) (o : Opened) → IsDeclaredOnce sc → decl k sc d ≡ Ok o → IsDeclaredOnce o.scope
+decl-once k sc d o once h = declared_once o.scope ((decl-keeps k sc d).kept o h (once_declared sc once))
 
 decls-once : (ds : List DeclTree) (k : ℕ) (sc : Scope) (o : Opened) → all_decls k sc ds ≡ Ok o → Once (names_of sc) → Once (names_of o.scope)
 decls-once [] k sc o h once = subst (λ (x : Opened). Once (names_of x.scope)) (same_opened (record { scope = sc; kinds = [] }) o h) once

@@ -1,5 +1,6 @@
 -- Each name in an expression that typing accepts has exactly one visible declaration.
-use Rattle.std.proofs.Common.{◌≡◌, Bool, List, Ok, ◌∙◌, sym, subst}
+use Rattle.std.proofs.Common.{◌≡◌, Bool, List, Ok, sym, subst}
+use Rattle.std.specs.Prelude.{IsOkAnd}
 use Rattle.std.specs.List.{flat_map}
 use Rattle.opl_tree.specs.declared.expression.PatternTree.{PatternTree}
 use Rattle.opl_types.specs.Types.{Sort, is_set, is_truth}
@@ -14,7 +15,7 @@ use Rattle.opl_types.specs.Forms.Params.{all_of, those_of}
 use Rattle.opl_types.specs.Expressions.{Node, Need, Opened, Range, used, part, data_number, any_type, or_anything, pattern_names, bind_patterns, typing, typed_parts, typed_pairs, typed_set, open_groups, open_params, scope_within}
 use Rattle.opl_types.specs.Expressions.Need.{nothing, data_alone}
 use Rattle.opl_types.specs.Laws.{IsDeclaredOnce, EachDeclared, AllDeclared, PairsDeclared, SetDeclared, GroupsDeclared, ParamsDeclared, TypedIsDeclared}
-use Rattle.opl_types.proofs.Once.{Once, all_fresh-once, unit-ok, went, same_opened, declared_once, once_declared, names_are_declared}
+use Rattle.opl_types.proofs.Once.{Once, all_fresh-once, unit-ok, went, ok-and, declared_once, once_declared, names_are_declared}
 use Rattle.opl_types.proofs.ParamsOnce.{groups-once, params-once, patterns-bind}
 
 -- what typing has found of an expression that a place accepts
@@ -24,15 +25,6 @@ placed sc f g n h = let w = went (typing sc f) g n h in (w.0, w.1)
 -- the parameters of an aggregate and of a set that is described, with what stands behind them
 within-opened : (sc : Scope) (p : Params) (o : Opened) (f : Form) (n : Node) → open_params data_alone sc p ≡ Ok o → typing (scope_within sc p (open_params data_alone sc p)) f ≡ Ok n → typing o.scope f ≡ Ok n
 within-opened sc p o f n h g = subst (λ (c : Checked Opened). typing (scope_within sc p c) f ≡ Ok n) h g
-
-one_opened : (c : Checked Opened) (a b : Opened) → c ≡ Ok a → c ≡ Ok b → a ≡ b
-one_opened c a b h g = same_opened a b (sym h ∙ g)
-
-same_range : (c : Checked Range) (a b : Range) → c ≡ Ok a → c ≡ Ok b → a ≡ b
-same_range c a b h g = cc
-
-same_inner : (c : Checked Scope) (a b : Scope) → c ≡ Ok a → c ≡ Ok b → a ≡ b
-same_inner c a b h g = cc
 
 inner-once : (sc : Scope) (ps : List PatternTree) (s : Sort) (inner : Scope) → IsDeclaredOnce sc → all_fresh sc (flat_map pattern_names ps) ≡ Ok tt → bind_patterns sc s ps ≡ Ok inner → IsDeclaredOnce inner
 inner-once sc ps s inner once f h = declared_once inner (subst Once (sym (patterns-bind ps sc s inner h)) (all_fresh-once (flat_map pattern_names ps) sc f (once_declared sc once)))
@@ -47,7 +39,7 @@ mutual
       let w = went (and_then (typing sc f) part) _ n h in let m = placed sc f part w.0 w.1 in each f sc m.0 once m.1
   each (negative at f) sc n once h =
       let w = went (and_then (typing sc f) part) _ n h in let m = placed sc f part w.0 w.1 in each f sc m.0 once m.1
-  each (arithmetic at fs) sc n once h = let w = went (typed_parts sc fs) _ n h in all fs sc w.0 once w.1
+  each (arithmetic at fs) sc n once h = let w = went (typed_parts sc fs) _ n h in parts_declared fs sc w.0 once w.1
   each (absolute at f) sc n once h =
       let w = went (and_then (typing sc f) part) _ n h in let m = placed sc f part w.0 w.1 in each f sc m.0 once m.1
   each (related at f relation g) sc n once h =
@@ -60,15 +52,15 @@ mutual
       let w = went (and_then (typing sc f) part) _ n h in
       let x = went (typed_set nothing any_type sc over) _ n w.2 in
       let l = placed sc f part w.0 w.1 in
-      (each f sc l.0 once l.1, set over nothing any_type sc x.0 once x.1)
-  each (connected at fs) sc n once h = let w = went (typed_parts sc fs) _ n h in all fs sc w.0 once w.1
+      (each f sc l.0 once l.1, set_declared over nothing any_type sc x.0 once x.1)
+  each (connected at fs) sc n once h = let w = went (typed_parts sc fs) _ n h in parts_declared fs sc w.0 once w.1
   each (aggregate at p f) sc n once h =
       let w = went (open_params data_alone sc p) _ n h in
       let x = went (and_then (typing w.0.scope f) part) _ n w.2 in
       let l = placed w.0.scope f part x.0 x.1 in
       let inner : IsDeclaredOnce w.0.scope = declared_once w.0.scope (params-once data_alone sc p w.0 w.1 (once_declared sc once)) in (
-        params p data_alone sc w.0 once w.1,
-        λ o g. subst (λ (v : Opened). EachDeclared v.scope f) (one_opened (open_params data_alone sc p) w.0 o w.1 g) (each f w.0.scope l.0 inner l.1),
+        params_declared p data_alone sc w.0 once w.1,
+        ok-and (open_params data_alone sc p) w.0 (λ o. EachDeclared o.scope f) w.1 (each f w.0.scope l.0 inner l.1),
       )
   each (cardinality at f) sc n once h =
       let w = went (and_then (typing sc f) part) _ n h in let m = placed sc f part w.0 w.1 in each f sc m.0 once m.1
@@ -78,32 +70,32 @@ mutual
       let w = went (and_then (typing sc f) part) _ n h in
       let x = went (typed_parts sc es) _ n w.2 in
       let l = placed sc f part w.0 w.1 in
-      (each f sc l.0 once l.1, all es sc x.0 once x.1)
+      (each f sc l.0 once l.1, parts_declared es sc x.0 once x.1)
   each (field at f name) sc n once h =
       let w = went (and_then (typing sc f) part) _ n h in let m = placed sc f part w.0 w.1 in each f sc m.0 once m.1
-  each (tuple at fs) sc n once h = let w = went (typed_parts sc fs) _ n h in all fs sc w.0 once w.1
-  each (listed at fs) sc n once h = let w = went (typed_parts sc fs) _ n h in all fs sc w.0 once w.1
+  each (tuple at fs) sc n once h = let w = went (typed_parts sc fs) _ n h in parts_declared fs sc w.0 once w.1
+  each (listed at fs) sc n once h = let w = went (typed_parts sc fs) _ n h in parts_declared fs sc w.0 once w.1
   each (described at f p) sc n once h =
       let w = went (and_then (typing (scope_within sc p (open_params data_alone sc p)) f) part) _ n h in
       let x = went (open_params data_alone sc p) _ n w.2 in
       let l = placed (scope_within sc p (open_params data_alone sc p)) f part w.0 w.1 in
       let inner : IsDeclaredOnce x.0.scope = declared_once x.0.scope (params-once data_alone sc p x.0 x.1 (once_declared sc once)) in
       let is : typing x.0.scope f ≡ Ok l.0 = within-opened sc p x.0 f l.0 x.1 l.1 in (
-        params p data_alone sc x.0 once x.1,
-        λ o g. subst (λ (v : Opened). EachDeclared v.scope f) (one_opened (open_params data_alone sc p) x.0 o x.1 g) (each f x.0.scope l.0 inner is),
+        params_declared p data_alone sc x.0 once x.1,
+        ok-and (open_params data_alone sc p) x.0 (λ o. EachDeclared o.scope f) x.1 (each f x.0.scope l.0 inner is),
       )
-  each (cells at fs) sc n once h = let w = went (typed_parts sc fs) _ n h in all fs sc w.0 once w.1
+  each (cells at fs) sc n once h = let w = went (typed_parts sc fs) _ n h in parts_declared fs sc w.0 once w.1
   each (keyed_cells at ps) sc n once h = let w = went (typed_pairs sc ps) _ n h in pairs ps sc w.0 once w.1
   each (question at op f) sc n once h =
       let w = went (and_then (typing sc f) part) _ n h in let m = placed sc f part w.0 w.1 in each f sc m.0 once m.1
 
-  all : (fs : Forms) (sc : Scope) (ns : List Node) → IsDeclaredOnce sc → typed_parts sc fs ≡ Ok ns → AllDeclared sc fs
-  all no_forms sc ns once h = tt
-  all (more_forms f fs) sc ns once h =
+  pub parts_declared : (fs : Forms) (sc : Scope) (ns : List Node) → IsDeclaredOnce sc → typed_parts sc fs ≡ Ok ns → AllDeclared sc fs
+  parts_declared no_forms sc ns once h = tt
+  parts_declared (more_forms f fs) sc ns once h =
       let w = went (and_then (typing sc f) part) _ ns h in
       let x = went (typed_parts sc fs) _ ns w.2 in
       let l = placed sc f part w.0 w.1 in
-      (each f sc l.0 once l.1, all fs sc x.0 once x.1)
+      (each f sc l.0 once l.1, parts_declared fs sc x.0 once x.1)
 
   pairs : (ps : Pairs) (sc : Scope) (ns : List Node) → IsDeclaredOnce sc → typed_pairs sc ps ≡ Ok ns → PairsDeclared sc ps
   pairs no_pairs sc ns once h = tt
@@ -115,10 +107,10 @@ mutual
       let r = placed sc cell part x.0 x.1 in
       (each key sc l.0 once l.1, each cell sc r.0 once r.1, pairs others sc y.0 once y.1)
 
-  set : (over : SetForm) (need : Need) (takes : Sort → Bool) (sc : Scope) (range : Range) → IsDeclaredOnce sc → typed_set need takes sc over ≡ Ok range → SetDeclared sc over
-  set (whole f) need takes sc range once h =
+  pub set_declared : (over : SetForm) (need : Need) (takes : Sort → Bool) (sc : Scope) (range : Range) → IsDeclaredOnce sc → typed_set need takes sc over ≡ Ok range → SetDeclared sc over
+  set_declared (whole f) need takes sc range once h =
       let w = went (and_then (typing sc f) (used need takes)) _ range h in let m = placed sc f (used need takes) w.0 w.1 in each f sc m.0 once m.1
-  set (between low high) need takes sc range once h =
+  set_declared (between low high) need takes sc range once h =
       let w = went (and_then (typing sc low) data_number) _ range h in
       let x = went (and_then (typing sc high) data_number) _ range w.2 in
       let l = placed sc low data_number w.0 w.1 in
@@ -133,21 +125,20 @@ mutual
       let y = went (bind_patterns sc (or_anything x.0.element) ps) _ o x.2 in
       let z = went (open_groups y.0 others) _ o y.2 in
       let inner = inner-once sc ps (or_anything x.0.element) y.0 once (unit-ok (all_fresh sc (flat_map pattern_names ps)) w.0 w.1) y.1 in (
-        set over data_alone is_set sc x.0 once x.1,
-        λ range there e g.
-            let same : y.0 ≡ there = same_inner (bind_patterns sc (or_anything range.element) ps) y.0 there (subst (λ (r : Range). bind_patterns sc (or_anything r.element) ps ≡ Ok y.0) (same_range (typed_set data_alone is_set sc over) x.0 range x.1 e) y.1) g in
-            subst (λ (s : Scope). GroupsDeclared s others) same (groups others y.0 z.0 inner z.1),
+        set_declared over data_alone is_set sc x.0 once x.1,
+        ok-and (typed_set data_alone is_set sc over) x.0 (λ range. IsOkAnd (bind_patterns sc (or_anything range.element) ps) (λ there. GroupsDeclared there others)) x.1
+            (ok-and (bind_patterns sc (or_anything x.0.element) ps) y.0 (λ there. GroupsDeclared there others) y.1 (groups others y.0 z.0 inner z.1)),
       )
 
-  params : (p : Params) (need : Need) (sc : Scope) (o : Opened) → IsDeclaredOnce sc → open_params need sc p ≡ Ok o → ParamsDeclared sc p
-  params (all_of gs) need sc o once h = groups gs sc o once h
-  params (those_of gs condition) need sc o once h =
+  pub params_declared : (p : Params) (need : Need) (sc : Scope) (o : Opened) → IsDeclaredOnce sc → open_params need sc p ≡ Ok o → ParamsDeclared sc p
+  params_declared (all_of gs) need sc o once h = groups gs sc o once h
+  params_declared (those_of gs condition) need sc o once h =
       let w = went (open_groups sc gs) _ o h in
       let x = went (and_then (typing w.0.scope condition) (used need is_truth)) _ o w.2 in
       let l = placed w.0.scope condition (used need is_truth) x.0 x.1 in
       let inner : IsDeclaredOnce w.0.scope = declared_once w.0.scope (groups-once gs sc w.0 w.1 (once_declared sc once)) in (
         groups gs sc w.0 once w.1,
-        λ v g. subst (λ (v : Opened). EachDeclared v.scope condition) (one_opened (open_groups sc gs) w.0 v w.1 g) (each condition w.0.scope l.0 inner l.1),
+        ok-and (open_groups sc gs) w.0 (λ o. EachDeclared o.scope condition) w.1 (each condition w.0.scope l.0 inner l.1),
       )
 
 pub typed_is_declared : TypedIsDeclared

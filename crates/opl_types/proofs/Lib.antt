@@ -12,6 +12,11 @@ pub mod Likeness
 pub mod Lookup
 pub mod Loops
 pub mod Models
+pub mod NameExamples
+pub mod NamesInDecls
+pub mod NamesInItems
+pub mod NamesInModels
+pub mod NamesInSearch
 pub mod Once
 pub mod Opening
 pub mod Outcome

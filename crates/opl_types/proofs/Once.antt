@@ -1,5 +1,6 @@
 -- Each visible name has one declaration.
 use Rattle.std.proofs.Common.{◌≡◌, ℕ, zero, suc, Bool, true, false, not, List, [], ◌∷◌, ◌++◌, length, Option, None, Some, Ok, Err, refl, ap, ◌∙◌, sym, subst, cond, arith}
+use Rattle.std.specs.Prelude.{IsOkAnd}
 use Rattle.std.specs.Str.{bytes_eq}
 use Rattle.std.proofs.lemmas.Slice.Eq.{bytes_eq-Decides}
 use Rattle.opl_tree.specs.declared.expression.NameTree.{NameTree}
@@ -10,7 +11,7 @@ use Rattle.opl_types.specs.Scope.Thing.{value}
 use Rattle.opl_types.specs.Types.Sort.{anything}
 use Rattle.opl_types.specs.Forms.Form.{named}
 use Rattle.opl_types.specs.Expressions.{Node, Opened, typing, name_node}
-use Rattle.opl_types.specs.Laws.{entry_at, IsDeclaredOnce, IsUsed, NamesAreDeclared}
+use Rattle.opl_types.specs.Laws.{entry_at, Declared, IsDeclaredOnce, IsUsed, NamesAreDeclared}
 
 -- ---- texts
 
@@ -53,13 +54,16 @@ node-sort : (name : NameTree) (o : Option Thing) (n : Node) → name_node name o
 node-sort name None n h = absurd (cc)
 node-sort name (Some thing) n h = (thing, refl, sym (ap (elim [ Ok n ↦ n.sort | Err e ↦ sort_of thing ]) h))
 
+-- what is found is what the one visible declaration stands for
+pub found-declared : (sc : Scope) (name : Text) (thing : Thing) → IsDeclaredOnce sc → found name sc.entries ≡ Some thing → (d : Declared sc name) × (d.entry.thing ≡ thing)
+found-declared sc name thing once h =
+    let w = found-stands name thing sc.entries h in
+    (record { place = w.place; entry = w.entry; stands = w.stands; has_name = w.has_name; only = λ k other at same. once k w.place other w.entry at w.stands (same ∙ sym w.has_name) }, w.is)
+
 name-used : (sc : Scope) (name : NameTree) (n : Node) → IsDeclaredOnce sc → (thing : Thing) → found name.text sc.entries ≡ Some thing → n.sort ≡ sort_of thing → IsUsed sc name n
 name-used sc name n once thing h s =
-    let w = found-stands name.text thing sc.entries h in
-    record {
-      declared = record { place = w.place; entry = w.entry; stands = w.stands; has_name = w.has_name; only = λ k other at same. once k w.place other w.entry at w.stands (same ∙ sym w.has_name) };
-      sort = s ∙ ap sort_of (sym w.is);
-    }
+    let w = found-declared sc name.text thing once h in
+    record { declared = w.0; sort = s ∙ ap sort_of (sym w.1) }
 
 typing-name : (sc : Scope) (name : NameTree) → typing sc (named name) ≡ name_node name (found name.text sc.entries)
 unfolding typing lookup
@@ -182,6 +186,9 @@ fresh-once sc name h o = (fresh-unseen sc name h, o)
 pub went : {A B : Type 0} (c : Checked A) (f : A → Checked B) (b : B) → and_then c f ≡ Ok b → (a : A) × (c ≡ Ok a) × (f a ≡ Ok b)
 went (Ok a) f b h = (a, refl, h)
 went (Err e) f b h = absurd (cc)
+
+pub ok-and : {A : Type 0} (c : Checked A) (a : A) (P : A → Type 0) → c ≡ Ok a → P a → IsOkAnd c P
+ok-and c a P h p = subst (λ d. IsOkAnd d P) (sym h) p
 
 pub same_scope : (a b : Scope) → ◌≡◌ {A = Checked Scope} (Ok a) (Ok b) → a ≡ b
 same_scope a b h = cc

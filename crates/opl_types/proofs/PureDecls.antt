@@ -1,5 +1,5 @@
 -- Want of memory is no fault that the rules of declarations find.
-use Rattle.std.proofs.Common.{◌≡◌, ℕ, Bool, true, not, List, [], ◌∷◌, ◌++◌, Option, None, Some, Result, Ok, Err, ap, sym, subst}
+use Rattle.std.proofs.Common.{◌≡◌, ℕ, not, List, [], ◌∷◌, Option, None, Some, sym, subst}
 use Rattle.opl_tree.specs.declared.declaration.ActivityTree.{ActivityTree}
 use Rattle.opl_tree.specs.declared.declaration.BoundsTree.{BoundsTree}
 use Rattle.opl_tree.specs.declared.declaration.DataTree.{DataTree}
@@ -28,14 +28,13 @@ use Rattle.opl_tree.specs.declared.expression.NameTree.{NameTree}
 use Rattle.opl_types.specs.declared.fault.TypeFault.TheVariants.{Unknown, Duplicate, Mismatch}
 use Rattle.opl_types.specs.Types.{Sort, is_number, is_set}
 use Rattle.opl_types.specs.Types.Sort.{int}
-use Rattle.opl_types.specs.Scope.{Checked, Scope, Thing, empty_scope, lookup, declared, fits_in, type_of}
+use Rattle.opl_types.specs.Scope.{Checked, Scope, empty_scope, lookup, declared, fits_in, type_of}
 use Rattle.opl_types.specs.Scope.Thing.{value}
 use Rattle.opl_types.specs.Types.Sort.{anything}
 use Rattle.opl_types.specs.Forms.{Form, Forms, Pairs, form_add, form_set}
 use Rattle.opl_types.specs.Forms.Form.{cells, keyed_cells}
 use Rattle.opl_types.specs.Forms.Forms.{no_forms, more_forms}
 use Rattle.opl_types.specs.Forms.Pairs.{no_pairs, more_pairs}
-use Rattle.opl_types.specs.Expressions.{typing}
 use Rattle.opl_types.specs.Expressions.Need.{data_alone}
 use Rattle.opl_types.specs.Declarations.{known_type, named_type, type_layer, written_type, fresh_in, dimensions, all_dims, shaped, initial, initial_cells, initial_pairs, initial_kinds, cell_indices, number_kinds, maybe_number, shape, data_decl, range_decl, enum_names, enum_decl, field_list, struct_decl, variable_type, bounds_kinds, is_decidable, variable_decl, activity_decl, unary_decl, discrete_decl, is_given, schedule_decl, decl, next, all_decls}
 use Rattle.opl_types.proofs.Pure.{Real, real_ok, real_err, real_then, real_unless, real_fresh, real_all_fresh, real_used, real_typing, real_typed_set}
@@ -61,7 +60,7 @@ real_layer (TypeTree-F.Int at) sc = real_ok int
 real_layer (TypeTree-F.Named name) sc = real_named_type sc name
 real_layer (TypeTree-F.Set at inner) sc = real_then _ _ (inner.1 sc) (λ s. real_ok _)
 
-written_type-roll : (x : TypeTree-F TypeTree) → written_type (roll-TypeTree x) ≡ type_layer (map-TypeTree TypeTree (Scope → Checked Sort) written_type x)
+pub written_type-roll : (x : TypeTree-F TypeTree) → written_type (roll-TypeTree x) ≡ type_layer (map-TypeTree TypeTree (Scope → Checked Sort) written_type x)
 unfolding written_type
 written_type-roll x = fold-roll-TypeTree (Scope → Checked Sort) type_layer x
 

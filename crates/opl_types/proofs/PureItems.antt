@@ -1,6 +1,5 @@
 -- Want of memory is no fault of a model.
-use Rattle.std.proofs.Common.{◌≡◌, ℕ, Bool, ◌&&◌, true, List, [], ◌∷◌, ◌++◌, map, Option, None, Some, Result, Ok, Err, ap, sym, subst}
-use Rattle.opl_tree.specs.declared.expression.AddTree.{AddTree}
+use Rattle.std.proofs.Common.{◌≡◌, ℕ, ◌&&◌, true, List, [], ◌∷◌, map, Option, None, Some, sym, subst}
 use Rattle.opl_tree.specs.declared.expression.ExprTree.{ExprTree}
 use Rattle.opl_tree.specs.declared.expression.NameTree.{NameTree}
 use Rattle.opl_tree.specs.declared.expression.ParamsTree.{ParamsTree}
@@ -26,10 +25,10 @@ use Rattle.opl_tree.specs.declared.search.StatementTree.TheOpen.{StatementTree-F
 use Rattle.opl_tree.specs.declared.search.StatementTree.TheViews.{roll-StatementTree, roll-StatementsTree, roll-SearchBlockTree}
 use Rattle.opl_tree.specs.declared.search.StatementsTree.{StatementsTree}
 use Rattle.opl_types.specs.declared.fault.TypeFault.TheVariants.{Unknown, Mismatch}
-use Rattle.opl_types.specs.Types.{Sort, is_number, is_truth, is_activity}
-use Rattle.opl_types.specs.Scope.{Checked, Scope, Thing, empty_scope, lookup}
+use Rattle.opl_types.specs.Types.{is_number, is_truth, is_activity}
+use Rattle.opl_types.specs.Scope.{Scope, Thing, empty_scope, lookup}
 use Rattle.opl_types.specs.Forms.{form_expr, form_add, form_post, form_subscripts, form_params, forms_of}
-use Rattle.opl_types.specs.Expressions.{Node, Need, typing}
+use Rattle.opl_types.specs.Expressions.{Need}
 use Rattle.opl_types.specs.Expressions.Need.{nothing, data_alone, data_or_questions}
 use Rattle.opl_types.specs.Models.{Looked, each, if_written, within, condition, precedes, known, subscript_nodes, is_resource, requires, item_layer, items_layer, block_layer, item, items, block, is_labelled, label, order, statement_layer, statements_layer, search_block_layer, statement, statements, search_block, search, instr, model}
 use Rattle.opl_types.specs.Laws.{NeverMemory}
@@ -105,24 +104,24 @@ abbrev block_inner : BlockTree-F InItem InItems InBlock → BlockTree-F ItemTree
 block_inner = map-BlockTree InItem InItems InBlock ItemTree ItemsTree BlockTree (λ e. e.0) (λ e. e.0) (λ e. e.0)
 
 -- one layer of each
-abbrev item_of : ItemTree-F ItemTree ItemsTree BlockTree → Looked
+abbrev pub item_of : ItemTree-F ItemTree ItemsTree BlockTree → Looked
 item_of x = item_layer (map-ItemTree ItemTree ItemsTree BlockTree Looked Looked Looked item items block x)
 
-abbrev items_of : ItemsTree-F ItemTree ItemsTree BlockTree → Looked
+abbrev pub items_of : ItemsTree-F ItemTree ItemsTree BlockTree → Looked
 items_of x = items_layer (map-ItemsTree ItemTree ItemsTree BlockTree Looked Looked Looked item items block x)
 
-abbrev block_of : BlockTree-F ItemTree ItemsTree BlockTree → Looked
+abbrev pub block_of : BlockTree-F ItemTree ItemsTree BlockTree → Looked
 block_of x = block_layer (map-BlockTree ItemTree ItemsTree BlockTree Looked Looked Looked item items block x)
 
-item-roll : (x : ItemTree-F ItemTree ItemsTree BlockTree) → item (roll-ItemTree x) ≡ item_of x
+pub item-roll : (x : ItemTree-F ItemTree ItemsTree BlockTree) → item (roll-ItemTree x) ≡ item_of x
 unfolding item items block
 item-roll x = fold-roll-ItemTree Looked Looked Looked item_layer items_layer block_layer x
 
-items-roll : (x : ItemsTree-F ItemTree ItemsTree BlockTree) → items (roll-ItemsTree x) ≡ items_of x
+pub items-roll : (x : ItemsTree-F ItemTree ItemsTree BlockTree) → items (roll-ItemsTree x) ≡ items_of x
 unfolding item items block
 items-roll x = fold-roll-ItemsTree Looked Looked Looked item_layer items_layer block_layer x
 
-block-roll : (x : BlockTree-F ItemTree ItemsTree BlockTree) → block (roll-BlockTree x) ≡ block_of x
+pub block-roll : (x : BlockTree-F ItemTree ItemsTree BlockTree) → block (roll-BlockTree x) ≡ block_of x
 unfolding item items block
 block-roll x = fold-roll-BlockTree Looked Looked Looked item_layer items_layer block_layer x
 
@@ -177,24 +176,24 @@ abbrev search_inner : SearchBlockTree-F InStatement InStatements InSearch → Se
 search_inner = map-SearchBlockTree InStatement InStatements InSearch StatementTree StatementsTree SearchBlockTree (λ e. e.0) (λ e. e.0) (λ e. e.0)
 
 -- one layer of each
-abbrev statement_of : StatementTree-F StatementTree StatementsTree SearchBlockTree → Looked
+abbrev pub statement_of : StatementTree-F StatementTree StatementsTree SearchBlockTree → Looked
 statement_of x = statement_layer (map-StatementTree StatementTree StatementsTree SearchBlockTree Looked Looked Looked statement statements search_block x)
 
-abbrev statements_of : StatementsTree-F StatementTree StatementsTree SearchBlockTree → Looked
+abbrev pub statements_of : StatementsTree-F StatementTree StatementsTree SearchBlockTree → Looked
 statements_of x = statements_layer (map-StatementsTree StatementTree StatementsTree SearchBlockTree Looked Looked Looked statement statements search_block x)
 
-abbrev search_of : SearchBlockTree-F StatementTree StatementsTree SearchBlockTree → Looked
+abbrev pub search_of : SearchBlockTree-F StatementTree StatementsTree SearchBlockTree → Looked
 search_of x = search_block_layer (map-SearchBlockTree StatementTree StatementsTree SearchBlockTree Looked Looked Looked statement statements search_block x)
 
-statement-roll : (x : StatementTree-F StatementTree StatementsTree SearchBlockTree) → statement (roll-StatementTree x) ≡ statement_of x
+pub statement-roll : (x : StatementTree-F StatementTree StatementsTree SearchBlockTree) → statement (roll-StatementTree x) ≡ statement_of x
 unfolding statement statements search_block
 statement-roll x = fold-roll-StatementTree Looked Looked Looked statement_layer statements_layer search_block_layer x
 
-statements-roll : (x : StatementsTree-F StatementTree StatementsTree SearchBlockTree) → statements (roll-StatementsTree x) ≡ statements_of x
+pub statements-roll : (x : StatementsTree-F StatementTree StatementsTree SearchBlockTree) → statements (roll-StatementsTree x) ≡ statements_of x
 unfolding statement statements search_block
 statements-roll x = fold-roll-StatementsTree Looked Looked Looked statement_layer statements_layer search_block_layer x
 
-search-roll : (x : SearchBlockTree-F StatementTree StatementsTree SearchBlockTree) → search_block (roll-SearchBlockTree x) ≡ search_of x
+pub search-roll : (x : SearchBlockTree-F StatementTree StatementsTree SearchBlockTree) → search_block (roll-SearchBlockTree x) ≡ search_of x
 unfolding statement statements search_block
 search-roll x = fold-roll-SearchBlockTree Looked Looked Looked statement_layer statements_layer search_block_layer x
 

@@ -10,4 +10,5 @@ pub mod Resources
 pub mod Scope
 pub mod Steps
 pub mod Types
+pub mod Uses
 pub mod Values

@@ -1,5 +1,5 @@
 //! Laws of typing, as contracts of functions without effect.
-ghost use Rattle.opl_types.specs.Laws.{DeclsDeclareOnce, DimsDeclareOnce, NamesAreDeclared, NeverMemory, NoFault, OneFault, OneList, ParamsDeclareOnce, TypedIsDeclared};
+ghost use Rattle.opl_types.specs.Laws.{DeclsDeclareOnce, DimsDeclareOnce, ModelIsDeclared, NamesAreDeclared, NeverMemory, NoFault, OneFault, OneList, ParamsDeclareOnce, TypedIsDeclared};
 
 /// A model has the types of its expressions in one way at most.
 pub fn one_list()
@@ -45,4 +45,10 @@ pub fn params_declare_once()
 /// So each name in an expression that typing accepts, its parameters being visible inside it, has exactly one declaration.
 pub fn typed_is_declared()
     ensures { TypedIsDeclared }
+{}
+
+/// And in a model with types, each name that is used has exactly one visible declaration: in declarations, items, statements
+/// and the objective; a name that stands for a type has that of a type.
+pub fn model_is_declared()
+    ensures { ModelIsDeclared }
 {}

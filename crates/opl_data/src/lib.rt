@@ -1,0 +1,16 @@
+//! Data files: their trees, the reader of their tokens, and the plain programs that spell and measure a tree.
+#![tactic(auto)]
+
+mod depth;
+pub mod laws;
+mod reader;
+mod spell;
+#[cfg(test)]
+mod tests;
+mod tree;
+mod value;
+
+pub use depth::depth_data;
+pub use reader::parse_data;
+pub use spell::spell_data;
+pub use tree::{DataFile, DataItem, DataPair, DataValue};

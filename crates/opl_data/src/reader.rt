@@ -1,0 +1,84 @@
+//! The reader of whole data files.
+ghost use Rattle.opl_grammar.specs.Input.{Reads, is_name};
+ghost use Rattle.opl_grammar.specs.Model.{ReadsAll, start};
+ghost use Rattle.opl_data.specs.Answers.{ParseAnswers};
+ghost use Rattle.opl_data.specs.Grammar as rules;
+ghost use Rattle.std.specs.Prelude.{◌≡◌, ⊤};
+
+use crate::tree::{DataFile, DataItem};
+use crate::value::{name, read_value};
+use opl_grammar::Cursor;
+use opl_grammar::list::{Part, many};
+use opl_token::{Sign, Token};
+use opl_tree::SyntaxFault;
+use std::alloc::Global;
+
+/// How many levels a data file may open one in another.
+pub const MAX_NESTING: u32 = 256;
+
+/// The rule of an item.
+#[derive(Drop)]
+struct ItemRule {
+    alloc: Global,
+}
+
+impl Part<DataItem> for ItemRule {
+    ghost begins = { λ _. is_name };
+
+    ghost part = { λ _. rules.item (rules.value_within rules.max_nesting) };
+
+    ghost is_ready = { λ _. ⊤ };
+
+    fn starts(&self, cursor: &Cursor<'_>) -> bool {
+        cursor.sees_name()
+    }
+
+    #[tactic(auto, unfolding(crate::specs::Grammar::item))]
+    fn read(&self, cursor: &mut Cursor<'_>) -> Result<DataItem, SyntaxFault> {
+        let at = cursor.place();
+        let name = name(self.alloc, cursor)?;
+        cursor.expect_sign(Sign::Equal)?;
+        let value = read_value(self.alloc, cursor, MAX_NESTING)?;
+        cursor.expect_sign(Sign::Semicolon)?;
+        Ok(DataItem { at, name, value })
+    }
+}
+
+/// The items of a data file.
+#[tactic(auto, unfolding(crate::specs::Grammar::file))]
+fn file(alloc: Global, cursor: &mut Cursor<'_>) -> Result<DataFile, SyntaxFault>
+    ensures { Reads (rules.file (rules.value_within rules.max_nesting) cursor.old) result cursor.new }
+{
+    let at = cursor.place();
+    let items = many(alloc, cursor, &ItemRule { alloc })?;
+    Ok(DataFile { at, items })
+}
+
+/// A data file, and nothing behind it.
+#[tactic(auto, unfolding(crate::specs::Grammar::whole_within))]
+fn whole(alloc: Global, cursor: &mut Cursor<'_>) -> Result<DataFile, SyntaxFault>
+    ensures { Reads (rules.whole cursor.old) result cursor.new }
+{
+    let tree = file(alloc, cursor)?;
+    cursor.finish()?;
+    Ok(tree)
+}
+
+/// The tree of the tokens of a text with `end` bytes, by the rules of the grammar. `Syntax` holds the place of the first
+/// token that does not fit, or `end` where more tokens are wanted; `TooDeep` the place of the token that opens level 257.
+fn read_data(alloc: Global, tokens: &[Token], end: u32) -> Result<DataFile, SyntaxFault>
+    ensures { ReadsAll (rules.whole (start tokens.now end)) result }
+{
+    let mut cursor = Cursor::new(tokens, end);
+    whole(alloc, &mut cursor)
+}
+
+/// The tree of the tokens of a text with `end` bytes. `TooDeep` holds the place of the first token that opens the 257th
+/// level of nesting. `Syntax` comes where there is no such token; it holds the place of the token that follows the longest
+/// beginning of the tokens that a data file begins with, or `end` if none follows.
+#[tactic(auto, using(crate::proofs::TreeLaws::read_answers))]
+pub fn parse_data(alloc: Global, tokens: &[Token], end: u32) -> Result<DataFile, SyntaxFault>
+    ensures { ParseAnswers tokens.now end result }
+{
+    read_data(alloc, tokens, end)
+}

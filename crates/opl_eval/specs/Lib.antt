@@ -1,0 +1,4 @@
+pub mod Arithmetic
+pub mod Compare
+pub mod Evaluation
+pub mod Laws

@@ -1,0 +1,11 @@
+pub mod Counts
+pub mod Examples
+pub mod Joint
+pub mod PlaceLaws
+pub mod Places
+pub mod Ranked
+pub mod Search
+pub mod SetLaws
+pub mod Sets
+pub mod Trees
+pub mod Writes

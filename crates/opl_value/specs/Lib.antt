@@ -1,0 +1,9 @@
+pub mod Hashed
+pub mod Keyed
+pub mod Laws
+pub mod Order
+pub mod Places
+pub mod Ranked
+pub mod Rebuilt
+pub mod Sets
+pub mod Total

@@ -1,0 +1,3 @@
+var int x in 1..2;
+int n = 1 + x;
+solve { };
