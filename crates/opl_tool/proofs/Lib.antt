@@ -1,4 +1,5 @@
 pub mod Advance
+pub mod EachLemmas
 pub mod Enumeration
 pub mod Formulas
 pub mod HeadlineLemmas
@@ -14,4 +15,3 @@ pub mod ResolveLemmas
 pub mod Showing
 pub mod SolveLemmas
 pub mod StartLemmas
-pub mod WordsLemmas

@@ -12,7 +12,7 @@ use Rattle.opl_tree.specs.Reading.{IsTreeOf, StopsAt, OpensAt}
 use Rattle.opl_data.specs.declared.tree.DataFile.{DataFile}
 use Rattle.opl_data.specs.declared.tree.DataItem.{DataItem}
 use Rattle.opl_data.specs.Depth.{depth_file}
-use Rattle.opl_data.specs.Reading as data
+use Rattle.opl_data.specs.Reading as of_data
 use Rattle.opl_plain.specs.Plain.{plain_of}
 use Rattle.opl_types.specs.Models.{model}
 use Rattle.opl_types.specs.declared.fault.TypeFault.{TypeFault}
@@ -67,12 +67,12 @@ Parsed tokens (Err e) = IsSyntaxFault tokens e
 -- first that opens one
 abbrev pub IsDataFault : (file : ℕ) → Tokens → Refusal → Type 0
 IsDataFault file tokens e =
-    ((at : ℕ) × (e ≡ At Syntax file at) × data.StopsAt tokens.list tokens.end at × data.NoneOpens 256 tokens.list)
-    ⊎ ((at : ℕ) × (e ≡ At TooDeep file at) × data.OpensAt 256 tokens.list at)
+    ((at : ℕ) × (e ≡ At Syntax file at) × of_data.StopsAt tokens.list tokens.end at × of_data.NoneOpens 256 tokens.list)
+    ⊎ ((at : ℕ) × (e ≡ At TooDeep file at) × of_data.OpensAt 256 tokens.list at)
 
 -- the tree of a data file's tokens, which nests at most 256 levels
 abbrev pub DataParsed : (file : ℕ) → Tokens → Stage DataFile
-DataParsed file tokens (Ok tree) = data.IsTreeOf tree tokens.list tokens.end × (depth_file tree ≤ 256)
+DataParsed file tokens (Ok tree) = of_data.IsTreeOf tree tokens.list tokens.end × (depth_file tree ≤ 256)
 DataParsed file tokens (Err e) = IsDataFault file tokens e
 
 -- the refusal at a fault of typing; want of memory is none
@@ -114,11 +114,11 @@ Runs files tree = Then (Plain tree) (NoneGiven files)
 
 -- the model of the tokens of its file and of the data files: the syntax of each comes first, then the types
 abbrev pub Understood : Tokens → List Tokens → Stage PlainModel
-Understood tokens data = Then (Parsed tokens) (λ tree. Then (Each DataParsed 1 data) (λ files. Then (HasTypes tree) (Runs files)))
+Understood tokens more = Then (Parsed tokens) (λ tree. Then (Each DataParsed 1 more) (λ files. Then (HasTypes tree) (Runs files)))
 
 -- the model of the bytes of its file and of the data files: the scan of each comes first
 abbrev pub Read : List ℕ → List (List ℕ) → Stage PlainModel
-Read bytes data = Then (Scanned 0 bytes) (λ tokens. Then (Each Scanned 1 data) (Understood tokens))
+Read bytes more = Then (Scanned 0 bytes) (λ tokens. Then (Each Scanned 1 more) (Understood tokens))
 
 -- the model of the files of these names: the reading of each comes first
 abbrev pub Loaded : Files → List ℕ × List (List ℕ) → Stage PlainModel

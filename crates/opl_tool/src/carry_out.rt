@@ -21,16 +21,16 @@ fn fetch_files<F: Shelf>(
     alloc: Global,
     shelf: &mut F,
     model: &str,
-    data: &[String],
+    others: &[String],
 ) -> Result<PlainModel, Stop>
-    ensures loaded { let names = map (λ name. string_bytes name) data.now in
+    ensures loaded { let names = map (λ name. string_bytes name) others.now in
         IfSome (F.files shelf.old) (λ files. GivesRead (Loaded files (model.now, names)) result) }
     ensures near { IfOk result (λ model. All AreNear model.variables) }
     ensures cause { CountsRead result (F.read_faults shelf.old) (F.read_faults shelf.new) }
     ensures no_write { F.write_faults shelf.new ≡ F.write_faults shelf.old }
 {
     let bytes = load(alloc, shelf, 0, model)?;
-    let texts = load_data(alloc, shelf, data)?;
+    let texts = load_data(alloc, shelf, others)?;
     read(alloc, bytes.as_slice(), texts.as_slice())
 }
 
@@ -47,7 +47,7 @@ fn fetch<F: Shelf>(alloc: Global, words: &[String], shelf: &mut F) -> Result<Pla
     }
     let names = names_of(alloc, words)?;
     match names.as_slice() {
-        [model, data @ ..] => fetch_files(alloc, shelf, model.as_str(), data),
+        [model, others @ ..] => fetch_files(alloc, shelf, model.as_str(), others),
         [] => Err(Stop::Refused(Refusal::Words)),
     }
 }

@@ -5,7 +5,7 @@ mod answer;
 mod call;
 mod carry_out;
 mod constraint;
-mod data;
+mod data_files;
 pub mod laws;
 mod line;
 mod load;

@@ -6,7 +6,7 @@ ghost use Rattle.opl_plain.specs.Sides.{place_of};
 ghost use Rattle.opl_tool.specs.Judged.{Parsed, HasTypes, tree_of, Plain, Runs, Understood, Read};
 ghost use Rattle.opl_tool.specs.Stage.{Gives, Then};
 
-use crate::data::{data_trees, none_given};
+use crate::data_files::{data_trees, none_given};
 use crate::refusal::Fault;
 use crate::scanning::{Tokens, tokens_of, tokens_of_data};
 use crate::stop::{Stop, refused};
@@ -86,23 +86,23 @@ fn model(alloc: Global, tree: ModelTree, files: &[DataFile]) -> Result<PlainMode
 }
 
 /// The model of the tokens of its file and of the data files, in its plain form.
-fn understand(alloc: Global, tokens: &Tokens, data: &[Tokens]) -> Result<PlainModel, Stop>
-    ensures gives { Gives (Understood tokens.now data.now) result }
+fn understand(alloc: Global, tokens: &Tokens, others: &[Tokens]) -> Result<PlainModel, Stop>
+    ensures gives { Gives (Understood tokens.now others.now) result }
     ensures near { IfOk result (λ model. All AreNear model.variables) }
 {
     let tree = tree(alloc, tokens)?;
-    let files = data_trees(alloc, data)?;
+    let files = data_trees(alloc, others)?;
     model(alloc, tree, files.as_slice())
 }
 
 /// The model of the bytes of its file and of the data files, in its plain form.
-pub fn read(alloc: Global, bytes: &[u8], data: &[Seq<u8>]) -> Result<PlainModel, Stop>
+pub fn read(alloc: Global, bytes: &[u8], others: &[Seq<u8>]) -> Result<PlainModel, Stop>
     requires short { length bytes.now ≤ max_bytes }
-    requires all_short { All (λ bytes. length bytes ≤ max_bytes) data.now }
-    ensures gives { Gives (Read bytes.now data.now) result }
+    requires all_short { All (λ bytes. length bytes ≤ max_bytes) others.now }
+    ensures gives { Gives (Read bytes.now others.now) result }
     ensures near { IfOk result (λ model. All AreNear model.variables) }
 {
     let tokens = tokens_of(alloc, 0, bytes)?;
-    let others = tokens_of_data(alloc, data)?;
-    understand(alloc, &tokens, others.as_slice())
+    let others_tokens = tokens_of_data(alloc, others)?;
+    understand(alloc, &tokens, others_tokens.as_slice())
 }
