@@ -48,6 +48,25 @@ then-stops P Q ReadFault p = p
 then-stops P Q WriteFault p = p
 then-stops P Q OutOfMemory p = tt
 
+-- the model and the data files have trees, and these gave what they gave
+pub understood-gives : (tokens : Tokens) (more : List Tokens) (tree : ModelTree) (files these : List DataFile) (r : Result PlainModel Stop) → these ≡ files →
+    Parsed tokens (Ok tree) → Each DataParsed 1 more (Ok files) → Gives (Then (HasTypes tree) (Runs these)) r → Gives (Understood tokens more) r
+understood-gives tokens more tree files these r same parsed trees h =
+    then-gives (Parsed tokens) (λ t. Then (Each DataParsed 1 more) (λ fs. Then (HasTypes t) (Runs fs))) tree r parsed (then-gives (Each DataParsed 1 more) (λ fs. Then (HasTypes tree) (Runs fs)) files r trees
+    (subst (λ fs. Gives (Then (HasTypes tree) (Runs fs)) r) same h))
+
+-- the model has a tree, and the data files came to an end
+pub understood-stops : (tokens : Tokens) (more : List Tokens) (tree : ModelTree) (stop : Stop) → Parsed tokens (Ok tree) → Gives (Each DataParsed 1 more) (Err stop) →
+    Gives (Understood tokens more) (Err stop)
+understood-stops tokens more tree stop parsed h =
+    then-gives (Parsed tokens) (λ t. Then (Each DataParsed 1 more) (λ fs. Then (HasTypes t) (Runs fs))) tree (Err stop) parsed (then-stops (Each DataParsed 1 more) (λ fs. Then (HasTypes tree) (Runs fs)) stop h)
+
+-- the same of their bytes and tokens
+pub read-gives : (bytes : List ℕ) (more : List (List ℕ)) (tokens : Tokens) (others these : List Tokens) (r : Result PlainModel Stop) → these ≡ others →
+    Scanned 0 bytes (Ok tokens) → Each Scanned 1 more (Ok others) → Gives (Understood tokens these) r → Gives (Read bytes more) r
+read-gives bytes more tokens others these r same scanned all h =
+    then-gives (Scanned 0 bytes) (λ ts. Then (Each Scanned 1 more) (Understood ts)) tokens r scanned (then-gives (Each Scanned 1 more) (Understood tokens) others r all (subst (λ ts. Gives (Understood tokens ts) r) same h))
+
 -- the same of stages that read
 then_gives_read : {A B : Type 0} (P : Stage A) (Q : A → Stage B) (a : A) (r : Result B Stop) → P (Ok a) → GivesRead (Q a) r → GivesRead (Then P Q) r
 then_gives_read P Q a (Ok b) p q = inl (a, p, q)
@@ -55,12 +74,6 @@ then_gives_read P Q a (Err (Refused e)) p q = inl (a, p, q)
 then_gives_read P Q a (Err ReadFault) p q = tt
 then_gives_read P Q a (Err WriteFault) p q = q
 then_gives_read P Q a (Err OutOfMemory) p q = tt
-
-then_stops_read : {A B : Type 0} (P : Stage A) (Q : A → Stage B) (stop : Stop) → GivesRead P (Err stop) → GivesRead (Then P Q) (Err stop)
-then_stops_read P Q (Refused e) p = inr (e, p, refl)
-then_stops_read P Q ReadFault p = tt
-then_stops_read P Q WriteFault p = p
-then_stops_read P Q OutOfMemory p = tt
 
 gives_read : {A : Type 0} (P : Stage A) (r : Result A Stop) → Gives P r → GivesRead P r
 gives_read P (Ok a) p = p
@@ -70,25 +83,18 @@ gives_read P (Err WriteFault) p = p
 gives_read P (Err OutOfMemory) p = tt
 
 -- what the files are after a read is what they were
-both_told : (old mid : Option Files) (P Q R : Files → Type 0) → ((files : Files) → P files → Q files → R files) → Becomes old mid (λ before now. now ≡ before) →
+pub both_told : (old mid : Option Files) (P Q R : Files → Type 0) → ((files : Files) → P files → Q files → R files) → Becomes old mid (λ before now. now ≡ before) →
     IfSome old P → IfSome mid Q → IfSome old R
 both_told None mid P Q R both same p q = tt
 both_told (Some files) None P Q R both same p q = absurd same
 both_told (Some files) (Some others) P Q R both same p q = both files p (subst Q same q)
-
--- the model's file was read, and the reading of the data files ended
-pub loaded-stops : (told mid : Option Files) (model bytes : List ℕ) (more : List (List ℕ)) (stop : Stop) →
-    IfSome told (λ files. GivesRead (Held files 0 model) (Ok bytes)) → Becomes told mid (λ before now. now ≡ before) →
-    IfSome mid (λ files. GivesRead (Each (Held files) 1 more) (Err stop)) → IfSome told (λ files. GivesRead (Loaded files (model, more)) (Err stop))
-loaded-stops told mid model bytes more stop held same stopped = both_told told mid _ _ _
-    (λ files p q. then_gives_read (Held files 0 model) _ bytes (Err stop) p (then_stops_read (Each (Held files) 1 more) (Read bytes) stop q)) same held stopped
 
 -- all files were read, and their texts gave a model or an end
 pub loaded-read : (told mid : Option Files) (model bytes text : List ℕ) (more texts others : List (List ℕ)) (r : Result PlainModel Stop) → text ≡ bytes → others ≡ texts →
     IfSome told (λ files. GivesRead (Held files 0 model) (Ok bytes)) → Becomes told mid (λ before now. now ≡ before) →
     IfSome mid (λ files. GivesRead (Each (Held files) 1 more) (Ok texts)) → Gives (Read text others) r → IfSome told (λ files. GivesRead (Loaded files (model, more)) r)
 loaded-read told mid model bytes text more texts others r same all held stay helds read = both_told told mid _ _ _
-    (λ files p q. then_gives_read (Held files 0 model) _ bytes r p (then_gives_read (Each (Held files) 1 more) (Read bytes) texts r q
+    (λ files p q. then_gives_read (Held files 0 model) (λ bs. Then (Each (Held files) 1 more) (Read bs)) bytes r p (then_gives_read (Each (Held files) 1 more) (Read bytes) texts r q
     (gives_read (Read bytes texts) r (subst (λ ts. Gives (Read bytes ts) r) all (subst (λ t. Gives (Read t others) r) same read))))) stay held helds
 
 -- the words name these files
@@ -133,19 +139,19 @@ unfolding Each
 each_one P one n [] = only_one []
 each_one P one n (x ∷ xs) = then_one (P n x) _ (one n x) (λ y. then_one (Each P (n + 1) xs) _ (each_one P one (n + 1) xs) (λ ys. only_one (y ∷ ys)))
 
-no_names : (words more : List (List ℕ)) (model : List ℕ) → is_solve words ≡ true → names_of words ≡ model ∷ more →
+no_names : (words rest : List (List ℕ)) (first : List ℕ) → is_solve words ≡ true → names_of words ≡ first ∷ rest →
     ((is_solve words ≡ false) ⊎ (names_of words ≡ [])) → ⊥
-no_names words more model command names (inl no) = let never : true ≡ false = sym command ∙ no in cc
-no_names words more model command names (inr none) = let never : model ∷ more ≡ [] = sym names ∙ none in cc
+no_names words rest first command names (inl other) = let never : true ≡ false = sym command ∙ other in cc
+no_names words rest first command names (inr none) = let never : first ∷ rest ≡ [] = sym names ∙ none in cc
 
 named_one : (words : List (List ℕ)) → IsOne (Named words)
-named_one words (Ok (model, more)) (Ok (other, others)) p q =
-    let both : model ∷ more ≡ other ∷ others = sym p.1 ∙ q.1 in
-    let first : model ≡ other = cc in
-    let rest : more ≡ others = cc in
-    inl (ap (λ m. Ok (m, more)) first ∙ ap (λ ds. Ok (other, ds)) rest)
-named_one words (Ok (model, more)) (Err e) p q = absurd (no_names words more model p.0 p.1 q.1)
-named_one words (Err e) (Ok (model, more)) p q = absurd (no_names words more model q.0 q.1 p.1)
+named_one words (Ok (first, rest)) (Ok (other, others)) p q =
+    let both : first ∷ rest ≡ other ∷ others = sym p.1 ∙ q.1 in
+    let one : first ≡ other = cc in
+    let more : rest ≡ others = cc in
+    inl (ap (λ (m : List ℕ). Ok (m, rest)) one ∙ ap (λ (ds : List (List ℕ)). Ok (other, ds)) more)
+named_one words (Ok (first, rest)) (Err e) p q = absurd (no_names words rest first p.0 p.1 q.1)
+named_one words (Err e) (Ok (first, rest)) p q = absurd (no_names words rest first q.0 q.1 p.1)
 named_one words (Err e) (Err f) p q = inl (ap Err (p.0 ∙ sym q.0))
 
 too_long : (bytes : List ℕ) → length bytes ≤ max_bytes → max_bytes < length bytes → ⊥
@@ -168,11 +174,11 @@ held_one files file name (Err e) (Err f) (inr p) (inl q) = absurd (not_both _ q.
 not_memory : (file : ℕ) (fault : ScanFault) (e : Refusal) → refusal_of_scan file fault ≡ Some e → fault ≢ scan.OutOfMemory
 not_memory file fault e h none = let no : None ≡ Some e = subst (λ f. refusal_of_scan file f ≡ Some e) none h in absurd (cc)
 
-made : List Token → ℕ → Tokens
+abbrev made : List Token → ℕ → Tokens
 made list end = record { list = list; end = end }
 
 same_tokens : (t u : Tokens) → t.list ≡ u.list → t.end ≡ u.end → t ≡ u
-same_tokens t u lists ends = ap (λ l. made l t.end) lists ∙ ap (λ n. made u.list n) ends
+same_tokens t u lists ends = ap (λ (l : List Token). made l t.end) lists ∙ ap (λ (n : ℕ). made u.list n) ends
 
 scanned_one : (file : ℕ) (bytes : List ℕ) → IsOne (Scanned file bytes)
 scanned_one file bytes (Ok t) (Ok u) p q = inl (ap Ok (same_tokens t u (one_scan bytes t.list u.list p.0 q.0) (p.1 ∙ sym q.1)))
