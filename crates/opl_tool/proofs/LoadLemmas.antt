@@ -1,5 +1,6 @@
 -- Reading one data file after another, and the files that the words name.
-use Rattle.std.proofs.Common.{◌≡◌, refl, sym, ap, ◌∙◌, subst, ℕ, ◌+◌, ◌<◌, ◌≤◌, true, List, [], ◌∷◌, ◌++◌, map, length, take, drop, get_or, Option, Some, None, Result, Ok, Err, IfSome, String, string_bytes, Global, arith}
+use Rattle.std.proofs.Common.{◌≡◌, refl, sym, ap, ◌∙◌, subst, ℕ, ◌+◌, ◌-◌, ◌<◌, ◌≤◌, true, List, [], ◌∷◌, ◌++◌, map, length, take, drop, get_or, Option, Some, None, Result, Ok, Err, IfSome, String, string_bytes, Global, arith}
+use Rattle.std.proofs.lemmas.List.{take_all, length-drop}
 use Rattle.opl_outside.specs.Becomes.{Becomes}
 use Rattle.opl_outside.specs.Files.{Files}
 use Rattle.opl_tool.specs.declared.stop.Stop.{Stop}
@@ -10,6 +11,7 @@ use Rattle.opl_tool.specs.Words.{is_solve, names_of}
 use Rattle.opl_tool.specs.Stage.{Stage, Each, GivesRead}
 use Rattle.opl_tool.proofs.EachLemmas.{each-none, each-next, each-stops-read, each-ends, each_map}
 use Rattle.opl_tool.proofs.JudgedLemmas.{if_some, both_told, fetched-loaded}
+use Rattle.opl_tool.proofs.PrintingLemmas.{becomes_same, becomes_then}
 
 -- the bytes of the file that a word names
 abbrev pub HeldBy : Files → ℕ → String Global → Stage (List ℕ)
@@ -61,11 +63,24 @@ named : (names : List (String Global)) (words : List (List ℕ)) (first : String
 named names words first text h at same given =
     sym given ∙ ap (map (λ name. string_bytes name)) (first_of_names names first h at) ∙ ap (λ (t : List ℕ). t ∷ map (λ name. string_bytes name) (drop 1 names)) (sym same)
 
+rest_whole : (names : List (String Global)) → take (length names - 1) (drop 1 names) ≡ drop 1 names
+rest_whole names = take_all (length names - 1) (drop 1 names) (omega (arith, length-drop 1 names))
+
 -- the files that the words name came to this
 pub fetched-named : (told : Option Files) (words : List (List ℕ)) (items names : List (String Global)) (first : String Global) (text : List ℕ) (r : Result PlainModel Stop) →
     names ≡ items → 1 ≤ length names → first ≡ get_or names 0 first → text ≡ string_bytes first → true ≡ is_solve words →
     map (λ name. string_bytes name) items ≡ names_of words →
-    IfSome told (λ files. GivesRead (Loaded files (text, map (λ name. string_bytes name) (drop 1 names))) r) → IfSome told (λ files. GivesRead (Fetched words files) r)
+    IfSome told (λ files. GivesRead (Loaded files (text, map (λ name. string_bytes name) (take (length names - 1) (drop 1 names)))) r) →
+    IfSome told (λ files. GivesRead (Fetched words files) r)
 fetched-named told words items names first text r all h at same command given loaded =
     fetched-loaded told words text (map (λ name. string_bytes name) (drop 1 names)) r (sym command)
-    (named names words first text h at same (ap (map (λ name. string_bytes name)) all ∙ given)) loaded
+    (named names words first text h at same (ap (map (λ name. string_bytes name)) all ∙ given))
+    (subst (λ (rest : List (String Global)). IfSome told (λ files. GivesRead (Loaded files (text, map (λ name. string_bytes name) rest)) r)) (rest_whole names) loaded)
+
+-- the files stay what they were
+pub files-same : (old : Option Files) → Becomes old old (λ before now. now ≡ before)
+files-same old = becomes_same old (λ before now. now ≡ before) (λ files. refl)
+
+pub files-then : (old mid new : Option Files) → Becomes old mid (λ before now. now ≡ before) → Becomes mid new (λ before now. now ≡ before) →
+    Becomes old new (λ before now. now ≡ before)
+files-then old mid new p q = becomes_then old mid new (λ before now. now ≡ before) (λ before now. now ≡ before) (λ before now. now ≡ before) (λ x y z first second. second ∙ first) p q

@@ -2,8 +2,7 @@ use Rattle.std.proofs.Common.{◌≤◌, refl, ◌∙◌, ℕ, List, length, ari
 use Rattle.std.proofs.lemmas.List.Elements.{All-nil, All-push}
 use Rattle.std.proofs.lemmas.Result.{err_from_is_err_and}
 use Rattle.opl_outside.specs.Files.{max_bytes}
-use Rattle.opl_tool.proofs.LoadLemmas.{loaded-none, loaded-next, loaded-stopped, loaded-all}
-use Rattle.opl_tool.proofs.PrintingLemmas.{becomes_same, becomes_then}
+use Rattle.opl_tool.proofs.LoadLemmas.{loaded-none, loaded-next, loaded-stopped, loaded-all, files-same, files-then}
 use Rattle.opl_tool.proofs.load.load_data.Goals as goal
 
 pub loop-x-init : goal.loop-x-init
@@ -12,7 +11,7 @@ loop-x-init g c = record {
   within_limit = rw c.new-texts.ensures (All-nil (λ (bytes : List ℕ). length bytes ≤ max_bytes));
   reads = refl;
   writes = refl;
-  files_stay = becomes_same _ _ (λ files. refl);
+  files_stay = files-same (g.F.Shelf.files c.args.shelf.now);
 }
 
 pub returns-in_err-load-clause-held : goal.returns-in_err-load-clause-held
@@ -28,7 +27,7 @@ loop-x-preserved g c = record {
   within_limit = rw c.in_ok-push.ensures.ok (All-push (λ (bytes : List ℕ). length bytes ≤ max_bytes) c.loop-x.texts c.in_ok-load.field-0 c.loop-x.invariant.within_limit c.in_ok-load.ensures.within_limit);
   reads = c.in_ok-load.ensures.cause ∙ c.loop-x.invariant.reads;
   writes = c.in_ok-load.ensures.no_write ∙ c.loop-x.invariant.writes;
-  files_stay = becomes_then _ _ _ _ _ _ (λ x y z p q. q ∙ p) c.loop-x.invariant.files_stay c.in_ok-load.ensures.files_stay;
+  files_stay = files-then (g.F.Shelf.files c.args.shelf.now) (g.F.Shelf.files c.loop-x.shelf) (g.F.Shelf.files c.load.new.shelf) c.loop-x.invariant.files_stay c.in_ok-load.ensures.files_stay;
 }
 
 pub returns-clause-held : goal.returns-clause-held
