@@ -75,7 +75,8 @@ fn refusal_line(alloc: Global, refusal: &Refusal, words: &[String]) -> Result<Ve
         Refusal::Absent(file) => named_line(alloc, "Absent", name_at(names.as_slice(), *file)),
         Refusal::TooLong(file) => named_line(alloc, "TooLong", name_at(names.as_slice(), *file)),
         Refusal::At(fault, file, at) => {
-            placed_line(alloc, word_of(*fault), name_at(names.as_slice(), *file), *at)
+            let name = name_at(names.as_slice(), *file);
+            placed_line(alloc, word_of(*fault), name, *at)
         }
         Refusal::Given(name) => named_line(alloc, "Given", name.as_slice()),
     }

@@ -12,7 +12,12 @@ use opl_outside::{Found, OutsideError, Shelf};
 use std::alloc::Global;
 
 /// The bytes of the file of this name and this number.
-pub fn load<F: Shelf>(alloc: Global, shelf: &mut F, file: usize, name: &str) -> Result<Seq<u8>, Stop>
+pub fn load<F: Shelf>(
+    alloc: Global,
+    shelf: &mut F,
+    file: usize,
+    name: &str,
+) -> Result<Seq<u8>, Stop>
     ensures held { IfSome (F.files shelf.old) (λ files. GivesRead (Held files file name.now) result) }
     ensures within_limit { IfOk result (λ bytes. length bytes ≤ max_bytes) }
     ensures cause { CountsRead result (F.read_faults shelf.old) (F.read_faults shelf.new) }

@@ -30,11 +30,7 @@ const NONE: Failing = Failing {
 };
 
 /// A shelf with these files.
-fn shelf_of(
-    alloc: Global,
-    files: &[(&str, &[u8])],
-    failing: &[u64],
-) -> Result<MemoryShelf, Fail> {
+fn shelf_of(alloc: Global, files: &[(&str, &[u8])], failing: &[u64]) -> Result<MemoryShelf, Fail> {
     let mut shelf = MemoryShelf::new(alloc, failing)?;
     for (name, bytes) in files {
         shelf.add(alloc, name, bytes)?;
@@ -610,7 +606,8 @@ fn comes_to(rt: &impl Abort, alloc: Global, row: &DataRow) -> Result<(), Fail> {
         ("b.dat", row.second.as_bytes()),
     ];
     let called = call_over(alloc, row.words, &files, NONE)?;
-    assert_eq!(rt; called.answer, row.answer, "{row.err}");
+    let DataRow { err, .. } = row;
+    assert_eq!(rt; called.answer, row.answer, "{err}");
     assert_eq!(rt; called.out.as_slice(), row.out.as_bytes());
     assert_eq!(rt; called.err.as_slice(), row.err.as_bytes());
     Ok(())
@@ -657,10 +654,16 @@ fn tells_a_fault_at_its_read(rt: HostRuntime) -> Result<(), Fail> {
     let table: [(&[&str], &str); 3] = [
         (&["solve", "m.mod", "a.dat"], "fault: read\n"),
         (&["solve", "m.mod", "a.dat", "none.dat"], "fault: read\n"),
-        (&["solve", "none.mod", "a.dat"], "refused: Absent none.mod\n"),
+        (
+            &["solve", "none.mod", "a.dat"],
+            "refused: Absent none.mod\n",
+        ),
     ];
     for (words, line) in table {
-        let failing = Failing { shelf: &[2], ..NONE };
+        let failing = Failing {
+            shelf: &[2],
+            ..NONE
+        };
         let called = call_over(rt.alloc(), words, &files, failing)?;
         assert_eq!(rt; called.out.as_slice(), b"".as_slice(), "{line}");
         assert_eq!(rt; called.err.as_slice(), line.as_bytes());
