@@ -1,5 +1,5 @@
 -- One stage behind another.
-use Rattle.std.proofs.Common.{◌≡◌, ◌≢◌, ◌⊎◌, ◌<◌, ◌≤◌, ◌+◌, refl, sym, ap, ◌∙◌, subst, ℕ, Bool, true, false, List, [], ◌∷◌, length, Option, Some, None, Result, Ok, Err, IfSome, IsSomeAnd, inl, inr, arith}
+use Rattle.std.proofs.Common.{◌≡◌, ◌≢◌, ◌⊎◌, ◌<◌, ◌≤◌, ◌+◌, refl, sym, ap, ◌∙◌, subst, ℕ, true, false, List, [], ◌∷◌, length, Option, Some, None, Result, Ok, Err, IfSome, IsSomeAnd, inl, inr, arith}
 use Rattle.opl_outside.specs.Files.{Files, max_bytes}
 use Rattle.opl_parse.proofs.TreeLaws.{one_tree, tree_or_stop, one_stop, deep_or_tree}
 use Rattle.opl_tree.specs.declared.model.ModelTree.{ModelTree}
@@ -23,7 +23,6 @@ use Rattle.opl_tool.specs.declared.refusal.Refusal.TheVariants.{At, Given}
 use Rattle.opl_tool.specs.declared.scanning.Tokens.{Tokens}
 use Rattle.opl_tool.specs.declared.stop.Stop.{Stop}
 use Rattle.opl_tool.specs.declared.stop.Stop.TheVariants.{Refused, ReadFault, WriteFault, OutOfMemory}
-use Rattle.opl_tool.specs.Items.{first_item}
 use Rattle.opl_tool.specs.Judged.{Named, Held, refusal_of_scan, Scanned, IsSyntaxFault, Parsed, IsDataFault, DataParsed, HasTypes, refusal_of_type, Plain, NoneGiven, Runs, Understood, Resolved, Read, Loaded, Fetched, Judged}
 use Rattle.opl_tool.specs.Laws.{SameOutcome}
 use Rattle.opl_tool.specs.Stage.{Stage, Then, Only, Each, Gives, GivesRead}

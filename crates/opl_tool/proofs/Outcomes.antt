@@ -31,7 +31,7 @@ use Rattle.opl_tool.specs.Faults.{model_fault}
 use Rattle.opl_tool.specs.Items.{first_item}
 use Rattle.opl_tool.specs.Judged.{Named, Held, Scanned, Parsed, DataParsed, HasTypes, Plain, NoneGiven, Runs, Understood, Read, Loaded, Resolved, Fetched, Judged}
 use Rattle.opl_tool.specs.Laws.{OneOutcome}
-use Rattle.opl_tool.specs.Stage.{Stage, Then, Only, Each}
+use Rattle.opl_tool.specs.Stage.{Stage, Then, Each}
 use Rattle.opl_tool.specs.Words.{is_solve, names_of}
 use Rattle.opl_tool.proofs.JudgedLemmas.{judged_one}
 

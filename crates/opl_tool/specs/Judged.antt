@@ -1,9 +1,8 @@
 -- What the words and files of a call come to: the model that is solved, or the first refusal.
-use Rattle.std.specs.Prelude.{◌≡◌, ◌⊎◌, ◌<◌, ◌≤◌, ℕ, Bool, true, false, List, [], ◌∷◌, length, Option, Some, None, Ok, Err, IsSomeAnd, Result}
+use Rattle.std.specs.Prelude.{◌≡◌, ◌⊎◌, ◌<◌, ◌≤◌, ℕ, true, false, List, [], ◌∷◌, length, Option, Some, None, Ok, Err, IsSomeAnd, Result}
 use Rattle.opl_outside.specs.Files.{Files, max_bytes}
 use Rattle.opl_token.specs.declared.fault.ScanFault.{ScanFault}
 use Rattle.opl_token.specs.declared.fault.ScanFault.TheVariants as scan
-use Rattle.opl_token.specs.declared.token.Token.{Token}
 use Rattle.opl_token.specs.Scan.{Scans, Faults}
 use Rattle.opl_plain.specs.declared.model.PlainModel.{PlainModel}
 use Rattle.opl_tree.specs.declared.model.ModelTree.{ModelTree}

@@ -1,5 +1,5 @@
 -- The words of a call.
-use Rattle.std.specs.Prelude.{ℕ, Bool, true, false, not, ◌&&◌, ◌||◌, nat_eq, List, [], ◌∷◌, codes, bytes_eq, get_or, if◌then◌else◌}
+use Rattle.std.specs.Prelude.{ℕ, Bool, false, not, ◌&&◌, ◌||◌, nat_eq, List, [], ◌∷◌, codes, bytes_eq, get_or, if◌then◌else◌}
 
 -- `--`, behind which every word is the name of a file
 abbrev pub is_end_of_options : List ℕ → Bool
