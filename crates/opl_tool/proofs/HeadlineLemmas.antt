@@ -147,20 +147,20 @@ module _ (c : Call) (files : Files) where
   silent_at (Err OutOfMemory) (inr s) e j = absurd (not_both s.model e s.judged j)
 
   -- a refusal of the call, told by its line
-  abbrev Told : List ℕ → (List ℕ → Type 0) → Type 0
-  Told file T = (e : Refusal) × Judged c.words files (Err e) × T (refusal_text e file)
+  abbrev Told : List (List ℕ) → (List ℕ → Type 0) → Type 0
+  Told words T = (e : Refusal) × Judged c.words files (Err e) × T (refusal_text e words)
 
-  line_at : (r : Result ℕ Stop) (a : Answer) (file : List ℕ) (T : List ℕ → Type 0) → EndsAt r → Answers r a → IfErr r (λ stop. T (stop_text stop file)) →
-      a ≡ answer.Refused → Told file T
-  line_at (Ok zero) a file T s is told refused = absurd (cc)
-  line_at (Ok (suc n)) a file T s is told refused = absurd (cc)
-  line_at (Err (Refused f)) a file T s is told refused = (f, s.1, told)
-  line_at (Err ReadFault) a file T s (inl is) told refused = absurd (cc)
-  line_at (Err ReadFault) a file T s (inr is) told refused = absurd (cc)
-  line_at (Err WriteFault) a file T s (inl is) told refused = absurd (cc)
-  line_at (Err WriteFault) a file T s (inr is) told refused = absurd (cc)
-  line_at (Err OutOfMemory) a file T s (inl is) told refused = absurd (cc)
-  line_at (Err OutOfMemory) a file T s (inr is) told refused = absurd (cc)
+  line_at : (r : Result ℕ Stop) (a : Answer) (words : List (List ℕ)) (T : List ℕ → Type 0) → EndsAt r → Answers r a → IfErr r (λ stop. T (stop_text stop words)) →
+      a ≡ answer.Refused → Told words T
+  line_at (Ok zero) a words T s is told refused = absurd (cc)
+  line_at (Ok (suc n)) a words T s is told refused = absurd (cc)
+  line_at (Err (Refused f)) a words T s is told refused = (f, s.1, told)
+  line_at (Err ReadFault) a words T s (inl is) told refused = absurd (cc)
+  line_at (Err ReadFault) a words T s (inr is) told refused = absurd (cc)
+  line_at (Err WriteFault) a words T s (inl is) told refused = absurd (cc)
+  line_at (Err WriteFault) a words T s (inr is) told refused = absurd (cc)
+  line_at (Err OutOfMemory) a words T s (inl is) told refused = absurd (cc)
+  line_at (Err OutOfMemory) a words T s (inr is) told refused = absurd (cc)
 
 -- a fact for the files, if they are told
 with_told : (o : Option Files) (P : Files → Type 0) → ((files : Files) → o ≡ Some files → P files) → IfSome o P
@@ -183,6 +183,6 @@ module _ (c : Call) (r : Result ℕ Stop) (a : Answer) (ends : Ends c r) (is : A
   pub shows-nothing : IfSome c.files (λ files. (e : Refusal) → Judged c.words files (Err e) → c.new ≡ c.old)
   shows-nothing = with_told c.files _ (λ files told. silent_at c files r (told_at c files r told ends))
 
-  pub tells-refusal : (file : List ℕ) (T : List ℕ → Type 0) → IfErr r (λ stop. T (stop_text stop file)) →
-      IfSome c.files (λ files. a ≡ answer.Refused → (e : Refusal) × Judged c.words files (Err e) × T (refusal_text e file))
-  tells-refusal file T told_line = with_told c.files _ (λ files told. line_at c files r a file T (told_at c files r told ends) is told_line)
+  pub tells-refusal : (words : List (List ℕ)) (T : List ℕ → Type 0) → IfErr r (λ stop. T (stop_text stop words)) →
+      IfSome c.files (λ files. a ≡ answer.Refused → (e : Refusal) × Judged c.words files (Err e) × T (refusal_text e words))
+  tells-refusal words T told_line = with_told c.files _ (λ files told. line_at c files r a words T (told_at c files r told ends) is told_line)

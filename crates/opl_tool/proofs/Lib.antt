@@ -1,9 +1,12 @@
 pub mod Advance
+pub mod DataLemmas
+pub mod EachLemmas
 pub mod Enumeration
 pub mod Formulas
 pub mod HeadlineLemmas
 pub mod JudgedLemmas
 pub mod LineLemmas
+pub mod LoadLemmas
 pub mod Membership
 pub mod NamesLemmas
 pub mod Order
@@ -14,4 +17,3 @@ pub mod ResolveLemmas
 pub mod Showing
 pub mod SolveLemmas
 pub mod StartLemmas
-pub mod WordsLemmas

@@ -5,7 +5,8 @@ use Rattle.std.proofs.lemmas.Slice.Eq.{bytes_eq-Decides}
 use Rattle.std.proofs.Math.Seq.{take-suc, drop-cons}
 use Rattle.std.proofs.lemmas.List.{length-take}
 use Rattle.opl_plain.specs.declared.model.PlainVariable.{PlainVariable}
-use Rattle.opl_tool.specs.declared.refusal.Refusal.TheVariants.{Duplicate}
+use Rattle.opl_tool.specs.declared.refusal.Fault.TheVariants.{Duplicate}
+use Rattle.opl_tool.specs.declared.refusal.Refusal.TheVariants.{At}
 use Rattle.opl_tool.specs.Faults.{number_from, number_of, first_twice}
 
 -- the number of a name among variables and one more
@@ -56,7 +57,7 @@ numbers_more seen v f g same new more name =
     by_test false e = same name ∙ sym (pushed_other _ v name _ e)
 
 -- the first variable of the rest has a name that stands before
-twice_here : (seen vs : List PlainVariable) (v : PlainVariable) → is_some (number_of seen v.name.text) ≡ true → first_twice seen (v ∷ vs) ≡ Some (Duplicate v.name.at)
+twice_here : (seen vs : List PlainVariable) (v : PlainVariable) → is_some (number_of seen v.name.text) ≡ true → first_twice seen (v ∷ vs) ≡ Some (At Duplicate 0 v.name.at)
 twice_here seen vs v e = rw e refl
 
 twice_later : (seen vs : List PlainVariable) (v : PlainVariable) → is_some (number_of seen v.name.text) ≡ false → first_twice seen (v ∷ vs) ≡ first_twice (seen ++ v ∷ []) vs
@@ -71,7 +72,7 @@ front-more ds i d h = rw (add-one, take-suc ds i d) refl
 -- the name declared at a place stands before it
 pub twice-at : (ds : List PlainVariable) (i : ℕ) (d : PlainVariable) (v : PlainVariable) → i < length ds → v ≡ get_or ds i d →
     is_some (number_of (take i ds) v.name.text) ≡ true →
-    first_twice (take i ds) (drop i ds) ≡ Some (Duplicate v.name.at)
+    first_twice (take i ds) (drop i ds) ≡ Some (At Duplicate 0 v.name.at)
 twice-at ds i d v h e found = rw (back-at ds i d h, ← e) (twice_here (take i ds) (drop (i + 1) ds) v found)
 
 -- it does not

@@ -1,7 +1,5 @@
 -- Words and files come to an outcome.
-use Rattle.std.proofs.Common.{◌≡◌, ◌≢◌, ◌⊎◌, ◌<◌, ◌≤◌, refl, sym, ap, ◌∙◌, ℕ, Bool, true, false, nat_lt, List, [], ◌∷◌, length, codes, Option, Some, None, Result, Ok, Err, inl, inr, arith}
-use Rattle.std.specs.Str.{bytes_eq}
-use Rattle.std.proofs.lemmas.Slice.Eq.{bytes_eq-Decides}
+use Rattle.std.proofs.Common.{◌≡◌, ◌≢◌, ◌⊎◌, ◌<◌, ◌≤◌, ◌+◌, refl, ℕ, Bool, true, false, nat_lt, List, [], ◌∷◌, length, Option, Some, None, Result, Ok, Err, inl, inr, arith}
 use Rattle.std.proofs.lemmas.Bool.Decides.{nat_tests}
 use Rattle.opl_outside.specs.Files.{Files, max_bytes}
 use Rattle.opl_parse.proofs.TreeLaws.{parse_total}
@@ -20,12 +18,21 @@ use Rattle.opl_types.specs.declared.fault.TypeFault.TheVariants as types
 use Rattle.opl_types.specs.Types.{Sort}
 use Rattle.opl_types.proofs.PureItems.{never_memory}
 use Rattle.opl_tree.specs.Reading.{IsTreeOf, StopsAt, OpensAt}
+use Rattle.opl_data.proofs.TreeLaws as of_data
+use Rattle.opl_data.specs.Depth.{depth_file}
+use Rattle.opl_data.specs.Reading as data_files
+use Rattle.opl_data.specs.declared.tree.DataFile.{DataFile}
+use Rattle.opl_data.specs.declared.tree.DataItem.{DataItem}
+use Rattle.opl_tool.specs.declared.refusal.Fault.TheVariants.{BadByte, OpenComment, OpenString, NumberTooLarge, Syntax, TooDeep, NotYet, Unknown, Duplicate, NotData, Mismatch}
 use Rattle.opl_tool.specs.declared.refusal.Refusal.{Refusal}
-use Rattle.opl_tool.specs.declared.refusal.Refusal.TheVariants.{Words, Absent, TooLong, BadByte, OpenComment, OpenString, NumberTooLarge, Syntax, TooDeep, NotYet, Unknown, Duplicate, NotData, Mismatch}
+use Rattle.opl_tool.specs.declared.refusal.Refusal.TheVariants.{Words, Absent, TooLong, At, Given}
+use Rattle.opl_tool.specs.declared.scanning.Tokens.{Tokens}
 use Rattle.opl_tool.specs.Faults.{model_fault}
-use Rattle.opl_tool.specs.Judged.{IsSolve, Named, Held, Scanned, Parsed, HasTypes, Plain, Resolved, Fetched, Judged}
+use Rattle.opl_tool.specs.Items.{first_item}
+use Rattle.opl_tool.specs.Judged.{Named, Held, Scanned, Parsed, DataParsed, HasTypes, Plain, NoneGiven, Runs, Understood, Read, Loaded, Resolved, Fetched, Judged}
 use Rattle.opl_tool.specs.Laws.{OneOutcome}
-use Rattle.opl_tool.specs.Stage.{Stage, Then}
+use Rattle.opl_tool.specs.Stage.{Stage, Then, Each}
+use Rattle.opl_tool.specs.Words.{is_solve, names_of}
 use Rattle.opl_tool.proofs.JudgedLemmas.{judged_one}
 
 -- a stage has an outcome
@@ -36,78 +43,105 @@ then_comes : {A B : Type 0} (P : Stage A) (Q : A → Stage B) → Comes P → ((
 then_comes P Q (Ok a, p) next = ((next a).0, inl (a, p, (next a).1))
 then_comes P Q (Err e, p) next = (Err e, inr (e, p, refl))
 
-no_words : (words : List (List ℕ)) → ((name : List ℕ) → IsSolve words name → ⊥) → Comes (Named words)
-no_words words none = (Err Words, (refl, none))
+each_comes : {A B : Type 0} (P : ℕ → A → Stage B) → ((n : ℕ) (x : A) → Comes (P n x)) → (n : ℕ) (xs : List A) → Comes (Each P n xs)
+unfolding Each
+each_comes P come n [] = (Ok [], refl)
+each_comes P come n (x ∷ xs) = then_comes (P n x) _ (come n x) (λ y. then_comes (Each P (n + 1) xs) _ (each_comes P come (n + 1) xs) (λ ys. (Ok (y ∷ ys), refl)))
 
-first_two : (a b name : List ℕ) (rest : List (List ℕ)) → ◌≡◌ {A = List (List ℕ)} (a ∷ b ∷ rest) (codes "solve" ∷ name ∷ []) → a ≡ codes "solve"
-first_two a b name rest e = cc
-
-named_by : (command name : List ℕ) (b : Bool) → bytes_eq command (codes "solve") ≡ b → Comes (Named (command ∷ name ∷ []))
-named_by command name true e = (Ok name, ap (λ w. w ∷ name ∷ []) ((bytes_eq-Decides command (codes "solve")).0 e))
-named_by command name false e = no_words _ (λ other is. no_solve (first_two command name other [] is))
-  where
-    no_solve : command ≡ codes "solve" → ⊥
-    no_solve same = let no : true ≡ false = sym ((bytes_eq-Decides command (codes "solve")).1 same) ∙ e in cc
+named_by : (words names : List (List ℕ)) (b : Bool) → is_solve words ≡ b → names_of words ≡ names → Comes (Named words)
+named_by words names false command e = (Err Words, (refl, inl command))
+named_by words [] true command e = (Err Words, (refl, inr e))
+named_by words (model ∷ more) true command e = (Ok (model, more), (command, e))
 
 named_comes : (words : List (List ℕ)) → Comes (Named words)
-named_comes [] = no_words [] (λ name is. cc)
-named_comes (command ∷ []) = no_words _ (λ name is. cc)
-named_comes (command ∷ name ∷ []) = named_by command name (bytes_eq command (codes "solve")) refl
-named_comes (command ∷ name ∷ more ∷ rest) = no_words _ (λ other is. cc)
+named_comes words = named_by words (names_of words) (is_solve words) refl refl
 
-held_by : (files : Files) (name bytes : List ℕ) (b : Bool) → files name ≡ Some bytes → nat_lt max_bytes (length bytes) ≡ b → Comes (Held files name)
-held_by files name bytes true e t = (Err TooLong, inr (refl, rw e (is_less t)))
+held_by : (files : Files) (file : ℕ) (name bytes : List ℕ) (b : Bool) → files name ≡ Some bytes → nat_lt max_bytes (length bytes) ≡ b → Comes (Held files file name)
+held_by files file name bytes true e t = (Err (TooLong file), inr (refl, rw e (is_less t)))
   where
     is_less : nat_lt max_bytes (length bytes) ≡ true → max_bytes < length bytes
     is_less h = grind (arith, nat_tests)
-held_by files name bytes false e t = (Ok bytes, (e, is_not t))
+held_by files file name bytes false e t = (Ok bytes, (e, is_not t))
   where
     is_not : nat_lt max_bytes (length bytes) ≡ false → length bytes ≤ max_bytes
     is_not h = grind (arith, nat_tests)
 
-held_at : (files : Files) (name : List ℕ) (o : Option (List ℕ)) → files name ≡ o → Comes (Held files name)
-held_at files name None e = (Err Absent, inl (refl, e))
-held_at files name (Some bytes) e = held_by files name bytes (nat_lt max_bytes (length bytes)) e refl
+held_at : (files : Files) (file : ℕ) (name : List ℕ) (o : Option (List ℕ)) → files name ≡ o → Comes (Held files file name)
+held_at files file name None e = (Err (Absent file), inl (refl, e))
+held_at files file name (Some bytes) e = held_by files file name bytes (nat_lt max_bytes (length bytes)) e refl
 
-refusal_at : (bytes : List ℕ) (fault : ScanFault) → fault ≢ scan.OutOfMemory → Faults bytes fault → Comes (Scanned bytes)
-refusal_at bytes (scan.BadByte at) some f = (Err (BadByte at), (scan.BadByte at, refl, f))
-refusal_at bytes (scan.OpenComment at) some f = (Err (OpenComment at), (scan.OpenComment at, refl, f))
-refusal_at bytes (scan.OpenString at) some f = (Err (OpenString at), (scan.OpenString at, refl, f))
-refusal_at bytes (scan.NumberTooLarge at) some f = (Err (NumberTooLarge at), (scan.NumberTooLarge at, refl, f))
-refusal_at bytes scan.OutOfMemory some f = absurd (some refl)
+refusal_at : (file : ℕ) (bytes : List ℕ) (fault : ScanFault) → fault ≢ scan.OutOfMemory → Faults bytes fault → Comes (Scanned file bytes)
+refusal_at file bytes (scan.BadByte at) some f = (Err (At BadByte file at), (scan.BadByte at, refl, f))
+refusal_at file bytes (scan.OpenComment at) some f = (Err (At OpenComment file at), (scan.OpenComment at, refl, f))
+refusal_at file bytes (scan.OpenString at) some f = (Err (At OpenString file at), (scan.OpenString at, refl, f))
+refusal_at file bytes (scan.NumberTooLarge at) some f = (Err (At NumberTooLarge file at), (scan.NumberTooLarge at, refl, f))
+refusal_at file bytes scan.OutOfMemory some f = absurd (some refl)
 
-scanned_by : (bytes : List ℕ) → ((ts : List Token) × Scans bytes ts) ⊎ ((fault : ScanFault) × (fault ≢ scan.OutOfMemory) × Faults bytes fault) → Comes (Scanned bytes)
-scanned_by bytes (inl s) = (Ok s.0, s.1)
-scanned_by bytes (inr f) = refusal_at bytes f.0 f.1 f.2
+scanned_by : (file : ℕ) (bytes : List ℕ) → ((ts : List Token) × Scans bytes ts) ⊎ ((fault : ScanFault) × (fault ≢ scan.OutOfMemory) × Faults bytes fault) → Comes (Scanned file bytes)
+scanned_by file bytes (inl s) = (Ok (record { list = s.0; end = length bytes }), (s.1, refl))
+scanned_by file bytes (inr f) = refusal_at file bytes f.0 f.1 f.2
 
-parsed_by : (tokens : List Token) (end : ℕ) → ((t : ModelTree) × IsTreeOf t tokens end × (depth_model t ≤ 256)) ⊎ (((at : ℕ) × StopsAt tokens end at) ⊎ ((at : ℕ) × OpensAt 256 tokens at)) → Comes (Parsed tokens end)
-parsed_by tokens end (inl t) = (Ok t.0, (t.1, t.2))
-parsed_by tokens end (inr (inl s)) = (Err (Syntax s.0), inl (s.0, refl, s.1))
-parsed_by tokens end (inr (inr o)) = (Err (TooDeep o.0), inr (o.0, refl, o.1))
+scanned_comes : (file : ℕ) (bytes : List ℕ) → Comes (Scanned file bytes)
+scanned_comes file bytes = scanned_by file bytes (total bytes)
+
+parsed_by : (tokens : Tokens) →
+    ((t : ModelTree) × IsTreeOf t tokens.list tokens.end × (depth_model t ≤ 256)) ⊎ (((at : ℕ) × StopsAt tokens.list tokens.end at) ⊎ ((at : ℕ) × OpensAt 256 tokens.list at)) → Comes (Parsed tokens)
+parsed_by tokens (inl t) = (Ok t.0, (t.1, t.2))
+parsed_by tokens (inr (inl s)) = (Err (At Syntax 0 s.0), inl (s.0, refl, s.1))
+parsed_by tokens (inr (inr o)) = (Err (At TooDeep 0 o.0), inr (o.0, refl, o.1))
+
+data_parsed_by : (file : ℕ) (tokens : Tokens) →
+    ((t : DataFile) × data_files.IsTreeOf t tokens.list tokens.end × (depth_file t ≤ 256))
+    ⊎ (((at : ℕ) × data_files.StopsAt tokens.list tokens.end at × data_files.NoneOpens 256 tokens.list) ⊎ ((at : ℕ) × data_files.OpensAt 256 tokens.list at)) → Comes (DataParsed file tokens)
+data_parsed_by file tokens (inl t) = (Ok t.0, (t.1, t.2))
+data_parsed_by file tokens (inr (inl s)) = (Err (At Syntax file s.0), inl (s.0, refl, s.1, s.2))
+data_parsed_by file tokens (inr (inr o)) = (Err (At TooDeep file o.0), inr (o.0, refl, o.1))
+
+data_parsed_comes : (file : ℕ) (tokens : Tokens) → Comes (DataParsed file tokens)
+data_parsed_comes file tokens = data_parsed_by file tokens (of_data.parse_total tokens.list tokens.end)
 
 typed_by : (tree : ModelTree) (r : Result (List Sort) TypeFault) → model tree ≡ r → Comes (HasTypes tree)
 typed_by tree (Ok kinds) e = (Ok tree, (refl, kinds, e))
-typed_by tree (Err (types.Unknown at)) e = (Err (Unknown at), (types.Unknown at, refl, e))
-typed_by tree (Err (types.Duplicate at)) e = (Err (Duplicate at), (types.Duplicate at, refl, e))
-typed_by tree (Err (types.NotData at)) e = (Err (NotData at), (types.NotData at, refl, e))
-typed_by tree (Err (types.Mismatch at)) e = (Err (Mismatch at), (types.Mismatch at, refl, e))
+typed_by tree (Err (types.Unknown at)) e = (Err (At Unknown 0 at), (types.Unknown at, refl, e))
+typed_by tree (Err (types.Duplicate at)) e = (Err (At Duplicate 0 at), (types.Duplicate at, refl, e))
+typed_by tree (Err (types.NotData at)) e = (Err (At NotData 0 at), (types.NotData at, refl, e))
+typed_by tree (Err (types.Mismatch at)) e = (Err (At Mismatch 0 at), (types.Mismatch at, refl, e))
 typed_by tree (Err types.OutOfMemory) e = absurd (never_memory tree e)
 
 plain_by : (tree : ModelTree) (r : Result PlainModel ℕ) → plain_of tree ≡ r → Comes (Plain tree)
 plain_by tree (Ok m) e = (Ok m, e)
-plain_by tree (Err at) e = (Err (NotYet at), (at, refl, e))
+plain_by tree (Err at) e = (Err (At NotYet 0 at), (at, refl, e))
+
+none_given_by : (files : List DataFile) (model : PlainModel) (o : Option DataItem) → first_item files ≡ o → Comes (NoneGiven files model)
+none_given_by files model None e = (Ok model, (refl, e))
+none_given_by files model (Some item) e = (Err (Given item.name.text), (item, refl, e))
+
+runs_comes : (files : List DataFile) (tree : ModelTree) → Comes (Runs files tree)
+runs_comes files tree = then_comes (Plain tree) _ (plain_by tree (plain_of tree) refl) (λ m. none_given_by files m (first_item files) refl)
+
+understood_comes : (tokens : Tokens) (more : List Tokens) → Comes (Understood tokens more)
+understood_comes tokens more = then_comes (Parsed tokens) _ (parsed_by tokens (parse_total tokens.list tokens.end)) (λ tree.
+    then_comes (Each DataParsed 1 more) _ (each_comes DataParsed data_parsed_comes 1 more) (λ files.
+    then_comes (HasTypes tree) _ (typed_by tree (model tree) refl) (runs_comes files)))
+
+read_comes : (bytes : List ℕ) (more : List (List ℕ)) → Comes (Read bytes more)
+read_comes bytes more = then_comes (Scanned 0 bytes) _ (scanned_comes 0 bytes) (λ tokens.
+    then_comes (Each Scanned 1 more) _ (each_comes Scanned scanned_comes 1 more) (understood_comes tokens))
+
+held_comes : (files : Files) (file : ℕ) (name : List ℕ) → Comes (Held files file name)
+held_comes files file name = held_at files file name (files name) refl
+
+loaded_comes : (files : Files) (names : List ℕ × List (List ℕ)) → Comes (Loaded files names)
+loaded_comes files names = then_comes (Held files 0 names.0) _ (held_comes files 0 names.0) (λ bytes.
+    then_comes (Each (Held files) 1 names.1) _ (each_comes (Held files) (held_comes files) 1 names.1) (read_comes bytes))
 
 resolved_by : (model : PlainModel) (o : Option Refusal) → model_fault model ≡ o → Comes (Resolved model)
 resolved_by model None e = (Ok model, (refl, e))
 resolved_by model (Some refusal) e = (Err refusal, e)
 
 judged_comes : (words : List (List ℕ)) (files : Files) → Comes (Judged words files)
-judged_comes words files =
-    then_comes (Fetched words files) Resolved
-    (then_comes (Named words) _ (named_comes words) (λ name. then_comes (Held files name) _ (held_at files name (files name) refl)
-    (λ bytes. then_comes (Scanned bytes) _ (scanned_by bytes (total bytes)) (λ tokens. then_comes (Parsed tokens (length bytes)) _ (parsed_by tokens (length bytes) (parse_total tokens (length bytes)))
-    (λ tree. then_comes (HasTypes tree) Plain (typed_by tree (model tree) refl) (λ t. plain_by t (plain_of t) refl))))))
-    (λ model. resolved_by model (model_fault model) refl)
+judged_comes words files = then_comes (Fetched words files) Resolved (then_comes (Named words) (Loaded files) (named_comes words) (loaded_comes files))
+    (λ m. resolved_by m (model_fault m) refl)
 
 pub one_outcome : OneOutcome
 one_outcome words files =

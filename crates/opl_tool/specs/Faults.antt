@@ -9,7 +9,8 @@ use Rattle.opl_plain.specs.declared.model.Operand.TheVariants.{Variable, Number}
 use Rattle.opl_plain.specs.declared.model.PlainModel.{PlainModel}
 use Rattle.opl_plain.specs.declared.model.PlainVariable.{PlainVariable}
 use Rattle.opl_tool.specs.declared.refusal.Refusal.{Refusal}
-use Rattle.opl_tool.specs.declared.refusal.Refusal.TheVariants.{Duplicate, Unknown}
+use Rattle.opl_tool.specs.declared.refusal.Fault.TheVariants.{Duplicate, Unknown}
+use Rattle.opl_tool.specs.declared.refusal.Refusal.TheVariants.{At}
 use Rattle.opl_tool.specs.Meaning.{variables}
 
 -- the first of two that is there
@@ -34,11 +35,11 @@ number_of vs name = number_from 0 vs name
 -- the first variable whose name one of the variables `seen`, or an earlier one, has
 abbrev pub first_twice : (seen : List PlainVariable) → List PlainVariable → Option Refusal
 first_twice seen [] = None
-first_twice seen (v ∷ vs) = if is_some (number_of seen v.name.text) then Some (Duplicate v.name.at) else first_twice (seen ++ v ∷ []) vs
+first_twice seen (v ∷ vs) = if is_some (number_of seen v.name.text) then Some (At Duplicate 0 v.name.at) else first_twice (seen ++ v ∷ []) vs
 
 -- a refusal at a name that no variable has
 abbrev pub unknown_name : List PlainVariable → Operand → Option Refusal
-unknown_name vs (Variable n) = if is_some (number_of vs n.text) then None else Some (Unknown n.at)
+unknown_name vs (Variable n) = if is_some (number_of vs n.text) then None else Some (At Unknown 0 n.at)
 unknown_name vs (Number n) = None
 
 -- the first name of a comparison that no variable has

@@ -55,5 +55,5 @@ abbrev pub Shows : Option (List ℕ) → Option (List ℕ) → List ℕ → Answ
 Shows old new text result = Becomes old new (ShownBy result text)
 
 -- the sink has gained a front of one of the lines that a call may tell
-abbrev pub GainsLineFront : List ℕ → List ℕ → List ℕ → Type 0
-GainsLineFront file before now = (stop : Stop) × GainsFront before now (stop_text stop file)
+abbrev pub GainsLineFront : List (List ℕ) → List ℕ → List ℕ → Type 0
+GainsLineFront words before now = (stop : Stop) × GainsFront before now (stop_text stop words)

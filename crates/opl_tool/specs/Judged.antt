@@ -1,70 +1,85 @@
 -- What the words and files of a call come to: the model that is solved, or the first refusal.
-use Rattle.std.specs.Prelude.{◌≡◌, ◌⊎◌, ◌<◌, ◌≤◌, ℕ, List, [], ◌∷◌, length, codes, Option, Some, None, Ok, Err, IsSomeAnd, Result}
+use Rattle.std.specs.Prelude.{◌≡◌, ◌⊎◌, ◌<◌, ◌≤◌, ℕ, true, false, List, [], ◌∷◌, length, Option, Some, None, Ok, Err, IsSomeAnd, Result}
 use Rattle.opl_outside.specs.Files.{Files, max_bytes}
 use Rattle.opl_token.specs.declared.fault.ScanFault.{ScanFault}
 use Rattle.opl_token.specs.declared.fault.ScanFault.TheVariants as scan
-use Rattle.opl_token.specs.declared.token.Token.{Token}
 use Rattle.opl_token.specs.Scan.{Scans, Faults}
 use Rattle.opl_plain.specs.declared.model.PlainModel.{PlainModel}
 use Rattle.opl_tree.specs.declared.model.ModelTree.{ModelTree}
 use Rattle.opl_tree.specs.Depth.{depth_model}
 use Rattle.opl_tree.specs.Reading.{IsTreeOf, StopsAt, OpensAt}
+use Rattle.opl_data.specs.declared.tree.DataFile.{DataFile}
+use Rattle.opl_data.specs.declared.tree.DataItem.{DataItem}
+use Rattle.opl_data.specs.Depth.{depth_file}
+use Rattle.opl_data.specs.Reading as of_data
 use Rattle.opl_plain.specs.Plain.{plain_of}
 use Rattle.opl_types.specs.Models.{model}
 use Rattle.opl_types.specs.declared.fault.TypeFault.{TypeFault}
 use Rattle.opl_types.specs.declared.fault.TypeFault.TheVariants as types
 use Rattle.opl_types.specs.Types.{Sort}
 use Rattle.opl_types.specs.declared.typed.Typed.{Typed}
+use Rattle.opl_tool.specs.declared.refusal.Fault.TheVariants.{BadByte, OpenComment, OpenString, NumberTooLarge, Syntax, TooDeep, Unknown, Duplicate, NotData, Mismatch, NotYet}
 use Rattle.opl_tool.specs.declared.refusal.Refusal.{Refusal}
-use Rattle.opl_tool.specs.declared.refusal.Refusal.TheVariants.{Words, Absent, TooLong, BadByte, OpenComment, OpenString, NumberTooLarge, Syntax, TooDeep, NotYet}
-use Rattle.opl_tool.specs.declared.refusal.Refusal.TheVariants as refusals
+use Rattle.opl_tool.specs.declared.refusal.Refusal.TheVariants.{Words, Absent, TooLong, At, Given}
+use Rattle.opl_tool.specs.declared.scanning.Tokens.{Tokens}
 use Rattle.opl_tool.specs.declared.stop.Stop.{Stop}
 use Rattle.opl_tool.specs.Faults.{model_fault}
-use Rattle.opl_tool.specs.Stage.{Stage, Then}
+use Rattle.opl_tool.specs.Items.{first_item}
+use Rattle.opl_tool.specs.Stage.{Stage, Then, Each}
+use Rattle.opl_tool.specs.Words.{is_solve, names_of}
 
--- the words are `solve` and one name
-abbrev pub IsSolve : List (List ℕ) → List ℕ → Type 0
-IsSolve words name = words ≡ codes "solve" ∷ name ∷ []
+-- the name of the model's file, and those of the data files
+abbrev pub Named : List (List ℕ) → Stage (List ℕ × List (List ℕ))
+Named words (Ok names) = (is_solve words ≡ true) × (names_of words ≡ names.0 ∷ names.1)
+Named words (Err e) = (e ≡ Words) × ((is_solve words ≡ false) ⊎ (names_of words ≡ []))
 
--- the name of the model's file
-abbrev pub Named : List (List ℕ) → Stage (List ℕ)
-Named words (Ok name) = IsSolve words name
-Named words (Err e) = (e ≡ Words) × ((name : List ℕ) → IsSolve words name → ⊥)
-
--- the bytes of the file
-abbrev pub Held : Files → List ℕ → Stage (List ℕ)
-Held files name (Ok bytes) = (files name ≡ Some bytes) × (length bytes ≤ max_bytes)
-Held files name (Err e) =
-    ((e ≡ Absent) × (files name ≡ None)) ⊎ ((e ≡ TooLong) × IsSomeAnd (files name) (λ bytes. max_bytes < length bytes))
+-- the bytes of the file of this name
+abbrev pub Held : Files → (file : ℕ) → List ℕ → Stage (List ℕ)
+Held files file name (Ok bytes) = (files name ≡ Some bytes) × (length bytes ≤ max_bytes)
+Held files file name (Err e) =
+    ((e ≡ Absent file) × (files name ≡ None)) ⊎ ((e ≡ TooLong file) × IsSomeAnd (files name) (λ bytes. max_bytes < length bytes))
 
 -- the refusal at a fault of the scan; want of memory is none
-abbrev pub refusal_of_scan : ScanFault → Option Refusal
-refusal_of_scan (scan.BadByte at) = Some (BadByte at)
-refusal_of_scan (scan.OpenComment at) = Some (OpenComment at)
-refusal_of_scan (scan.OpenString at) = Some (OpenString at)
-refusal_of_scan (scan.NumberTooLarge at) = Some (NumberTooLarge at)
-refusal_of_scan scan.OutOfMemory = None
+abbrev pub refusal_of_scan : (file : ℕ) → ScanFault → Option Refusal
+refusal_of_scan file (scan.BadByte at) = Some (At BadByte file at)
+refusal_of_scan file (scan.OpenComment at) = Some (At OpenComment file at)
+refusal_of_scan file (scan.OpenString at) = Some (At OpenString file at)
+refusal_of_scan file (scan.NumberTooLarge at) = Some (At NumberTooLarge file at)
+refusal_of_scan file scan.OutOfMemory = None
 
--- the tokens of the file
-abbrev pub Scanned : List ℕ → Stage (List Token)
-Scanned bytes (Ok tokens) = Scans bytes tokens
-Scanned bytes (Err e) = (fault : ScanFault) × (refusal_of_scan fault ≡ Some e) × Faults bytes fault
+-- the tokens of a file
+abbrev pub Scanned : (file : ℕ) → List ℕ → Stage Tokens
+Scanned file bytes (Ok tokens) = Scans bytes tokens.list × (tokens.end ≡ length bytes)
+Scanned file bytes (Err e) = (fault : ScanFault) × (refusal_of_scan file fault ≡ Some e) × Faults bytes fault
 
--- where the tokens of a file with `end` bytes stop being the beginning of a model, or open a level of nesting too many
-abbrev pub IsSyntaxFault : List Token → (end : ℕ) → Refusal → Type 0
-IsSyntaxFault tokens end e = ((at : ℕ) × (e ≡ Syntax at) × StopsAt tokens end at) ⊎ ((at : ℕ) × (e ≡ TooDeep at) × OpensAt 256 tokens at)
+-- where the tokens of a model's file stop being the beginning of a model, or open a level of nesting too many
+abbrev pub IsSyntaxFault : Tokens → Refusal → Type 0
+IsSyntaxFault tokens e =
+    ((at : ℕ) × (e ≡ At Syntax 0 at) × StopsAt tokens.list tokens.end at) ⊎ ((at : ℕ) × (e ≡ At TooDeep 0 at) × OpensAt 256 tokens.list at)
 
--- the tree of the tokens, which nests at most 256 levels
-abbrev pub Parsed : List Token → (end : ℕ) → Stage ModelTree
-Parsed tokens end (Ok tree) = IsTreeOf tree tokens end × (depth_model tree ≤ 256)
-Parsed tokens end (Err e) = IsSyntaxFault tokens end e
+-- the tree of the model's tokens, which nests at most 256 levels
+abbrev pub Parsed : Tokens → Stage ModelTree
+Parsed tokens (Ok tree) = IsTreeOf tree tokens.list tokens.end × (depth_model tree ≤ 256)
+Parsed tokens (Err e) = IsSyntaxFault tokens e
+
+-- where the tokens of a data file stop being the beginning of one, while none opens a level of nesting too many; or the
+-- first that opens one
+abbrev pub IsDataFault : (file : ℕ) → Tokens → Refusal → Type 0
+IsDataFault file tokens e =
+    ((at : ℕ) × (e ≡ At Syntax file at) × of_data.StopsAt tokens.list tokens.end at × of_data.NoneOpens 256 tokens.list)
+    ⊎ ((at : ℕ) × (e ≡ At TooDeep file at) × of_data.OpensAt 256 tokens.list at)
+
+-- the tree of a data file's tokens, which nests at most 256 levels
+abbrev pub DataParsed : (file : ℕ) → Tokens → Stage DataFile
+DataParsed file tokens (Ok tree) = of_data.IsTreeOf tree tokens.list tokens.end × (depth_file tree ≤ 256)
+DataParsed file tokens (Err e) = IsDataFault file tokens e
 
 -- the refusal at a fault of typing; want of memory is none
 abbrev pub refusal_of_type : TypeFault → Option Refusal
-refusal_of_type (types.Unknown at) = Some (refusals.Unknown at)
-refusal_of_type (types.Duplicate at) = Some (refusals.Duplicate at)
-refusal_of_type (types.NotData at) = Some (refusals.NotData at)
-refusal_of_type (types.Mismatch at) = Some (refusals.Mismatch at)
+refusal_of_type (types.Unknown at) = Some (At Unknown 0 at)
+refusal_of_type (types.Duplicate at) = Some (At Duplicate 0 at)
+refusal_of_type (types.NotData at) = Some (At NotData 0 at)
+refusal_of_type (types.Mismatch at) = Some (At Mismatch 0 at)
 refusal_of_type types.OutOfMemory = None
 
 -- the tree itself, where its expressions have types; else the first fault of typing
@@ -80,24 +95,37 @@ tree_of (Err stop) = Err stop
 -- the plain form of the tree, where all of it runs today
 abbrev pub Plain : ModelTree → Stage PlainModel
 Plain tree (Ok m) = plain_of tree ≡ Ok m
-Plain tree (Err e) = (at : ℕ) × (e ≡ NotYet at) × (plain_of tree ≡ Err at)
+Plain tree (Err e) = (at : ℕ) × (e ≡ At NotYet 0 at) × (plain_of tree ≡ Err at)
+
+-- the model itself, where the data files give nothing: a model that runs today asks for nothing
+abbrev pub NoneGiven : List DataFile → PlainModel → Stage PlainModel
+NoneGiven files model (Ok m) = (m ≡ model) × (first_item files ≡ None)
+NoneGiven files model (Err e) = (item : DataItem) × (e ≡ Given item.name.text) × (first_item files ≡ Some item)
 
 -- the model itself, where nothing in it is refused
 abbrev pub Resolved : PlainModel → Stage PlainModel
 Resolved model (Ok m) = (m ≡ model) × (model_fault model ≡ None)
 Resolved model (Err e) = model_fault model ≡ Some e
 
--- the model of the tokens of a file with `end` bytes
-abbrev pub Understood : List Token → (end : ℕ) → Stage PlainModel
-Understood tokens end = Then (Parsed tokens end) (λ tree. Then (HasTypes tree) Plain)
+-- the model of a typed tree: what does not run yet comes first, then the data
+abbrev pub Runs : List DataFile → ModelTree → Stage PlainModel
+Runs files tree = Then (Plain tree) (NoneGiven files)
 
--- the model of a file
-abbrev pub Read : List ℕ → Stage PlainModel
-Read bytes = Then (Scanned bytes) (λ tokens. Understood tokens (length bytes))
+-- the model of the tokens of its file and of the data files: the syntax of each comes first, then the types
+abbrev pub Understood : Tokens → List Tokens → Stage PlainModel
+Understood tokens more = Then (Parsed tokens) (λ tree. Then (Each DataParsed 1 more) (λ files. Then (HasTypes tree) (Runs files)))
 
--- the model of the model's file: the words come first, then the file, its scan, its syntax, its types and what does not run yet
+-- the model of the bytes of its file and of the data files: the scan of each comes first
+abbrev pub Read : List ℕ → List (List ℕ) → Stage PlainModel
+Read bytes more = Then (Scanned 0 bytes) (λ tokens. Then (Each Scanned 1 more) (Understood tokens))
+
+-- the model of the files of these names: the reading of each comes first
+abbrev pub Loaded : Files → List ℕ × List (List ℕ) → Stage PlainModel
+Loaded files names = Then (Held files 0 names.0) (λ bytes. Then (Each (Held files) 1 names.1) (Read bytes))
+
+-- the model of the words and the files: the words come first
 abbrev pub Fetched : List (List ℕ) → Files → Stage PlainModel
-Fetched words files = Then (Named words) (λ name. Then (Held files name) Read)
+Fetched words files = Then (Named words) (Loaded files)
 
 -- the model of a call
 abbrev pub Judged : List (List ℕ) → Files → Stage PlainModel

@@ -1,8 +1,9 @@
 -- What the list of solutions is, in other words: which assignments stand in it, and in which order.
-use Rattle.std.specs.Prelude.{◌≡◌, ◌⊎◌, ◌↔◌, ℕ, true, List, [], ◌∷◌, ℤ, ◌≤ℤ◌, ◌<ℤ◌, Result, Err}
+use Rattle.std.specs.Prelude.{◌≡◌, ◌⊎◌, ◌↔◌, ℕ, zero, true, List, [], ◌∷◌, ℤ, ◌≤ℤ◌, ◌<ℤ◌, Result, Err}
 use Rattle.opl_outside.specs.Files.{Files}
+use Rattle.opl_tool.specs.declared.refusal.Fault.TheVariants.{Syntax, TooDeep}
 use Rattle.opl_tool.specs.declared.refusal.Refusal.{Refusal}
-use Rattle.opl_tool.specs.declared.refusal.Refusal.TheVariants.{Syntax, TooDeep}
+use Rattle.opl_tool.specs.declared.refusal.Refusal.TheVariants.{At}
 use Rattle.opl_tool.specs.Judged.{Judged}
 use Rattle.std.specs.List.{AllPairs}
 use Rattle.opl_plain.specs.declared.model.PlainModel.{PlainModel}
@@ -35,11 +36,11 @@ SolutionsAre = (m : PlainModel) (values : List ℤ) → IsAmong values (solution
 abbrev pub InOrder : Type 0
 InOrder = (m : PlainModel) → AllPairs Precedes (solutions m)
 
--- two refusals, one of which at least is at a level too many, and the other then at the syntax or at such a level
+-- two refusals of the model's file, one of which at least is at a level too many, and the other then at the syntax or at such a level
 abbrev pub MayDiffer : Refusal → Refusal → Type 0
-MayDiffer (Syntax at) (TooDeep other) = Unit {0}
-MayDiffer (TooDeep at) (Syntax other) = Unit {0}
-MayDiffer (TooDeep at) (TooDeep other) = Unit {0}
+MayDiffer (At Syntax zero at) (At TooDeep zero other) = Unit {0}
+MayDiffer (At TooDeep zero at) (At Syntax zero other) = Unit {0}
+MayDiffer (At TooDeep zero at) (At TooDeep zero other) = Unit {0}
 MayDiffer _ _ = ⊥
 
 -- both outcomes are such refusals
@@ -47,7 +48,7 @@ abbrev pub AreSyntax : {A : Type 0} → Result A Refusal → Result A Refusal �
 AreSyntax (Err e) (Err f) = MayDiffer e f
 AreSyntax _ _ = ⊥
 
--- The outcomes are the same; but where tokens both stop being the beginning of a model and open a level too many, it is
+-- The outcomes are the same; but where the model's tokens both stop being the beginning of a model and open a level too many, it is
 -- left open which of the two is told.
 abbrev pub SameOutcome : {A : Type 0} → Result A Refusal → Result A Refusal → Type 0
 SameOutcome r s = (r ≡ s) ⊎ AreSyntax r s

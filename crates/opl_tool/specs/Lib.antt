@@ -2,6 +2,7 @@ pub mod Constraints
 pub mod Ends
 pub mod Faults
 pub mod Headline
+pub mod Items
 pub mod Judged
 pub mod Laws
 pub mod Lines
@@ -14,3 +15,4 @@ pub mod Resolve
 pub mod Stage
 pub mod Start
 pub mod Text
+pub mod Words

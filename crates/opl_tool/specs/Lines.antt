@@ -1,52 +1,54 @@
 -- The line that a call puts on the sink of errors.
-use Rattle.std.specs.Prelude.{◌≡◌, ◌⊎◌, ℕ, List, [], ◌∷◌, ◌++◌, codes, decimal, Option}
+use Rattle.std.specs.Prelude.{◌≡◌, ◌⊎◌, ℕ, List, ◌++◌, codes, decimal, Option}
 use Rattle.opl_outside.specs.Becomes.{Becomes}
 use Rattle.opl_outside.specs.Counts.{Rose}
 use Rattle.opl_tool.specs.declared.answer.Answer.{Answer}
 use Rattle.opl_tool.specs.declared.answer.Answer.TheVariants as answer
+use Rattle.opl_tool.specs.declared.refusal.Fault.{Fault}
+use Rattle.opl_tool.specs.declared.refusal.Fault.TheVariants.{BadByte, OpenComment, OpenString, NumberTooLarge, Syntax, TooDeep, Unknown, Duplicate, NotData, Mismatch, NotYet}
 use Rattle.opl_tool.specs.declared.refusal.Refusal.{Refusal}
-use Rattle.opl_tool.specs.declared.refusal.Refusal.TheVariants.{Words, Absent, TooLong, BadByte, OpenComment, OpenString, NumberTooLarge, Syntax, TooDeep, Unknown, Duplicate, NotData, Mismatch, NotYet}
+use Rattle.opl_tool.specs.declared.refusal.Refusal.TheVariants.{Words, Absent, TooLong, At, Given}
 use Rattle.opl_tool.specs.declared.stop.Stop.{Stop}
 use Rattle.opl_tool.specs.declared.stop.Stop.TheVariants.{Refused, ReadFault, WriteFault, OutOfMemory}
 use Rattle.opl_tool.specs.Printing.{GainsFront}
+use Rattle.opl_tool.specs.Words.{file_in}
 
--- the file's name, as the words give it
-abbrev pub file_in : List (List ℕ) → List ℕ
-file_in [] = []
-file_in (command ∷ []) = []
-file_in (command ∷ file ∷ rest) = file
-
--- refused: KIND FILE
+-- refused: KIND NAME
 abbrev pub named_text : List ℕ → List ℕ → List ℕ
-named_text kind file = codes "refused: " ++ kind ++ codes " " ++ file ++ codes "\n"
+named_text kind name = codes "refused: " ++ kind ++ codes " " ++ name ++ codes "\n"
 
 -- refused: KIND FILE AT
 abbrev pub placed_text : List ℕ → List ℕ → ℕ → List ℕ
 placed_text kind file at = codes "refused: " ++ kind ++ codes " " ++ file ++ codes " " ++ decimal at ++ codes "\n"
 
--- the line of a refusal
-abbrev pub refusal_text : Refusal → List ℕ → List ℕ
-refusal_text Words file = codes "refused: Words\n"
-refusal_text Absent file = named_text (codes "Absent") file
-refusal_text TooLong file = named_text (codes "TooLong") file
-refusal_text (BadByte at) file = placed_text (codes "BadByte") file at
-refusal_text (OpenComment at) file = placed_text (codes "OpenComment") file at
-refusal_text (OpenString at) file = placed_text (codes "OpenString") file at
-refusal_text (NumberTooLarge at) file = placed_text (codes "NumberTooLarge") file at
-refusal_text (Syntax at) file = placed_text (codes "Syntax") file at
-refusal_text (TooDeep at) file = placed_text (codes "TooDeep") file at
-refusal_text (Unknown at) file = placed_text (codes "Unknown") file at
-refusal_text (Duplicate at) file = placed_text (codes "Duplicate") file at
-refusal_text (NotData at) file = placed_text (codes "NotData") file at
-refusal_text (Mismatch at) file = placed_text (codes "Mismatch") file at
-refusal_text (NotYet at) file = placed_text (codes "NotYet") file at
+-- the word for a fault
+abbrev pub word_of : Fault → List ℕ
+word_of BadByte = codes "BadByte"
+word_of OpenComment = codes "OpenComment"
+word_of OpenString = codes "OpenString"
+word_of NumberTooLarge = codes "NumberTooLarge"
+word_of Syntax = codes "Syntax"
+word_of TooDeep = codes "TooDeep"
+word_of Unknown = codes "Unknown"
+word_of Duplicate = codes "Duplicate"
+word_of NotData = codes "NotData"
+word_of Mismatch = codes "Mismatch"
+word_of NotYet = codes "NotYet"
+
+-- the line of a refusal of a call with these words, which names a file as they do, and an item of data by its name
+abbrev pub refusal_text : Refusal → (words : List (List ℕ)) → List ℕ
+refusal_text Words words = codes "refused: Words\n"
+refusal_text (Absent file) words = named_text (codes "Absent") (file_in words file)
+refusal_text (TooLong file) words = named_text (codes "TooLong") (file_in words file)
+refusal_text (At fault file at) words = placed_text (word_of fault) (file_in words file) at
+refusal_text (Given name) words = named_text (codes "Given") name
 
 -- the line of a call that ends before its whole text is printed
-abbrev pub stop_text : Stop → List ℕ → List ℕ
-stop_text (Refused refusal) file = refusal_text refusal file
-stop_text ReadFault file = codes "fault: read\n"
-stop_text WriteFault file = codes "fault: write\n"
-stop_text OutOfMemory file = codes "out of memory\n"
+abbrev pub stop_text : Stop → (words : List (List ℕ)) → List ℕ
+stop_text (Refused refusal) words = refusal_text refusal words
+stop_text ReadFault words = codes "fault: read\n"
+stop_text WriteFault words = codes "fault: write\n"
+stop_text OutOfMemory words = codes "out of memory\n"
 
 -- the answer of such a call
 abbrev pub answer_of : Stop → Answer

@@ -9,8 +9,9 @@ use Rattle.opl_tool.specs.declared.constraint.Operand.{Operand}
 use Rattle.opl_tool.specs.declared.constraint.Operand.TheVariants as operand
 use Rattle.opl_tool.specs.declared.constraint.Constraint.{Constraint}
 use Rattle.opl_tool.specs.declared.constraint.Formula.{Formula}
+use Rattle.opl_tool.specs.declared.refusal.Fault.TheVariants.{Unknown}
 use Rattle.opl_tool.specs.declared.refusal.Refusal.{Refusal}
-use Rattle.opl_tool.specs.declared.refusal.Refusal.TheVariants.{Unknown}
+use Rattle.opl_tool.specs.declared.refusal.Refusal.TheVariants.{At}
 use Rattle.opl_tool.specs.declared.stop.Stop.{Stop}
 use Rattle.opl_tool.specs.declared.stop.Stop.TheVariants.{Refused, ReadFault, WriteFault, OutOfMemory}
 use Rattle.opl_tool.specs.Constraints.{formula_holds}
@@ -25,7 +26,7 @@ and_then (Err r) f = Err r
 -- the variable of this number, or a refusal at the name
 abbrev pub found_variable : Option ℕ → ℕ → Result Operand Refusal
 found_variable (Some x) at = Ok (operand.Variable x)
-found_variable None at = Err (Unknown at)
+found_variable None at = Err (At Unknown 0 at)
 
 -- an operand, where `number` gives the number of a variable by its name
 abbrev pub found_operand : (number : List ℕ → Option ℕ) → NamedOperand → Result Operand Refusal

@@ -4,7 +4,7 @@ ghost use Rattle.opl_outside.specs.Becomes.{Becomes};
 ghost use Rattle.opl_outside.specs.Counts.{Rose};
 ghost use Rattle.opl_tool.specs.Headline.{Answers, IsRefused, HasSolution, HasNone, Exactly, Shows, GainsLineFront};
 ghost use Rattle.opl_tool.specs.Judged.{Judged};
-ghost use Rattle.opl_tool.specs.Lines.{file_in, refusal_text, stop_text, Tells};
+ghost use Rattle.opl_tool.specs.Lines.{refusal_text, stop_text, Tells};
 ghost use Rattle.opl_tool.specs.Text.{text_of};
 ghost use Rattle.opl_plain.specs.declared.model.PlainModel.{PlainModel};
 ghost use Rattle.opl_tool.specs.declared.refusal.Refusal.{Refusal};
@@ -21,7 +21,7 @@ fn finish<E: Sink>(alloc: Global, err: &mut E, words: &[String], ended: Result<u
     ensures answers { Answers ended result }
     ensures ok { OnOk ended (err.new ≡ err.old) }
     ensures err { let given = map (λ word. string_bytes word) words.now in
-        IfErr ended (λ stop. Tells (E.written err.old) (E.written err.new) (E.faults err.old) (E.faults err.new) (stop_text stop (file_in given)) result) }
+        IfErr ended (λ stop. Tells (E.written err.old) (E.written err.new) (E.faults err.old) (E.faults err.new) (stop_text stop given) result) }
 {
     match ended {
         Ok(0) => Answer::NoSolution,
@@ -32,9 +32,10 @@ fn finish<E: Sink>(alloc: Global, err: &mut E, words: &[String], ended: Result<u
 
 /// Carries out the call of the program with these words, its name not among them.
 ///
-/// `solve MODEL` reads the model of that name from the shelf and puts its solutions on `out`, each once and in
-/// lexicographic order, one piece a solution, and then the closing lines as one piece. Every other call is refused. The
-/// line of a refusal, of a fault or of want of memory is put on `err` as one piece.
+/// `solve MODEL DATA..` reads the files of these names from the shelf, any number of data files among them, and puts the
+/// solutions of the model on `out`, each once and in lexicographic order, one piece a solution, and then the closing lines
+/// as one piece. Every other call is refused. The line of a refusal, of a fault or of want of memory is put on `err` as one
+/// piece.
 pub fn run<F: Shelf, O: Sink, E: Sink>(
     alloc: Global,
     words: &[String],
@@ -59,7 +60,7 @@ pub fn run<F: Shelf, O: Sink, E: Sink>(
         O.written out.new ≡ O.written out.old) }
     ensures line { let given = map (λ word. string_bytes word) words.now in
         IfSome (F.files shelf.old) (λ files. result ≡ Answer.Refused → (refusal : Refusal) × Judged given files (Err refusal) ×
-        Tells (E.written err.old) (E.written err.new) (E.faults err.old) (E.faults err.new) (refusal_text refusal (file_in given)) result) }
+        Tells (E.written err.old) (E.written err.new) (E.faults err.old) (E.faults err.new) (refusal_text refusal given) result) }
 
     // The causes of the other answers, and their lines.
     ensures read { result ≡ Answer.ReadFault → Rose (F.read_faults shelf.old) (F.read_faults shelf.new) }
@@ -70,11 +71,11 @@ pub fn run<F: Shelf, O: Sink, E: Sink>(
     ensures known { (result ≡ Answer.Done) ⊎ (result ≡ Answer.NoSolution) ⊎ (result ≡ Answer.Refused) ⊎ (result ≡ Answer.ReadFault)
         ⊎ (result ≡ Answer.WriteFault) ⊎ (result ≡ Answer.OutOfMemory) }
     ensures read_line { let given = map (λ word. string_bytes word) words.now in result ≡ Answer.ReadFault →
-        Tells (E.written err.old) (E.written err.new) (E.faults err.old) (E.faults err.new) (stop_text Stop.ReadFault (file_in given)) result }
+        Tells (E.written err.old) (E.written err.new) (E.faults err.old) (E.faults err.new) (stop_text Stop.ReadFault given) result }
     ensures write_line { let given = map (λ word. string_bytes word) words.now in result ≡ Answer.WriteFault →
-        Tells (E.written err.old) (E.written err.new) (E.faults err.old) (E.faults err.new) (stop_text Stop.WriteFault (file_in given)) result }
+        Tells (E.written err.old) (E.written err.new) (E.faults err.old) (E.faults err.new) (stop_text Stop.WriteFault given) result }
     ensures memory_line { let given = map (λ word. string_bytes word) words.now in result ≡ Answer.OutOfMemory →
-        Becomes (E.written err.old) (E.written err.new) (GainsLineFront (file_in given)) }
+        Becomes (E.written err.old) (E.written err.new) (GainsLineFront given) }
     ensures no_line { (result ≡ Answer.Done) ⊎ (result ≡ Answer.NoSolution) → err.new ≡ err.old }
 {
     let ended = carry_out(alloc, words, shelf, out);

@@ -1,42 +1,43 @@
 //! The line that a call puts on the sink of errors.
-ghost use Rattle.std.specs.Prelude.{◌≡◌, ◌⊎◌, map, string_bytes, IfOk};
-ghost use Rattle.opl_tool.specs.Lines.{file_in as the_file_in, named_text, placed_text, refusal_text, stop_text, answer_of as the_answer_of, Tells};
+ghost use Rattle.std.specs.Prelude.{◌≡◌, ◌⊎◌, [], get_or, map, string_bytes, IfOk};
+ghost use Rattle.opl_tool.specs.Lines.{named_text, placed_text, word_of as the_word, refusal_text, stop_text, answer_of as the_answer_of, Tells};
 
 use crate::answer::Answer;
-use crate::refusal::Refusal;
+use crate::refusal::{Fault, Refusal};
 use crate::stop::Stop;
+use crate::words::names_of;
 use itoa::Buffer;
 use opl_outside::{OutsideError, Sink};
 use std::alloc::{AllocError, Global};
 
-/// The file's name, as the words give it.
-fn file_in(words: &[String]) -> &[u8]
-    ensures { result.now ≡ the_file_in (map (λ word. string_bytes word) words.now) }
+/// The name of the file with this number, among the names of all.
+fn name_at(names: &[String], file: usize) -> &[u8]
+    ensures { result.now ≡ get_or (map (λ name. string_bytes name) names.now) file [] }
 {
-    match words {
-        [_, file, ..] => file.as_bytes(),
-        _ => b"",
+    match names.get(file) {
+        Some(name) => name.as_bytes(),
+        None => b"",
     }
 }
 
-/// The line of a refusal of a whole file.
-fn named_line(alloc: Global, kind: &[u8], file: &[u8]) -> Result<Vec<u8>, AllocError>
-    ensures { IfOk result (λ line. line.items ≡ named_text kind.now file.now) }
+/// The line of a refusal that names a file or an item.
+fn named_line(alloc: Global, kind: &str, name: &[u8]) -> Result<Vec<u8>, AllocError>
+    ensures { IfOk result (λ line. line.items ≡ named_text kind.now name.now) }
 {
     let mut line = Vec::from_slice(alloc, b"refused: ")?;
-    line.extend_from_slice(kind)?;
+    line.extend_from_slice(kind.as_bytes())?;
     line.extend_from_slice(b" ")?;
-    line.extend_from_slice(file)?;
+    line.extend_from_slice(name)?;
     line.extend_from_slice(b"\n")?;
     Ok(line)
 }
 
 /// The line of a refusal at a place in a file.
-fn placed_line(alloc: Global, kind: &[u8], file: &[u8], at: u32) -> Result<Vec<u8>, AllocError>
+fn placed_line(alloc: Global, kind: &str, file: &[u8], at: u32) -> Result<Vec<u8>, AllocError>
     ensures { IfOk result (λ line. line.items ≡ placed_text kind.now file.now at) }
 {
     let mut line = Vec::from_slice(alloc, b"refused: ")?;
-    line.extend_from_slice(kind)?;
+    line.extend_from_slice(kind.as_bytes())?;
     line.extend_from_slice(b" ")?;
     line.extend_from_slice(file)?;
     line.extend_from_slice(b" ")?;
@@ -45,31 +46,45 @@ fn placed_line(alloc: Global, kind: &[u8], file: &[u8], at: u32) -> Result<Vec<u
     Ok(line)
 }
 
-/// The line of a refusal.
-fn refusal_line(alloc: Global, refusal: Refusal, file: &[u8]) -> Result<Vec<u8>, AllocError>
-    ensures { IfOk result (λ line. line.items ≡ refusal_text refusal file.now) }
+/// The word for a fault.
+fn word_of(fault: Fault) -> &'static str
+    ensures { result.now ≡ the_word fault }
 {
+    match fault {
+        Fault::BadByte => "BadByte",
+        Fault::OpenComment => "OpenComment",
+        Fault::OpenString => "OpenString",
+        Fault::NumberTooLarge => "NumberTooLarge",
+        Fault::Syntax => "Syntax",
+        Fault::TooDeep => "TooDeep",
+        Fault::Unknown => "Unknown",
+        Fault::Duplicate => "Duplicate",
+        Fault::NotData => "NotData",
+        Fault::Mismatch => "Mismatch",
+        Fault::NotYet => "NotYet",
+    }
+}
+
+/// The line of a refusal of a call with these words.
+fn refusal_line(alloc: Global, refusal: &Refusal, words: &[String]) -> Result<Vec<u8>, AllocError>
+    ensures { IfOk result (λ line. line.items ≡ refusal_text refusal.now (map (λ word. string_bytes word) words.now)) }
+{
+    let names = names_of(alloc, words)?;
     match refusal {
         Refusal::Words => Vec::from_slice(alloc, b"refused: Words\n"),
-        Refusal::Absent => named_line(alloc, b"Absent", file),
-        Refusal::TooLong => named_line(alloc, b"TooLong", file),
-        Refusal::BadByte(at) => placed_line(alloc, b"BadByte", file, at),
-        Refusal::OpenComment(at) => placed_line(alloc, b"OpenComment", file, at),
-        Refusal::OpenString(at) => placed_line(alloc, b"OpenString", file, at),
-        Refusal::NumberTooLarge(at) => placed_line(alloc, b"NumberTooLarge", file, at),
-        Refusal::Syntax(at) => placed_line(alloc, b"Syntax", file, at),
-        Refusal::TooDeep(at) => placed_line(alloc, b"TooDeep", file, at),
-        Refusal::Unknown(at) => placed_line(alloc, b"Unknown", file, at),
-        Refusal::Duplicate(at) => placed_line(alloc, b"Duplicate", file, at),
-        Refusal::NotData(at) => placed_line(alloc, b"NotData", file, at),
-        Refusal::Mismatch(at) => placed_line(alloc, b"Mismatch", file, at),
-        Refusal::NotYet(at) => placed_line(alloc, b"NotYet", file, at),
+        Refusal::Absent(file) => named_line(alloc, "Absent", name_at(names.as_slice(), *file)),
+        Refusal::TooLong(file) => named_line(alloc, "TooLong", name_at(names.as_slice(), *file)),
+        Refusal::At(fault, file, at) => {
+            let name = name_at(names.as_slice(), *file);
+            placed_line(alloc, word_of(*fault), name, *at)
+        }
+        Refusal::Given(name) => named_line(alloc, "Given", name.as_slice()),
     }
 }
 
 /// The answer of a call that ends before its whole text is printed.
-fn answer_of(stop: Stop) -> Answer
-    ensures { result ≡ the_answer_of stop }
+fn answer_of(stop: &Stop) -> Answer
+    ensures { result ≡ the_answer_of stop.now }
 {
     match stop {
         Stop::Refused(_) => Answer::Refused,
@@ -95,11 +110,11 @@ fn put_line<E: Sink>(alloc: Global, err: &mut E, line: &[u8], answer: Answer) ->
 pub fn tell<E: Sink>(alloc: Global, err: &mut E, words: &[String], stop: Stop) -> Answer
     ensures answers { (result ≡ the_answer_of stop) ⊎ (result ≡ Answer.OutOfMemory) }
     ensures tells { let given = map (λ word. string_bytes word) words.now in
-        Tells (E.written err.old) (E.written err.new) (E.faults err.old) (E.faults err.new) (stop_text stop (the_file_in given)) result }
+        Tells (E.written err.old) (E.written err.new) (E.faults err.old) (E.faults err.new) (stop_text stop given) result }
 {
-    let answer = answer_of(stop);
+    let answer = answer_of(&stop);
     match stop {
-        Stop::Refused(refusal) => match refusal_line(alloc, refusal, file_in(words)) {
+        Stop::Refused(refusal) => match refusal_line(alloc, &refusal, words) {
             Ok(line) => put_line(alloc, err, line.as_slice(), answer),
             Err(_) => Answer::OutOfMemory,
         },

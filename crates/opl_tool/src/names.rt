@@ -3,7 +3,7 @@ ghost use Rattle.std.specs.Prelude.{◌≡◌, OnOk};
 ghost use Rattle.opl_tool.specs.Names.{number_in, Adds, Numbered};
 ghost use Rattle.opl_tool.specs.Stage.{Gives};
 
-use crate::refusal::Refusal;
+use crate::refusal::{Fault, Refusal};
 use crate::stop::Stop;
 use opl_plain::PlainVariable;
 use std::alloc::{AllocError, Global};
@@ -35,7 +35,7 @@ pub fn numbers(alloc: Global, variables: &[PlainVariable]) -> Result<Numbers<'_>
     for (x, variable) in variables.iter().enumerate() {
         let name = &variable.name;
         match number_in(&numbers, name.text.as_slice()) {
-            Some(_) => return Err(Stop::Refused(Refusal::Duplicate(name.at))),
+            Some(_) => return Err(Stop::Refused(Refusal::At(Fault::Duplicate, 0, name.at))),
             None => add(&mut numbers, name.text.as_slice(), x)?,
         }
     }

@@ -1,62 +1,31 @@
-//! Reading a model: from the name of its file to its plain form.
-ghost use Rattle.std.specs.Prelude.{◌≡◌, ◌≤◌, ◌<◌, ◌^◌, All, length, IfSome, IfOk};
-ghost use Rattle.opl_outside.specs.Becomes.{Becomes};
+//! Reading a model: from the texts of its file and of the data files to its plain form.
+ghost use Rattle.std.specs.Prelude.{◌≡◌, ◌≤◌, All, length, IfOk};
 ghost use Rattle.opl_outside.specs.Files.{max_bytes};
 ghost use Rattle.opl_plain.specs.Plain.{AreNear, plain_of};
 ghost use Rattle.opl_plain.specs.Sides.{place_of};
-ghost use Rattle.opl_tool.specs.Judged.{Held, Scanned, Parsed, HasTypes, tree_of, Plain, Understood, Read};
-ghost use Rattle.opl_tool.specs.Stage.{Gives, GivesRead, CountsRead, Then};
+ghost use Rattle.opl_tool.specs.Judged.{Parsed, HasTypes, tree_of, Plain, Runs, Understood, Read};
+ghost use Rattle.opl_tool.specs.Stage.{Gives, Then};
 
-use crate::refusal::Refusal;
-use crate::stop::Stop;
-use opl_outside::{Found, OutsideError, Shelf};
+use crate::data_files::{data_trees, none_given};
+use crate::refusal::Fault;
+use crate::scanning::{Tokens, tokens_of, tokens_of_data};
+use crate::stop::{Stop, refused};
+use opl_data::DataFile;
+use opl_list::Seq;
 use opl_parse::parse_model;
 use opl_plain::{PlainFault, PlainModel, plain_model};
-use opl_token::{ScanFault, Seq, Token, scan};
 use opl_tree::{ModelTree, SyntaxFault};
 use opl_types::{TypeFault, Typed, check};
 use std::alloc::Global;
 
-/// The bytes of the file of this name.
-pub fn load<F: Shelf>(alloc: Global, shelf: &mut F, name: &str) -> Result<Seq<u8>, Stop>
-    ensures held { IfSome (F.files shelf.old) (λ files. GivesRead (Held files name.now) result) }
-    ensures within_limit { IfOk result (λ bytes. length bytes ≤ max_bytes) }
-    ensures cause { CountsRead result (F.read_faults shelf.old) (F.read_faults shelf.new) }
-    ensures no_write { F.write_faults shelf.new ≡ F.write_faults shelf.old }
-    ensures files_stay { Becomes (F.files shelf.old) (F.files shelf.new) (λ before now. now ≡ before) }
+/// The tree of the model's tokens.
+fn tree(alloc: Global, tokens: &Tokens) -> Result<ModelTree, Stop>
+    ensures { Gives (Parsed tokens.now) result }
 {
-    match shelf.read(alloc, name) {
-        Ok(Found::Bytes(bytes)) => Ok(bytes),
-        Ok(Found::Absent) => Err(Stop::Refused(Refusal::Absent)),
-        Ok(Found::TooLong) => Err(Stop::Refused(Refusal::TooLong)),
-        Err(OutsideError::Failed) => Err(Stop::ReadFault),
-        Err(OutsideError::OutOfMemory) => Err(Stop::OutOfMemory),
-    }
-}
-
-/// The tokens of a text.
-fn tokens(alloc: Global, bytes: &[u8]) -> Result<Seq<Token>, Stop>
-    requires { length bytes.now < 2 ^ 32 }
-    ensures { Gives (Scanned bytes.now) result }
-{
-    match scan(alloc, bytes) {
-        Ok(tokens) => Ok(tokens),
-        Err(ScanFault::BadByte(at)) => Err(Stop::Refused(Refusal::BadByte(at))),
-        Err(ScanFault::OpenComment(at)) => Err(Stop::Refused(Refusal::OpenComment(at))),
-        Err(ScanFault::OpenString(at)) => Err(Stop::Refused(Refusal::OpenString(at))),
-        Err(ScanFault::NumberTooLarge(at)) => Err(Stop::Refused(Refusal::NumberTooLarge(at))),
-        Err(ScanFault::OutOfMemory) => Err(Stop::OutOfMemory),
-    }
-}
-
-/// The tree of the tokens of a text with `end` bytes.
-fn tree(alloc: Global, tokens: &[Token], end: u32) -> Result<ModelTree, Stop>
-    ensures { Gives (Parsed tokens.now end) result }
-{
-    match parse_model(alloc, tokens, end) {
+    match parse_model(alloc, tokens.list.as_slice(), tokens.end) {
         Ok(tree) => Ok(tree),
-        Err(SyntaxFault::Syntax(at)) => Err(Stop::Refused(Refusal::Syntax(at))),
-        Err(SyntaxFault::TooDeep(at)) => Err(Stop::Refused(Refusal::TooDeep(at))),
+        Err(SyntaxFault::Syntax(at)) => Err(refused(Fault::Syntax, 0, at)),
+        Err(SyntaxFault::TooDeep(at)) => Err(refused(Fault::TooDeep, 0, at)),
         Err(SyntaxFault::OutOfMemory) => Err(Stop::OutOfMemory),
     }
 }
@@ -67,10 +36,10 @@ fn typed(alloc: Global, tree: ModelTree) -> Result<Typed, Stop>
 {
     match check(alloc, tree) {
         Ok(typed) => Ok(typed),
-        Err(TypeFault::Unknown(at)) => Err(Stop::Refused(Refusal::Unknown(at))),
-        Err(TypeFault::Duplicate(at)) => Err(Stop::Refused(Refusal::Duplicate(at))),
-        Err(TypeFault::NotData(at)) => Err(Stop::Refused(Refusal::NotData(at))),
-        Err(TypeFault::Mismatch(at)) => Err(Stop::Refused(Refusal::Mismatch(at))),
+        Err(TypeFault::Unknown(at)) => Err(refused(Fault::Unknown, 0, at)),
+        Err(TypeFault::Duplicate(at)) => Err(refused(Fault::Duplicate, 0, at)),
+        Err(TypeFault::NotData(at)) => Err(refused(Fault::NotData, 0, at)),
+        Err(TypeFault::Mismatch(at)) => Err(refused(Fault::Mismatch, 0, at)),
         Err(TypeFault::OutOfMemory) => Err(Stop::OutOfMemory),
     }
 }
@@ -89,39 +58,51 @@ fn plain(alloc: Global, typed: &Typed) -> Result<PlainModel, Stop>
     ensures near { IfOk result (λ model. All AreNear model.variables) }
 {
     if let Some(at) = not_yet(typed) {
-        return Err(Stop::Refused(Refusal::NotYet(at)));
+        return Err(refused(Fault::NotYet, 0, at));
     }
     match plain_model(alloc, &typed.tree) {
         Ok(model) => Ok(model),
-        Err(PlainFault::NotYet(at)) => Err(Stop::Refused(Refusal::NotYet(at))),
+        Err(PlainFault::NotYet(at)) => Err(refused(Fault::NotYet, 0, at)),
         Err(PlainFault::OutOfMemory) => Err(Stop::OutOfMemory),
     }
 }
 
+/// The plain form of a typed model, where the data files give nothing.
+fn runs(alloc: Global, typed: &Typed, files: &[DataFile]) -> Result<PlainModel, Stop>
+    ensures gives { Gives (Runs files.now typed.now.tree) result }
+    ensures near { IfOk result (λ model. All AreNear model.variables) }
+{
+    let model = plain(alloc, typed)?;
+    none_given(alloc, files, model)
+}
+
 /// The model of a tree, in its plain form, once its expressions have types.
-fn model(alloc: Global, tree: ModelTree) -> Result<PlainModel, Stop>
-    ensures gives { Gives (Then (HasTypes tree) Plain) result }
+fn model(alloc: Global, tree: ModelTree, files: &[DataFile]) -> Result<PlainModel, Stop>
+    ensures gives { Gives (Then (HasTypes tree) (Runs files.now)) result }
     ensures near { IfOk result (λ model. All AreNear model.variables) }
 {
     let typed = typed(alloc, tree)?;
-    plain(alloc, &typed)
+    runs(alloc, &typed, files)
 }
 
-/// The model of the tokens of a text with `end` bytes, in its plain form.
-fn understand(alloc: Global, tokens: &[Token], end: u32) -> Result<PlainModel, Stop>
-    ensures gives { Gives (Understood tokens.now end) result }
+/// The model of the tokens of its file and of the data files, in its plain form.
+fn understand(alloc: Global, tokens: &Tokens, others: &[Tokens]) -> Result<PlainModel, Stop>
+    ensures gives { Gives (Understood tokens.now others.now) result }
     ensures near { IfOk result (λ model. All AreNear model.variables) }
 {
-    let tree = tree(alloc, tokens, end)?;
-    model(alloc, tree)
+    let tree = tree(alloc, tokens)?;
+    let files = data_trees(alloc, others)?;
+    model(alloc, tree, files.as_slice())
 }
 
-/// The model of a text, in its plain form.
-pub fn read(alloc: Global, bytes: &[u8]) -> Result<PlainModel, Stop>
-    requires { length bytes.now < 2 ^ 32 }
-    ensures gives { Gives (Read bytes.now) result }
+/// The model of the bytes of its file and of the data files, in its plain form.
+pub fn read(alloc: Global, bytes: &[u8], others: &[Seq<u8>]) -> Result<PlainModel, Stop>
+    requires short { length bytes.now ≤ max_bytes }
+    requires all_short { All (λ bytes. length bytes ≤ max_bytes) others.now }
+    ensures gives { Gives (Read bytes.now others.now) result }
     ensures near { IfOk result (λ model. All AreNear model.variables) }
 {
-    let tokens = tokens(alloc, bytes)?;
-    understand(alloc, tokens.as_slice(), bytes.len() as u32)
+    let tokens = tokens_of(alloc, 0, bytes)?;
+    let others_tokens = tokens_of_data(alloc, others)?;
+    understand(alloc, &tokens, others_tokens.as_slice())
 }

@@ -1,34 +1,45 @@
 //! Why the words, the files or the model of a call are refused.
+use opl_list::Seq;
 
-/// Why a call is refused. A place is the byte offset of a lexeme in the model's file.
-#[derive(Clone, Copy, Debug, PartialEq, Eq)]
+/// What is wrong at a place in a file.
+#[derive(Clone, Copy)]
+pub enum Fault {
+    /// A byte that begins no lexeme.
+    BadByte,
+    /// A comment without an end.
+    OpenComment,
+    /// A text without an end.
+    OpenString,
+    /// A number past the greatest one.
+    NumberTooLarge,
+    /// The tokens are no model or no data: the first that does not fit, or the text's length.
+    Syntax,
+    /// A token that opens a level of nesting too many.
+    TooDeep,
+    /// A name that is not visible where it is used, a field that is not there, or a name that is no type.
+    Unknown,
+    /// A name is declared that is visible already.
+    Duplicate,
+    /// A variable, an activity or a question where data is needed.
+    NotData,
+    /// An expression of a type that does not fit its place.
+    Mismatch,
+    /// A form that does not run today.
+    NotYet,
+}
+
+/// Why a call is refused. Files are numbered: the model's is 0, the data files follow. A place is the byte offset of a
+/// lexeme in its file.
+#[derive(Drop)]
 pub enum Refusal {
     /// The words are no command.
     Words,
-    /// There is no file of the model's name.
-    Absent,
-    /// The model's file has more bytes than are read.
-    TooLong,
-    /// A byte that begins no lexeme.
-    BadByte(u32),
-    /// A comment without an end.
-    OpenComment(u32),
-    /// A text without an end.
-    OpenString(u32),
-    /// A number past the greatest one.
-    NumberTooLarge(u32),
-    /// The tokens are no model: the first that does not fit, or the text's length.
-    Syntax(u32),
-    /// A token that opens a level of nesting too many.
-    TooDeep(u32),
-    /// A name that is not visible where it is used, a field that is not there, or a name that is no type.
-    Unknown(u32),
-    /// A name is declared that is visible already.
-    Duplicate(u32),
-    /// A variable, an activity or a question where data is needed.
-    NotData(u32),
-    /// An expression of a type that does not fit its place.
-    Mismatch(u32),
-    /// A form that does not run today.
-    NotYet(u32),
+    /// There is no file of this file's name.
+    Absent(usize),
+    /// The file has more bytes than are read.
+    TooLong(usize),
+    /// What is wrong, in which file, and at which place.
+    At(Fault, usize, u32),
+    /// Data files give an item of this name, for which the model does not ask.
+    Given(Seq<u8>),
 }

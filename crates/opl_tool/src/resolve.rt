@@ -6,7 +6,7 @@ ghost use Rattle.opl_tool.specs.Resolve.{found_operand, found_comparison, Resolv
 
 use crate::constraint::{Constraint, Formula, Operand};
 use crate::names::{Numbers, number_in};
-use crate::refusal::Refusal;
+use crate::refusal::{Fault, Refusal};
 use crate::stop::Stop;
 use opl_list::{Boxed, Seq};
 use opl_plain::{Comparison, Condition, Operand as NamedOperand};
@@ -19,7 +19,7 @@ fn operand(numbers: &Numbers<'_>, found: &NamedOperand) -> Result<Operand, Refus
     match found {
         NamedOperand::Variable(name) => match number_in(numbers, name.text.as_slice()) {
             Some(x) => Ok(Operand::Variable(x)),
-            None => Err(Refusal::Unknown(name.at)),
+            None => Err(Refusal::At(Fault::Unknown, 0, name.at)),
         },
         NamedOperand::Number(number) => Ok(Operand::Number(number.value)),
     }

@@ -2,16 +2,23 @@
 ghost use Rattle.opl_tool.specs.declared.stop.Stop.TheVariants.{OutOfMemory};
 ghost use Rattle.std.specs.Prelude.{◌≡◌};
 
-use crate::refusal::Refusal;
+use crate::refusal::{Fault, Refusal};
 use std::alloc::{AllocError, AllocFailed};
 
 /// Why a call ends before its whole text is printed.
-#[derive(Clone, Copy, Debug)]
+#[derive(Drop)]
 pub enum Stop {
     Refused(Refusal),
     ReadFault,
     WriteFault,
     OutOfMemory,
+}
+
+/// The refusal of the file with this number at a place.
+pub fn refused(fault: Fault, file: usize, at: u32) -> Stop
+    ensures { result ≡ Stop.Refused (Refusal.At fault file at) }
+{
+    Stop::Refused(Refusal::At(fault, file, at))
 }
 
 impl From<AllocError> for Stop {

@@ -29,13 +29,27 @@ const NONE: Failing = Failing {
     err: &[],
 };
 
-fn call(alloc: Global, words: &[&str], text: &[u8], failing: Failing) -> Result<Called, Fail> {
+/// A shelf with these files.
+fn shelf_of(alloc: Global, files: &[(&str, &[u8])], failing: &[u64]) -> Result<MemoryShelf, Fail> {
+    let mut shelf = MemoryShelf::new(alloc, failing)?;
+    for (name, bytes) in files {
+        shelf.add(alloc, name, bytes)?;
+    }
+    Ok(shelf)
+}
+
+/// A call with these words over these files.
+fn call_over(
+    alloc: Global,
+    words: &[&str],
+    files: &[(&str, &[u8])],
+    failing: Failing,
+) -> Result<Called, Fail> {
     let mut given = Vec::new(alloc);
     for word in words {
         given.push(String::from_str(alloc, word)?)?;
     }
-    let mut shelf = MemoryShelf::new(alloc, failing.shelf)?;
-    shelf.add(alloc, "m.mod", text)?;
+    let mut shelf = shelf_of(alloc, files, failing.shelf)?;
     let mut out = MemorySink::new(alloc, failing.out)?;
     let mut err = MemorySink::new(alloc, failing.err)?;
     let answer = run(alloc, given.as_slice(), &mut shelf, &mut out, &mut err);
@@ -44,6 +58,11 @@ fn call(alloc: Global, words: &[&str], text: &[u8], failing: Failing) -> Result<
         out: Vec::from_slice(alloc, out.bytes())?,
         err: Vec::from_slice(alloc, err.bytes())?,
     })
+}
+
+/// A call with these words over a model.
+fn call(alloc: Global, words: &[&str], text: &[u8], failing: Failing) -> Result<Called, Fail> {
+    call_over(alloc, words, &[("m.mod", text)], failing)
 }
 
 const SOLVE: [&str; 2] = ["solve", "m.mod"];
@@ -475,5 +494,179 @@ fn lists_and_boxes_hold_what_they_are_given(rt: HostRuntime) -> Result<(), Fail>
     assert_eq!(rt; list.as_slice(), [3, 1, 2].as_slice());
     let boxed = Boxed::new(rt.alloc(), 7u32)?;
     assert_eq!(rt; boxed.into_inner(), 7);
+    Ok(())
+}
+
+/// A call over a model and two data files, and what comes of it.
+struct DataRow {
+    words: &'static [&'static str],
+    model: &'static str,
+    first: &'static str,
+    second: &'static str,
+    answer: Answer,
+    out: &'static str,
+    err: &'static str,
+}
+
+const BOTH: [&str; 4] = ["solve", "m.mod", "a.dat", "b.dat"];
+
+/// A model that runs without data, accepted.
+const ACCEPTED: DataRow = DataRow {
+    words: &BOTH,
+    model: "solve { };",
+    first: "",
+    second: "",
+    answer: Answer::Done,
+    out: "Solution 1\nSolutions: 1\nEnd\n",
+    err: "",
+};
+
+/// The same, refused.
+const REFUSED: DataRow = DataRow {
+    answer: Answer::Refused,
+    out: "",
+    ..ACCEPTED
+};
+
+const DATA_ROWS: [DataRow; 12] = [
+    ACCEPTED,
+    DataRow {
+        first: "// nothing",
+        second: "/* nor here */\n",
+        ..ACCEPTED
+    },
+    DataRow {
+        second: "b = 1; c = 2;",
+        err: "refused: Given b\n",
+        ..REFUSED
+    },
+    DataRow {
+        first: "c = {};",
+        second: "b = 1;",
+        err: "refused: Given c\n",
+        ..REFUSED
+    },
+    // All files are read, all are scanned, and all are parsed before the model has types.
+    DataRow {
+        words: &["solve", "m.mod", "a.dat", "none.dat"],
+        model: "#",
+        err: "refused: Absent none.dat\n",
+        ..REFUSED
+    },
+    DataRow {
+        model: "solve { 1 = = 2; };",
+        second: "b = # 1;",
+        err: "refused: BadByte b.dat 4\n",
+        ..REFUSED
+    },
+    DataRow {
+        model: "#",
+        first: "#",
+        err: "refused: BadByte m.mod 0\n",
+        ..REFUSED
+    },
+    DataRow {
+        model: "solve { 1 = = 2; };",
+        first: "a = ;",
+        err: "refused: Syntax m.mod 12\n",
+        ..REFUSED
+    },
+    DataRow {
+        model: "solve { x = 1; };",
+        first: "a = 1;",
+        second: "b = ;",
+        err: "refused: Syntax b.dat 4\n",
+        ..REFUSED
+    },
+    DataRow {
+        model: "solve { x = 1; };",
+        first: "x = 1;",
+        err: "refused: Unknown m.mod 8\n",
+        ..REFUSED
+    },
+    DataRow {
+        model: "int n = 2; solve { };",
+        first: "n = 1;",
+        err: "refused: NotYet m.mod 0\n",
+        ..REFUSED
+    },
+    DataRow {
+        model: "solve { 1 = 2; };",
+        answer: Answer::NoSolution,
+        out: "Solutions: 0\nEnd\n",
+        ..ACCEPTED
+    },
+];
+
+/// A call over the files of a row comes to what it says.
+fn comes_to(rt: &impl Abort, alloc: Global, row: &DataRow) -> Result<(), Fail> {
+    let files: [(&str, &[u8]); 3] = [
+        ("m.mod", row.model.as_bytes()),
+        ("a.dat", row.first.as_bytes()),
+        ("b.dat", row.second.as_bytes()),
+    ];
+    let called = call_over(alloc, row.words, &files, NONE)?;
+    let DataRow { err, .. } = row;
+    assert_eq!(rt; called.answer, row.answer, "{err}");
+    assert_eq!(rt; called.out.as_slice(), row.out.as_bytes());
+    assert_eq!(rt; called.err.as_slice(), row.err.as_bytes());
+    Ok(())
+}
+
+#[test]
+fn reads_data_files(rt: HostRuntime) -> Result<(), Fail> {
+    for row in &DATA_ROWS {
+        comes_to(&rt, rt.alloc(), row)?;
+    }
+    Ok(())
+}
+
+/// Words, and the line that they come to over a model that is accepted and files `-`, `-x` and one of the empty name.
+const WORD_ROWS: [(&[&str], &str); 12] = [
+    (&["solve", "m.mod", "-"], ""),
+    (&["solve", "m.mod", ""], ""),
+    (&["solve", "m.mod", "--"], ""),
+    (&["solve", "--", "m.mod", "-x"], ""),
+    (&["solve", "m.mod", "--", "-x", "-"], ""),
+    (&["solve", "m.mod", "--", "--"], "refused: Absent --\n"),
+    (&["solve", "--"], "refused: Words\n"),
+    (&["solve", "m.mod", "-x"], "refused: Words\n"),
+    (&["solve", "-x", "--", "m.mod"], "refused: Words\n"),
+    (&["solve", "m.mod", "---"], "refused: Words\n"),
+    (&["--", "solve", "m.mod"], "refused: Words\n"),
+    (&[], "refused: Words\n"),
+];
+
+#[test]
+fn reads_words(rt: HostRuntime) -> Result<(), Fail> {
+    let files: [(&str, &[u8]); 4] = [("m.mod", b"solve { };"), ("-", b""), ("-x", b""), ("", b"")];
+    for (words, line) in WORD_ROWS {
+        let called = call_over(rt.alloc(), words, &files, NONE)?;
+        assert_eq!(rt; called.answer == Answer::Done, line.is_empty(), "{line}");
+        assert_eq!(rt; called.err.as_slice(), line.as_bytes());
+    }
+    Ok(())
+}
+
+#[test]
+fn tells_a_fault_at_its_read(rt: HostRuntime) -> Result<(), Fail> {
+    let files: [(&str, &[u8]); 2] = [("m.mod", b"#"), ("a.dat", b"#")];
+    let table: [(&[&str], &str); 3] = [
+        (&["solve", "m.mod", "a.dat"], "fault: read\n"),
+        (&["solve", "m.mod", "a.dat", "none.dat"], "fault: read\n"),
+        (
+            &["solve", "none.mod", "a.dat"],
+            "refused: Absent none.mod\n",
+        ),
+    ];
+    for (words, line) in table {
+        let failing = Failing {
+            shelf: &[2],
+            ..NONE
+        };
+        let called = call_over(rt.alloc(), words, &files, failing)?;
+        assert_eq!(rt; called.out.as_slice(), b"".as_slice(), "{line}");
+        assert_eq!(rt; called.err.as_slice(), line.as_bytes());
+    }
     Ok(())
 }
