@@ -1,0 +1,4 @@
+pub mod Fields
+pub mod Structs
+pub mod Trees
+pub mod Walk
