@@ -17,21 +17,21 @@ use Rattle.opl_tree.specs.declared.instruction.RequiresTree.{RequiresTree}
 use Rattle.opl_fields.specs.Walk.{State, Pass, each, if_written}
 use Rattle.opl_fields.specs.Trees.{walk_expr, walk_post, walk_params, walk_requires, item_layer, items_layer, block_layer, walk_item, walk_items, walk_block}
 
-walk_item-roll : (ds : List DeclTree) (x : ItemTree-F ItemTree ItemsTree BlockTree) → walk_item ds (roll-ItemTree x) ≡ item_layer ds (map-ItemTree ItemTree ItemsTree BlockTree Pass Pass Pass (walk_item ds) (walk_items ds) (walk_block ds) x)
+pub walk_item-roll : (ds : List DeclTree) (x : ItemTree-F ItemTree ItemsTree BlockTree) → walk_item ds (roll-ItemTree x) ≡ item_layer ds (map-ItemTree ItemTree ItemsTree BlockTree Pass Pass Pass (walk_item ds) (walk_items ds) (walk_block ds) x)
 unfolding walk_item walk_items walk_block
 walk_item-roll ds x = fold-roll-ItemTree Pass Pass Pass (item_layer ds) items_layer block_layer x
 
 walk_item-is : (ds : List DeclTree) (t : ItemTree) (x : ItemTree-F ItemTree ItemsTree BlockTree) (s : State) → roll-ItemTree x ≡ t → walk_item ds t s ≡ item_layer ds (map-ItemTree ItemTree ItemsTree BlockTree Pass Pass Pass (walk_item ds) (walk_items ds) (walk_block ds) x) s
 walk_item-is ds t x s e = ap (λ u. walk_item ds u s) (sym e) ∙ ap (λ f. f s) (walk_item-roll ds x)
 
-walk_items-roll : (ds : List DeclTree) (x : ItemsTree-F ItemTree ItemsTree BlockTree) → walk_items ds (roll-ItemsTree x) ≡ items_layer (map-ItemsTree ItemTree ItemsTree BlockTree Pass Pass Pass (walk_item ds) (walk_items ds) (walk_block ds) x)
+pub walk_items-roll : (ds : List DeclTree) (x : ItemsTree-F ItemTree ItemsTree BlockTree) → walk_items ds (roll-ItemsTree x) ≡ items_layer (map-ItemsTree ItemTree ItemsTree BlockTree Pass Pass Pass (walk_item ds) (walk_items ds) (walk_block ds) x)
 unfolding walk_item walk_items walk_block
 walk_items-roll ds x = fold-roll-ItemsTree Pass Pass Pass (item_layer ds) items_layer block_layer x
 
 walk_items-is : (ds : List DeclTree) (t : ItemsTree) (x : ItemsTree-F ItemTree ItemsTree BlockTree) (s : State) → roll-ItemsTree x ≡ t → walk_items ds t s ≡ items_layer (map-ItemsTree ItemTree ItemsTree BlockTree Pass Pass Pass (walk_item ds) (walk_items ds) (walk_block ds) x) s
 walk_items-is ds t x s e = ap (λ u. walk_items ds u s) (sym e) ∙ ap (λ f. f s) (walk_items-roll ds x)
 
-walk_block-roll : (ds : List DeclTree) (x : BlockTree-F ItemTree ItemsTree BlockTree) → walk_block ds (roll-BlockTree x) ≡ block_layer (map-BlockTree ItemTree ItemsTree BlockTree Pass Pass Pass (walk_item ds) (walk_items ds) (walk_block ds) x)
+pub walk_block-roll : (ds : List DeclTree) (x : BlockTree-F ItemTree ItemsTree BlockTree) → walk_block ds (roll-BlockTree x) ≡ block_layer (map-BlockTree ItemTree ItemsTree BlockTree Pass Pass Pass (walk_item ds) (walk_items ds) (walk_block ds) x)
 unfolding walk_item walk_items walk_block
 walk_block-roll ds x = fold-roll-BlockTree Pass Pass Pass (item_layer ds) items_layer block_layer x
 

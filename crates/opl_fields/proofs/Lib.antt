@@ -1,5 +1,11 @@
+pub mod Consumed
+pub mod Followed
 pub mod Items
 pub mod Lists
+pub mod Models
+pub mod Positions
 pub mod Sorts
+pub mod Starts
 pub mod Statements
+pub mod Taken
 pub mod Walks

@@ -18,21 +18,21 @@ use Rattle.opl_tree.specs.declared.search.StatementsTree.TheVariants as lists_of
 use Rattle.opl_fields.specs.Walk.{State, Pass, each, if_written}
 use Rattle.opl_fields.specs.Trees.{walk_expr, walk_post, walk_params, walk_order, statement_layer, statements_layer, search_block_layer, walk_statement, walk_statements, walk_search_block}
 
-walk_statement-roll : (ds : List DeclTree) (x : StatementTree-F StatementTree StatementsTree SearchBlockTree) → walk_statement ds (roll-StatementTree x) ≡ statement_layer ds (map-StatementTree StatementTree StatementsTree SearchBlockTree Pass Pass Pass (walk_statement ds) (walk_statements ds) (walk_search_block ds) x)
+pub walk_statement-roll : (ds : List DeclTree) (x : StatementTree-F StatementTree StatementsTree SearchBlockTree) → walk_statement ds (roll-StatementTree x) ≡ statement_layer ds (map-StatementTree StatementTree StatementsTree SearchBlockTree Pass Pass Pass (walk_statement ds) (walk_statements ds) (walk_search_block ds) x)
 unfolding walk_statement walk_statements walk_search_block
 walk_statement-roll ds x = fold-roll-StatementTree Pass Pass Pass (statement_layer ds) statements_layer search_block_layer x
 
 walk_statement-is : (ds : List DeclTree) (t : StatementTree) (x : StatementTree-F StatementTree StatementsTree SearchBlockTree) (s : State) → roll-StatementTree x ≡ t → walk_statement ds t s ≡ statement_layer ds (map-StatementTree StatementTree StatementsTree SearchBlockTree Pass Pass Pass (walk_statement ds) (walk_statements ds) (walk_search_block ds) x) s
 walk_statement-is ds t x s e = ap (λ u. walk_statement ds u s) (sym e) ∙ ap (λ f. f s) (walk_statement-roll ds x)
 
-walk_statements-roll : (ds : List DeclTree) (x : StatementsTree-F StatementTree StatementsTree SearchBlockTree) → walk_statements ds (roll-StatementsTree x) ≡ statements_layer (map-StatementsTree StatementTree StatementsTree SearchBlockTree Pass Pass Pass (walk_statement ds) (walk_statements ds) (walk_search_block ds) x)
+pub walk_statements-roll : (ds : List DeclTree) (x : StatementsTree-F StatementTree StatementsTree SearchBlockTree) → walk_statements ds (roll-StatementsTree x) ≡ statements_layer (map-StatementsTree StatementTree StatementsTree SearchBlockTree Pass Pass Pass (walk_statement ds) (walk_statements ds) (walk_search_block ds) x)
 unfolding walk_statement walk_statements walk_search_block
 walk_statements-roll ds x = fold-roll-StatementsTree Pass Pass Pass (statement_layer ds) statements_layer search_block_layer x
 
 walk_statements-is : (ds : List DeclTree) (t : StatementsTree) (x : StatementsTree-F StatementTree StatementsTree SearchBlockTree) (s : State) → roll-StatementsTree x ≡ t → walk_statements ds t s ≡ statements_layer (map-StatementsTree StatementTree StatementsTree SearchBlockTree Pass Pass Pass (walk_statement ds) (walk_statements ds) (walk_search_block ds) x) s
 walk_statements-is ds t x s e = ap (λ u. walk_statements ds u s) (sym e) ∙ ap (λ f. f s) (walk_statements-roll ds x)
 
-walk_search_block-roll : (ds : List DeclTree) (x : SearchBlockTree-F StatementTree StatementsTree SearchBlockTree) → walk_search_block ds (roll-SearchBlockTree x) ≡ search_block_layer (map-SearchBlockTree StatementTree StatementsTree SearchBlockTree Pass Pass Pass (walk_statement ds) (walk_statements ds) (walk_search_block ds) x)
+pub walk_search_block-roll : (ds : List DeclTree) (x : SearchBlockTree-F StatementTree StatementsTree SearchBlockTree) → walk_search_block ds (roll-SearchBlockTree x) ≡ search_block_layer (map-SearchBlockTree StatementTree StatementsTree SearchBlockTree Pass Pass Pass (walk_statement ds) (walk_statements ds) (walk_search_block ds) x)
 unfolding walk_statement walk_statements walk_search_block
 walk_search_block-roll ds x = fold-roll-SearchBlockTree Pass Pass Pass (statement_layer ds) statements_layer search_block_layer x
 

@@ -2,6 +2,7 @@
 ghost use Rattle.std.specs.Prelude.{◌≡◌, OnOk};
 ghost use Rattle.opl_fields.specs.Trees as spec;
 ghost use Rattle.opl_fields.specs.Walk as walk;
+ghost use Rattle.opl_term.specs.Terms as terms;
 
 use crate::walk::Walk;
 use opl_term::{
@@ -69,7 +70,7 @@ impl<'a> Walk<'a> {
         decls: &[DeclTree],
         t: &SetTree,
     ) -> Result<(), AllocError>
-        ensures { OnOk result (self.new ≡ walk.walk_set decls.now (spec.set_term t.now) self.old) }
+        ensures { OnOk result (self.new ≡ walk.walk_set decls.now (terms.set_term t.now) self.old) }
     {
         self.set(decls, &set_term(alloc, t)?)
     }
@@ -101,7 +102,7 @@ impl<'a> Walk<'a> {
     }
 
     /// Goes through parameters.
-    pub(crate) fn params(
+    pub(crate) fn params_tree(
         &mut self,
         alloc: Global,
         decls: &[DeclTree],

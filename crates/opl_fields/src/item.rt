@@ -5,9 +5,7 @@ ghost use Rattle.opl_fields.specs.Trees as spec;
 ghost use Rattle.opl_fields.specs.Walk as walk;
 
 use crate::walk::Walk;
-use opl_tree::{
-    BlockTree, DeclTree, InstrTree, ItemTree, ItemsTree, PostTree, RequiresTree,
-};
+use opl_tree::{BlockTree, DeclTree, InstrTree, ItemTree, ItemsTree, PostTree, RequiresTree};
 use std::alloc::{AllocError, Global};
 
 impl<'a> Walk<'a> {
@@ -26,7 +24,7 @@ impl<'a> Walk<'a> {
     }
 
     /// Goes through the use of a resource.
-    fn requires(
+    fn requirement(
         &mut self,
         alloc: Global,
         decls: &[DeclTree],
@@ -48,7 +46,7 @@ impl<'a> Walk<'a> {
         match t {
             ItemTree::Block(t) => self.block(alloc, decls, t),
             ItemTree::ForAll(_, params, body) => {
-                self.params(alloc, decls, params)?;
+                self.params_tree(alloc, decls, params)?;
                 self.item(alloc, decls, body.get())
             }
             ItemTree::If(_, test, holds, fails) => {
@@ -57,7 +55,7 @@ impl<'a> Walk<'a> {
                 self.items_if_written(alloc, decls, fails)
             }
             ItemTree::Precedes(_, first, second) => self.precedes(alloc, decls, first, second),
-            ItemTree::Requires(t) => self.requires(alloc, decls, t),
+            ItemTree::Requires(t) => self.requirement(alloc, decls, t),
             ItemTree::Constraint(t) => self.expr(alloc, decls, t),
         }
     }

@@ -4,10 +4,13 @@
 mod declaration;
 mod expression;
 mod item;
+pub mod laws;
 mod model;
 mod place;
 mod search;
 mod structs;
+#[cfg(test)]
+mod tests;
 mod walk;
 
 pub use model::fields;

@@ -36,7 +36,7 @@ impl<'a> Walk<'a> {
     ) -> Result<(), AllocError>
         ensures { OnOk result (self.new ≡ spec.walk_order decls.now t.now.order (spec.walk_params decls.now t.now.params self.old)) }
     {
-        self.params(alloc, decls, &t.params)?;
+        self.params_tree(alloc, decls, &t.params)?;
         self.order(alloc, decls, &t.order)
     }
 

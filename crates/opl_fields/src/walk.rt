@@ -40,7 +40,7 @@ impl<'a> Walk<'a> {
 
     /// The fields that were found.
     pub(crate) fn into_found(self) -> Seq<FieldPlace>
-        ensures { result ≡ self.found }
+        ensures { result ≡ self.entry.found }
     {
         let Walk { found, records: _ } = self;
         found
@@ -62,7 +62,7 @@ impl<'a> Walk<'a> {
     }
 
     /// One more field, where it is one of the struct's.
-    fn add(&mut self, place: u32, position: Option<usize>) -> Result<(), AllocError>
+    fn push(&mut self, place: u32, position: Option<usize>) -> Result<(), AllocError>
         ensures { OnOk result (self.new ≡ spec.noted place position self.old) }
     {
         match position {
@@ -82,7 +82,7 @@ impl<'a> Walk<'a> {
         ensures { OnOk result (self.new ≡ spec.note decls.now place name.now record_of self.old) }
     {
         match record_of {
-            Some(number) => self.add(place, position(decls, number, name)),
+            Some(number) => self.push(place, position(decls, number, name)),
             None => Ok(()),
         }
     }
@@ -138,7 +138,17 @@ impl<'a> Walk<'a> {
                 self.groups(decls, groups.as_slice())?;
                 self.condition(decls, condition)
             }
-            Term::KeyedArray(_, keys, cells) => self.pairs(decls, keys.as_slice(), cells.as_slice()),
+            Term::KeyedArray(_, keys, cells) => {
+                let cells = cells.as_slice();
+                for (i, key) in keys.as_slice().iter().enumerate() {
+                    if i >= cells.len() {
+                        return Ok(());
+                    }
+                    self.term(decls, key)?;
+                    self.term(decls, &cells[i])?;
+                }
+                Ok(())
+            }
         }
     }
 
@@ -156,7 +166,7 @@ impl<'a> Walk<'a> {
 
     /// Goes through a condition, where there is one.
     #[cycle(walk)]
-    fn condition(
+    pub(crate) fn condition(
         &mut self,
         decls: &[DeclTree],
         t: &Option<Boxed<Term>>,
@@ -183,24 +193,6 @@ impl<'a> Walk<'a> {
                 | Step::Quotient(t)
                 | Step::Remainder(t) => self.term(decls, t)?,
             }
-        }
-        Ok(())
-    }
-
-    /// Goes through each key and its cell.
-    #[cycle(walk)]
-    #[tactic(auto, using(crate::proofs::Lists::lists))]
-    fn pairs(
-        &mut self,
-        decls: &[DeclTree],
-        keys: &[Term],
-        cells: &[Term],
-    ) -> Result<(), AllocError>
-        ensures { OnOk result (self.new ≡ spec.in_turn (map (spec.walk decls.now) keys.now) (map (spec.walk decls.now) cells.now) self.old) }
-    {
-        for (key, cell) in keys.iter().zip(cells) {
-            self.term(decls, key)?;
-            self.term(decls, cell)?;
         }
         Ok(())
     }
@@ -232,8 +224,9 @@ impl<'a> Walk<'a> {
     {
         for group in groups {
             match group {
-                GroupTerm::Unordered(_, over) | GroupTerm::Ordered(_, over) =>
-                    self.set(decls, over)?,
+                GroupTerm::Unordered(_, over) | GroupTerm::Ordered(_, over) => self.set(
+                    decls, over,
+                )?,
             }
         }
         Ok(())

@@ -1,0 +1,18 @@
+//! Laws of the walk, as contracts of functions without effect.
+ghost use Rattle.opl_fields.specs.Laws.{PositionsAreRight, WalkFollowsTyping, WalkTakesAll};
+
+/// Where typing accepts an expression, the walk over it takes exactly the types that typing lists, whatever follows them, and finds
+/// the fields that typing tells.
+pub fn walk_follows_typing()
+    ensures { WalkFollowsTyping }
+{}
+
+/// Where typing accepts a model, the walk over it takes exactly the types that typing lists, whatever follows them.
+pub fn walk_takes_all()
+    ensures { WalkTakesAll }
+{}
+
+/// At the position of a field stands the field's name.
+pub fn positions_are_right()
+    ensures { PositionsAreRight }
+{}
