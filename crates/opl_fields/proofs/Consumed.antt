@@ -4,7 +4,7 @@ use Rattle.opl_tree.specs.declared.declaration.DeclTree.{DeclTree}
 use Rattle.opl_types.specs.Types.{Sort}
 use Rattle.opl_types.specs.Scope.{Scope, and_then}
 use Rattle.opl_types.specs.Forms.{Form}
-use Rattle.opl_types.specs.Expressions.{Node, Need, kinds, used, typing}
+use Rattle.opl_types.specs.Expressions.{Need, kinds, used, typing}
 use Rattle.opl_fields.specs.declared.place.FieldPlace.{FieldPlace}
 use Rattle.opl_fields.specs.Walk.{State, Pass, one}
 use Rattle.opl_fields.specs.Fields.{record_of}

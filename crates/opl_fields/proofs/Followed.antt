@@ -24,9 +24,7 @@ use Rattle.opl_tree.specs.declared.expression.ParamsTree.{ParamsTree}
 use Rattle.opl_tree.specs.declared.expression.PostTree.{PostTree}
 use Rattle.opl_tree.specs.declared.expression.SetTree.{SetTree}
 use Rattle.opl_tree.specs.declared.expression.SubscriptsTree.{SubscriptsTree}
-use Rattle.opl_tree.specs.declared.expression.CallOp.{CallOp}
 use Rattle.opl_tree.specs.declared.expression.NameTree.{NameTree}
-use Rattle.opl_tree.specs.declared.expression.PatternTree.{PatternTree}
 use Rattle.opl_tree.specs.declared.expression.NegTree.TheVariants as negs
 use Rattle.opl_tree.specs.declared.expression.CompareTree.TheVariants as compares
 use Rattle.opl_tree.specs.declared.expression.MulTree.TheVariants as muls
@@ -60,7 +58,7 @@ use Rattle.opl_tree.specs.declared.expression.AddOp.{AddOp}
 use Rattle.opl_tree.specs.declared.expression.AddOp.TheVariants as add_ops
 use Rattle.opl_tree.specs.declared.expression.MulOp.{MulOp}
 use Rattle.opl_tree.specs.declared.expression.MulOp.TheVariants as mul_ops
-use Rattle.opl_fields.proofs.Taken.{Takes, takes-by, Follows, FollowEach, FollowsSet, FollowGroups, FollowsParams, FollowsPair, FollowPairs, set-Whole, set-Between, params-all, params-those, follows-Number, follows-Named, follows-Bracket, follows-Negative, follows-Call, follows-AllDifferent, follows-Question, follows-Related, follows-Member, follows-Arithmetic, follows-Connected, follows-Record, follows-Listed, follows-Array, follows-KeyedArray, follows-Aggregate, follows-Described, follows-Element, follows-Field}
+use Rattle.opl_fields.proofs.Taken.{takes-by, Follows, FollowEach, FollowsSet, FollowGroups, FollowsParams, FollowsPair, FollowPairs, set-Whole, set-Between, params-all, params-those, follows-Number, follows-Named, follows-Bracket, follows-Negative, follows-Call, follows-AllDifferent, follows-Question, follows-Related, follows-Member, follows-Arithmetic, follows-Connected, follows-Record, follows-Listed, follows-Array, follows-KeyedArray, follows-Aggregate, follows-Described, follows-Element, follows-Field}
 
 -- the same by equal walks
 by-walk : (ds : List DeclTree) (f : Form) (g h : Pass) → ((s : State) → g s ≡ h s) → Follows ds f h → Follows ds f g

@@ -1,4 +1,6 @@
 pub mod Consumed
+pub mod Declared
+pub mod Examples
 pub mod Followed
 pub mod Items
 pub mod Lists

@@ -1,19 +1,10 @@
 -- The walk over a model takes the types that typing lists for it: declarations, items and statements, one after the other.
-use Rattle.std.proofs.Common.{◌≡◌, ℕ, Bool, true, ◌&&◌, not, List, [], ◌∷◌, ◌++◌, map, Option, None, Some, Ok, refl, ap, sym, subst, ◌∙◌}
-use Rattle.std.specs.Option.{option_map}
-use Rattle.opl_tree.specs.declared.declaration.ActivityTree.{ActivityTree}
+use Rattle.std.proofs.Common.{◌≡◌, ℕ, true, ◌&&◌, not, List, [], ◌∷◌, ◌++◌, map, Option, None, Some, Ok, refl, sym, subst}
 use Rattle.opl_tree.specs.declared.declaration.BoundsTree.{BoundsTree}
-use Rattle.opl_tree.specs.declared.declaration.DataTree.{DataTree}
 use Rattle.opl_tree.specs.declared.declaration.DeclTree.{DeclTree}
 use Rattle.opl_tree.specs.declared.declaration.DeclTree.TheVariants as decls
 use Rattle.opl_tree.specs.declared.declaration.DimTree.{DimTree}
 use Rattle.opl_tree.specs.declared.declaration.DimsTree.{DimsTree}
-use Rattle.opl_tree.specs.declared.declaration.DiscreteTree.{DiscreteTree}
-use Rattle.opl_tree.specs.declared.declaration.RangeTree.{RangeTree}
-use Rattle.opl_tree.specs.declared.declaration.ScheduleTree.{ScheduleTree}
-use Rattle.opl_tree.specs.declared.declaration.StructTree.{StructTree}
-use Rattle.opl_tree.specs.declared.declaration.EnumTree.{EnumTree}
-use Rattle.opl_tree.specs.declared.declaration.VariableTree.{VariableTree}
 use Rattle.opl_tree.specs.declared.expression.AddTree.{AddTree}
 use Rattle.opl_tree.specs.declared.expression.ExprTree.{ExprTree}
 use Rattle.opl_tree.specs.declared.expression.NameTree.{NameTree}
@@ -28,7 +19,6 @@ use Rattle.opl_tree.specs.declared.instruction.ItemTree.TheFolds.{ind-BlockTree,
 use Rattle.opl_tree.specs.declared.instruction.ItemTree.TheOpen.{ItemTree-F, ItemsTree-F, BlockTree-F}
 use Rattle.opl_tree.specs.declared.instruction.ItemsTree.{ItemsTree}
 use Rattle.opl_tree.specs.declared.instruction.RequiresTree.{RequiresTree}
-use Rattle.opl_tree.specs.declared.model.ModelTree.{ModelTree}
 use Rattle.opl_tree.specs.declared.search.LabelOp.{LabelOp}
 use Rattle.opl_tree.specs.declared.search.OrderTree.{OrderTree}
 use Rattle.opl_tree.specs.declared.search.SearchBlockTree.{SearchBlockTree}
@@ -37,18 +27,18 @@ use Rattle.opl_tree.specs.declared.search.StatementTree.{StatementTree}
 use Rattle.opl_tree.specs.declared.search.StatementTree.TheFolds.{ind-SearchBlockTree, map-StatementTree, map-StatementsTree, map-SearchBlockTree}
 use Rattle.opl_tree.specs.declared.search.StatementTree.TheOpen.{StatementTree-F, StatementsTree-F, SearchBlockTree-F}
 use Rattle.opl_tree.specs.declared.search.StatementsTree.{StatementsTree}
-use Rattle.opl_term.specs.Terms.{set_term, subscripts_terms}
+use Rattle.opl_term.specs.Terms.{subscripts_terms}
 use Rattle.opl_types.specs.declared.fault.TypeFault.TheVariants.{Duplicate, Mismatch}
 use Rattle.opl_types.specs.Types.{Sort, is_number, is_set, is_truth, is_activity}
-use Rattle.opl_types.specs.Scope.{Scope, Thing, and_then, unless, fresh, all_fresh, empty_scope, lookup}
-use Rattle.opl_types.specs.Forms.{form_expr, form_add, form_post, form_set, form_subscripts, form_params, forms_of}
-use Rattle.opl_types.specs.Expressions.{Node, Need, Opened, Range, kinds, kinds_in, used, part, data_number, any_type, or_anything, typing, typed_set, open_params}
+use Rattle.opl_types.specs.Scope.{Scope, and_then, fresh, all_fresh, empty_scope, lookup}
+use Rattle.opl_types.specs.Forms.{form_expr, form_add, form_post, form_set, form_subscripts, form_params}
+use Rattle.opl_types.specs.Expressions.{Node, Need, Opened, kinds, kinds_in, used, part, or_anything, typing, typed_set, open_params}
 use Rattle.opl_types.specs.Expressions.Need.{nothing, data_alone, data_or_questions}
-use Rattle.opl_types.specs.Declarations.{Dimensions, Shape, no_dimensions, with_dimension, fresh_in, dimensions, all_dims, shape, written_type, cell_indices, initial_kinds, number_kinds, maybe_number, bounds_kinds, variable_type, is_decidable, is_given, field_list, decl, next, all_decls}
+use Rattle.opl_types.specs.Declarations.{Dimensions, Shape, no_dimensions, with_dimension, fresh_in, dimensions, shape, written_type, cell_indices, initial_kinds, number_kinds, maybe_number, bounds_kinds, variable_type, is_decidable, is_given, field_list, decl, next, all_decls}
 use Rattle.opl_types.specs.Models as typing_of
 use Rattle.opl_types.specs.Models.{Looked, within, condition, precedes, known, subscript_nodes, is_resource, is_labelled, requires, item, items, block, label, order, statement, statements, search_block, search, instr, model}
 use Rattle.opl_types.proofs.PureItems.{item_of, items_of, block_of, item-roll, items-roll, block-roll, statement_of, statements_of, search_of, statement-roll, statements-roll, search-roll}
-use Rattle.opl_fields.specs.Walk.{State, Pass, each, if_written, walk}
+use Rattle.opl_fields.specs.Walk.{Pass, each, walk}
 use Rattle.opl_fields.specs.Trees.{walk_expr, walk_add, walk_post, walk_params, walk_subscripts, walk_if_written, walk_dim, walk_dims, walk_initial, walk_bounds, walk_decl, walk_requires, walk_order, item_layer, items_layer, block_layer, statement_layer, statements_layer, search_block_layer, walk_item, walk_items, walk_block, walk_statement, walk_statements, walk_search_block, walk_instr, walk_search, walk_model}
 use Rattle.opl_fields.specs.Laws.{WalkTakesAll}
 use Rattle.opl_fields.proofs.Items.{walk_item-roll, walk_items-roll, walk_block-roll}

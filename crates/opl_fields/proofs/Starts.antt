@@ -32,7 +32,7 @@ use Rattle.opl_tree.specs.declared.expression.MulTree.TheVariants as muls
 use Rattle.opl_tree.specs.declared.expression.OpenTree.TheVariants as opens
 use Rattle.opl_tree.specs.declared.expression.SignTree.TheVariants as signs
 use Rattle.opl_tree.specs.declared.expression.PrimTree.TheVariants as prims
-use Rattle.opl_tree.specs.declared.expression.CompareTree.TheOpen.{CompareTree-F, MulTree-F, NegTree-F, OpenTree-F, PrimTree-F, SignTree-F, SuffixTree-F, AddStep-F, AddTree-F, AndTree-F, ExprTree-F, GroupStep-F, GroupTree-F, ImpTree-F, KeyedTree-F, LastStep-F, MulStep-F, OrTree-F, ParamsTree-F, PostTree-F, SetTree-F, SubscriptsTree-F}
+use Rattle.opl_tree.specs.declared.expression.CompareTree.TheOpen.{MulTree-F, OpenTree-F, PrimTree-F, SignTree-F, AddTree-F, KeyedTree-F, PostTree-F}
 use Rattle.opl_tree.specs.declared.expression.CompareTree.TheViews.{roll-AddTree, roll-MulTree, roll-OpenTree, roll-SignTree, roll-PostTree, roll-PrimTree, roll-KeyedTree, out-roll-AddTree, out-roll-PostTree, out-roll-KeyedTree}
 use Rattle.opl_tree.specs.declared.expression.CompareTree.TheFolds.{map-AddTree, map-MulTree, map-OpenTree, map-SignTree, map-PostTree, map-PrimTree, map-KeyedTree, ind-AddTree}
 use Rattle.opl_term.specs.declared.term.Term.{Term}
@@ -45,15 +45,15 @@ use Rattle.opl_types.specs.Forms.{Form, forms_of, pairs_of, call, form_add, form
 use Rattle.opl_types.specs.Forms as forms
 use Rattle.opl_types.specs.Forms.Form.{number, named, bracket, negative, arithmetic, aggregate, all_different, tuple, listed, described, cells, keyed_cells, question}
 use Rattle.opl_types.specs.Forms.Suffix.{subscripts, field_of}
-use Rattle.opl_types.specs.Expressions.{Node, kinds, used, typing}
+use Rattle.opl_types.specs.Expressions.{kinds, used, typing}
 use Rattle.opl_types.specs.Expressions.Need.{data_alone}
 use Rattle.opl_types.specs.Declarations.{shaped, initial, initial_cells, initial_pairs, initial_kinds}
 use Rattle.opl_term.proofs.Layers as term_is
 use Rattle.opl_types.proofs.Forms as form_is
-use Rattle.opl_fields.specs.Walk.{State, Pass, one, each, in_turn, walk}
+use Rattle.opl_fields.specs.Walk.{Pass, one, each, in_turn, walk}
 use Rattle.opl_fields.specs.Trees.{walk_initial}
 use Rattle.opl_fields.proofs.Walks.{walk-Array, walk-KeyedArray}
-use Rattle.opl_fields.proofs.Taken.{Follows, went, same, used-is}
+use Rattle.opl_fields.proofs.Taken.{Follows, went, same}
 use Rattle.opl_fields.proofs.Followed.{by-both, follows-add, follows-mul, follows-open, follows-sign, follows-post, follows-prim, follows-keyed}
 use Rattle.opl_fields.proofs.Consumed.{Consumes, consumes-none, consumes-both, consumes-one, consumes-by, consumes-typed}
 

@@ -12,27 +12,26 @@ use Rattle.opl_tree.specs.declared.expression.Relation.{Relation}
 use Rattle.opl_term.specs.declared.term.GroupTerm.{GroupTerm}
 use Rattle.opl_term.specs.declared.term.SetTerm.{SetTerm}
 use Rattle.opl_term.specs.declared.term.SetTerm.TheVariants as sets_of
-use Rattle.opl_term.specs.declared.term.Step.{Step}
 use Rattle.opl_term.specs.declared.term.Term.{Term}
 use Rattle.opl_term.specs.declared.term.Term.TheVariants as terms
 use Rattle.opl_types.specs.declared.fault.TypeFault.{TypeFault}
 use Rattle.opl_types.specs.declared.fault.TypeFault.TheVariants.{Unknown, Mismatch, NotData}
-use Rattle.opl_types.specs.Types.{Sort, is_number, is_truth, is_set, is_storable, is_array_of_single, is_anything, row, sorts_of}
-use Rattle.opl_types.specs.Types.Sort.{int, bool, array, structure, activity, anything, set}
+use Rattle.opl_types.specs.Types.{Sort, is_number, is_truth, is_set}
+use Rattle.opl_types.specs.Types.Sort.{array, structure, activity}
 use Rattle.opl_types.specs.Scope.{Checked, Scope, Thing, and_then, unless, field_sort, fields, lookup, all_fresh}
-use Rattle.opl_types.specs.Forms.{Form, Forms, Pair, SetForm, Group, Groups, Params, forms_of, pairs_of, groups_of, call}
-use Rattle.opl_types.specs.Forms.Form.{number, named, bracket, negative, arithmetic, absolute, related, member, connected, aggregate, cardinality, all_different, subscripted, field, tuple, listed, described, cells, keyed_cells, question}
+use Rattle.opl_types.specs.Forms.{Form, Pair, SetForm, Group, Params, forms_of, pairs_of, groups_of, call}
+use Rattle.opl_types.specs.Forms.Form.{number, named, bracket, negative, arithmetic, related, member, connected, aggregate, all_different, subscripted, field, tuple, listed, described, cells, keyed_cells, question}
 use Rattle.opl_types.specs.Forms.Params.{all_of, those_of}
 use Rattle.opl_types.specs.Forms.SetForm.{whole, between}
-use Rattle.opl_types.specs.Expressions.{Node, Need, Range, Opened, kinds, kinds_in, node, made, of_data, settled, used, part, any_type, is_met, is_data, data_number, name_node, bracketed, element_node, field_node, known_field, is_time, question_node, pattern_names, bind_patterns, or_anything, scope_within, typing, typed_parts, typed_pairs, typed_set, open_groups, open_params}
+use Rattle.opl_types.specs.Expressions.{Node, Need, Range, Opened, kinds, kinds_in, settled, used, part, any_type, data_number, name_node, element_node, field_node, known_field, is_time, bind_patterns, or_anything, scope_within, typing, typed_parts, typed_pairs, typed_set, open_groups, open_params}
 use Rattle.opl_types.specs.Expressions.Need.{nothing, data_alone}
 use Rattle.opl_fields.specs.declared.place.FieldPlace.{FieldPlace}
 use Rattle.opl_fields.specs.Structs.{position}
-use Rattle.opl_fields.specs.Walk.{State, Pass, one, each, if_written, in_turn, noted, note, walk, walk_step, walk_set, walk_group}
+use Rattle.opl_fields.specs.Walk.{State, Pass, one, each, if_written, in_turn, noted, note, walk, walk_set, walk_group}
 use Rattle.opl_fields.specs.Fields.{record_of}
 use Rattle.opl_fields.specs.Typed.{placed, field_of_record, field_of, scope_behind, scope_or, scope_bound, form_fields, parts_fields, pairs_fields, set_fields, groups_fields, params_fields}
 use Rattle.opl_fields.specs.Laws.{known}
-use Rattle.opl_fields.proofs.Walks.{walk-Number, walk-Named, walk-Bracket, walk-Negative, walk-Chain, walk-Related, walk-Member, walk-Equivalent, walk-Implied, walk-Or, walk-And, walk-Not, walk-Aggregate, walk-Call, walk-AllDifferent, walk-Question, walk-Element, walk-Field, walk-Record, walk-Listed, walk-Described, walk-Array, walk-KeyedArray, walk_set-Whole, walk_set-Between}
+use Rattle.opl_fields.proofs.Walks.{walk-Named, walk-Bracket, walk-Negative, walk-Related, walk-Member, walk-Aggregate, walk-Call, walk-AllDifferent, walk-Question, walk-Element, walk-Field, walk-Record, walk-Listed, walk-Described, walk-Array, walk-KeyedArray, walk_set-Whole, walk_set-Between}
 
 -- ---- what a walk takes and finds
 

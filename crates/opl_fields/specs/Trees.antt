@@ -1,5 +1,5 @@
 -- The walk over a model's trees: its expressions in the order of the text, in which typing lists their types.
-use Rattle.std.specs.Prelude.{ℕ, List, [], ◌∷◌, map, Option, Some, None}
+use Rattle.std.specs.Prelude.{List, ◌∷◌, map, Option, Some, None}
 use Rattle.std.specs.Option.{option_map}
 use Rattle.opl_tree.specs.declared.declaration.BoundsTree.{BoundsTree}
 use Rattle.opl_tree.specs.declared.declaration.DeclTree.{DeclTree}
@@ -12,7 +12,6 @@ use Rattle.opl_tree.specs.declared.expression.AddTree.{AddTree}
 use Rattle.opl_tree.specs.declared.expression.ExprTree.{ExprTree}
 use Rattle.opl_tree.specs.declared.expression.ParamsTree.{ParamsTree}
 use Rattle.opl_tree.specs.declared.expression.PostTree.{PostTree}
-use Rattle.opl_tree.specs.declared.expression.SetTree.{SetTree}
 use Rattle.opl_tree.specs.declared.expression.SubscriptsTree.{SubscriptsTree}
 use Rattle.opl_tree.specs.declared.instruction.BlockTree.{BlockTree}
 use Rattle.opl_tree.specs.declared.instruction.InstrTree.{InstrTree}
@@ -32,7 +31,7 @@ use Rattle.opl_tree.specs.declared.search.StatementTree.TheFolds.{fold-Statement
 use Rattle.opl_tree.specs.declared.search.StatementsTree.{StatementsTree}
 use Rattle.opl_term.specs.declared.term.ParamsTerm.{ParamsTerm}
 use Rattle.opl_term.specs.Terms.{expr_term, add_term, post_term, set_term, params_term, subscripts_terms}
-use Rattle.opl_fields.specs.Walk.{State, Pass, before, each, if_written, walk, walk_set, walk_group}
+use Rattle.opl_fields.specs.Walk.{Pass, each, if_written, walk, walk_set, walk_group}
 
 -- ---- expressions
 

@@ -1,5 +1,5 @@
 //! Laws of the walk, as contracts of functions without effect.
-ghost use Rattle.opl_fields.specs.Laws.{PositionsAreRight, WalkFollowsTyping, WalkTakesAll};
+ghost use Rattle.opl_fields.specs.Laws.{FieldsHavePositions, PositionsAreRight, WalkFollowsTyping, WalkTakesAll};
 
 /// Where typing accepts an expression, the walk over it takes exactly the types that typing lists, whatever follows them, and finds
 /// the fields that typing tells.
@@ -15,4 +15,9 @@ pub fn walk_takes_all()
 /// At the position of a field stands the field's name.
 pub fn positions_are_right()
     ensures { PositionsAreRight }
+{}
+
+/// Where there are fewer than 2^32 declarations, a field that typing finds in a struct has a position in it.
+pub fn fields_have_positions()
+    ensures { FieldsHavePositions }
 {}

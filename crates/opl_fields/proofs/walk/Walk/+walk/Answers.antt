@@ -1,4 +1,4 @@
-use Rattle.std.proofs.Common.{◌≡◌, ◌≤◌, length, arith, ◌∙◌}
+use Rattle.std.proofs.Common.{◌≤◌, length, arith, ◌∙◌}
 use Rattle.opl_fields.specs.Walk.{walk}
 use Rattle.opl_fields.proofs.Lists.{cells_done, keys_done, said}
 use Rattle.opl_fields.proofs.Walks.{walk-Aggregate, walk-Described}
