@@ -3,6 +3,7 @@ pub mod Declared
 pub mod Examples
 pub mod Followed
 pub mod Items
+pub mod Kept
 pub mod Lists
 pub mod Models
 pub mod Positions

@@ -1,14 +1,17 @@
 -- The walk and typing go together.
-use Rattle.std.specs.Prelude.{◌≡◌, ℕ, ◌<◌, ◌^◌, List, ◌++◌, map, length, Option, Some, Ok}
+use Rattle.std.specs.Prelude.{◌≡◌, ℕ, ◌<◌, ◌^◌, List, [], ◌∷◌, ◌++◌, map, length, Option, Some, Ok}
 use Rattle.std.specs.List.{slice_get}
 use Rattle.opl_tree.specs.declared.declaration.DeclTree.{DeclTree}
 use Rattle.opl_tree.specs.declared.expression.ExprTree.{ExprTree}
+use Rattle.opl_tree.specs.declared.expression.NameTree.{NameTree}
 use Rattle.opl_tree.specs.declared.model.ModelTree.{ModelTree}
 use Rattle.opl_term.specs.Terms.{expr_term}
 use Rattle.opl_types.specs.Types.{Sort}
+use Rattle.opl_types.specs.Types.Sort.{structure}
 use Rattle.opl_types.specs.Scope.{Scope, empty_scope, field_sort, fields}
-use Rattle.opl_types.specs.Forms.{form_expr}
-use Rattle.opl_types.specs.Expressions.{Node, Opened, kinds, typing}
+use Rattle.opl_types.specs.Forms.{Form, Params, form_expr}
+use Rattle.opl_types.specs.Forms.Form.{field}
+use Rattle.opl_types.specs.Expressions.{Node, Need, Opened, kinds, typing, open_params}
 use Rattle.opl_types.specs.Declarations.{all_decls}
 use Rattle.opl_types.specs.Models.{model}
 use Rattle.opl_fields.specs.declared.place.FieldPlace.{FieldPlace}
@@ -40,8 +43,22 @@ WalkTakesAll =
 abbrev pub PositionsAreRight : Type 0
 PositionsAreRight = (ds : List DeclTree) (k : ℕ) (name : List ℕ) (p : ℕ) → position ds k name ≡ Some p → slice_get (field_names ds k) p ≡ Some name
 
--- where there are fewer than 2^32 declarations, a field that typing finds in a struct has a position in it
+-- each field that typing finds in a struct visible in the scope has a position in that struct
+abbrev pub HavePositions : List DeclTree → Scope → Type 0
+HavePositions ds sc = (k : ℕ) (name : List ℕ) (s : Sort) → field_sort name (fields sc k) ≡ Some s → (p : ℕ) × (position ds k name ≡ Some p)
+
+-- that is so behind the declarations, where there are fewer than 2^32
 abbrev pub FieldsHavePositions : Type 0
-FieldsHavePositions =
-    (ds : List DeclTree) (o : Opened) → length ds < 2 ^ 32 → all_decls 0 empty_scope ds ≡ Ok o →
-    (k : ℕ) (name : List ℕ) (s : Sort) → field_sort name (fields o.scope k) ≡ Some s → (p : ℕ) × (position ds k name ≡ Some p)
+FieldsHavePositions = (ds : List DeclTree) (o : Opened) → length ds < 2 ^ 32 → all_decls 0 empty_scope ds ≡ Ok o → HavePositions ds o.scope
+
+-- and it stays so inside parameters
+abbrev pub ParametersKeepPositions : Type 0
+ParametersKeepPositions =
+    (ds : List DeclTree) (need : Need) (sc : Scope) (p : Params) (o : Opened) → HavePositions ds sc → open_params need sc p ≡ Ok o → HavePositions ds o.scope
+
+-- so where typing accepts `e.f` and e is a record, the field is told, last of those in `e.f`, with its position in the record's struct
+abbrev pub FieldsAreTold : Type 0
+FieldsAreTold =
+    (ds : List DeclTree) (sc : Scope) (at : ℕ) (f : Form) (name : NameTree) (base n : Node) (k : ℕ) →
+    HavePositions ds sc → typing sc f ≡ Ok base → base.sort ≡ structure k → typing sc (field at f name) ≡ Ok n →
+    (p : ℕ) × (position ds k name.text ≡ Some p) × (form_fields ds sc (field at f name) ≡ form_fields ds sc f ++ record { place = name.at; position = p } ∷ [])

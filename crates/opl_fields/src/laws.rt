@@ -1,5 +1,5 @@
 //! Laws of the walk, as contracts of functions without effect.
-ghost use Rattle.opl_fields.specs.Laws.{FieldsHavePositions, PositionsAreRight, WalkFollowsTyping, WalkTakesAll};
+ghost use Rattle.opl_fields.specs.Laws.{FieldsAreTold, FieldsHavePositions, ParametersKeepPositions, PositionsAreRight, WalkFollowsTyping, WalkTakesAll};
 
 /// Where typing accepts an expression, the walk over it takes exactly the types that typing lists, whatever follows them, and finds
 /// the fields that typing tells.
@@ -17,7 +17,17 @@ pub fn positions_are_right()
     ensures { PositionsAreRight }
 {}
 
-/// Where there are fewer than 2^32 declarations, a field that typing finds in a struct has a position in it.
+/// Behind fewer than 2^32 declarations each field that typing finds in a struct has a position in it.
 pub fn fields_have_positions()
     ensures { FieldsHavePositions }
+{}
+
+/// Inside parameters too.
+pub fn parameters_keep_positions()
+    ensures { ParametersKeepPositions }
+{}
+
+/// So a field of a record that typing accepts is told, with its position in the record's struct.
+pub fn fields_are_told()
+    ensures { FieldsAreTold }
 {}
