@@ -1,0 +1,14 @@
+pub mod Consumed
+pub mod Declared
+pub mod Examples
+pub mod Followed
+pub mod Items
+pub mod Kept
+pub mod Lists
+pub mod Models
+pub mod Positions
+pub mod Sorts
+pub mod Starts
+pub mod Statements
+pub mod Taken
+pub mod Walks

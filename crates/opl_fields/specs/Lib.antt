@@ -1,0 +1,6 @@
+pub mod Fields
+pub mod Laws
+pub mod Structs
+pub mod Trees
+pub mod Typed
+pub mod Walk
