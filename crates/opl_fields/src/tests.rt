@@ -26,22 +26,22 @@ fn sum(alloc: Global, at: u32, prim: PrimTree, suffixes: Seq<SuffixTree>) -> Add
     }
 }
 
-fn field(alloc: Global, at: u32, text: &[u8]) -> Result<FieldTree, AllocError> {
-    Ok(FieldTree {
+fn field(at: u32, name: NameTree) -> FieldTree {
+    FieldTree {
         at,
         kind: TypeTree::Int(at),
-        name: name(alloc, at + 4, text)?,
-    })
+        name,
+    }
 }
 
 /// `struct P {int a; int b;};` at 0
 fn pairs(alloc: Global) -> Result<DeclTree, AllocError> {
     let mut rest = Seq::new(alloc);
-    rest.push(field(alloc, 17, b"b")?)?;
+    rest.push(field(17, name(alloc, 21, b"b")?))?;
     Ok(DeclTree::Structure(StructTree {
         at: 0,
         name: name(alloc, 7, b"P")?,
-        first: field(alloc, 10, b"a")?,
+        first: field(10, name(alloc, 14, b"a")?),
         rest,
     }))
 }
