@@ -16,12 +16,12 @@ use Rattle.opl_eval.specs.Scopes.{chosen, turns}
 use Rattle.opl_eval.specs.Visits.{bodies_of, group_visits, over_visits}
 use Rattle.opl_eval.proofs.Meanings as by
 
-append-assoc : {A : Type 0} (xs ys zs : List A) → xs ++ (ys ++ zs) ≡ (xs ++ ys) ++ zs
+pub append-assoc : {A : Type 0} (xs ys zs : List A) → xs ++ (ys ++ zs) ≡ (xs ++ ys) ++ zs
 append-assoc [] ys zs = refl
 append-assoc (x ∷ xs) ys zs = ap (λ r. x ∷ r) (append-assoc xs ys zs)
 
 -- what is found in one list and then in another
-found-twice : {A : Type 0} (xs ys : List A) (r : Found (List A)) → found (λ zs. xs ++ zs) (found (λ zs. ys ++ zs) r) ≡ found (λ zs. (xs ++ ys) ++ zs) r
+pub found-twice : {A : Type 0} (xs ys : List A) (r : Found (List A)) → found (λ zs. xs ++ zs) (found (λ zs. ys ++ zs) r) ≡ found (λ zs. (xs ++ ys) ++ zs) r
 found-twice xs ys (Ok zs) = ap (λ l. Ok l) (append-assoc xs ys zs)
 found-twice xs ys (Err e) = refl
 
@@ -34,12 +34,12 @@ joined (Ok xs) (Ok ys) r = found-twice xs ys r
 joined (Ok xs) (Err e) r = refl
 joined (Err e) b r = refl
 
-gathered-append : {A : Type 0} (as bs : List (Found (List A))) → gathered (as ++ bs) ≡ then (gathered as) (λ xs. found (λ ys. xs ++ ys) (gathered bs))
+gathered-append : {A : Type 0} (rs bs : List (Found (List A))) → gathered (rs ++ bs) ≡ then (gathered rs) (λ xs. found (λ ys. xs ++ ys) (gathered bs))
 gathered-append [] bs = sym (none-first (gathered bs))
-gathered-append (a ∷ as) bs =
-    ap (λ r. then a (λ xs. found (λ ys. xs ++ ys) r)) (gathered-append as bs) ∙ joined a (gathered as) (gathered bs)
+gathered-append (r ∷ rs) bs =
+    ap (λ q. then r (λ xs. found (λ ys. xs ++ ys) q)) (gathered-append rs bs) ∙ joined r (gathered rs) (gathered bs)
 
-map-append : {A B : Type 0} (f : A → B) (xs ys : List A) → map f (xs ++ ys) ≡ map f xs ++ map f ys
+pub map-append : {A B : Type 0} (f : A → B) (xs ys : List A) → map f (xs ++ ys) ≡ map f xs ++ map f ys
 map-append f [] ys = refl
 map-append f (x ∷ xs) ys = ap (λ r. f x ∷ r) (map-append f xs ys)
 

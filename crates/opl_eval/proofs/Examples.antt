@@ -1,5 +1,5 @@
 -- Expressions that were evaluated by hand.
-use Rattle.std.proofs.Common.{◌≡◌, ◌∙◌, ◌^◌, ℕ, ℤ, pos, negsuc, Bool as Truth, true, false, cond, ◌||◌, List, [], ◌∷◌, map, None, Some, Ok, Err, refl, ap}
+use Rattle.std.proofs.Common.{◌≡◌, ◌∙◌, ◌^◌, ℕ, ℤ, pos, negsuc, Bool as Truth, true, false, cond, ◌||◌, List, [], ◌∷◌, ◌++◌, map, None, Some, Ok, Err, refl, ap}
 use Rattle.std.specs.Prelude.{codes}
 use denote.Hole
 use Rattle.std.specs.Ordering.{is_eq}
@@ -106,8 +106,8 @@ called_by text v = record { name = text; value = v }
 -- the parts of the two rows by name
 named_parts : choices (means_of (unordered (Parts (codes "i" ∷ codes "j" ∷ []) ∷ []) (whole (name 0 (codes "T"))))) two_rows
     ≡ (called_by (codes "i") (Int (pos 1)) ∷ called_by (codes "j") (Int (pos 3)) ∷ []) ∷ (called_by (codes "i") (Int (pos 2)) ∷ called_by (codes "j") (Int (pos 4)) ∷ []) ∷ []
-named_parts = λ i. bound_parts (codes "i" ∷ codes "j" ∷ []) (parts_layer (values.outs-Record (Int (pos 1) ∷ Int (pos 3) ∷ []) i))
-    ∷ bound_parts (codes "i" ∷ codes "j" ∷ []) (parts_layer (values.outs-Record (Int (pos 2) ∷ Int (pos 4) ∷ []) i)) ∷ []
+named_parts = λ i. (bound_parts (codes "i" ∷ codes "j" ∷ []) (parts_layer (values.outs-Record (Int (pos 1) ∷ Int (pos 3) ∷ []) i)) ++ [])
+    ∷ (bound_parts (codes "i" ∷ codes "j" ∷ []) (parts_layer (values.outs-Record (Int (pos 2) ∷ Int (pos 4) ∷ []) i)) ++ []) ∷ []
 
 -- ---- chains
 

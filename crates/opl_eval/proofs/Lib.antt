@@ -2,9 +2,13 @@ pub mod Choices
 pub mod Different
 pub mod Evals
 pub mod Examples
+pub mod Keys
 pub mod Known
+pub mod Latest
+pub mod Loops
 pub mod Meanings
 pub mod NumberLaws
+pub mod Patterns
 pub mod SetElements
 pub mod Sized
 pub mod Sizes

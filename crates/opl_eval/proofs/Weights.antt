@@ -1,5 +1,5 @@
 -- The weight of each form of terms.
-use Rattle.std.proofs.Common.{◌≡◌, ◌+◌, ◌*◌, ◌<◌, ◌≤◌, ℕ, ℤ, List, [], ◌∷◌, map, sum, length, get_or, zero, suc, Option, None, Some, absurd, refl, ap, sym, ◌∙◌, arith}
+use Rattle.std.proofs.Common.{◌≡◌, ◌+◌, ◌*◌, ◌<◌, ◌≤◌, ℕ, ℤ, List, [], ◌∷◌, map, sum, length, get_or, zero, suc, Option, None, Some, refl, ap, sym, ◌∙◌, arith}
 use Rattle.std.specs.Option.{option_map}
 use Rattle.opl_tree.specs.declared.expression.AggregateOp.{AggregateOp}
 use Rattle.opl_tree.specs.declared.expression.CallOp.{CallOp}
@@ -130,8 +130,18 @@ weight-Remainder t = ap step_weight (sym (steps.rolls-Remainder t)) ∙ rw fold-
 -- one of a list weighs no more than all
 pub weight-at : {A : Type 0} (w : A → ℕ) (xs : List A) (i : ℕ) (x : A) → i < length xs → x ≡ get_or xs i x → w x ≤ sum (map w xs)
 weight-at w [] i x l e = absurd (omega arith)
-weight-at w (y ∷ ys) zero x l e = omega (arith, ap w e)
-weight-at w (y ∷ ys) (suc i) x l e = omega (arith, weight-at w ys i x (omega arith) e)
+weight-at w (y ∷ ys) zero x l e =
+    let same : w x ≡ w y = ap w e in
+    let all : sum (map w (y ∷ ys)) ≡ w y + sum (map w ys) = refl in
+    omega (arith, same, all)
+weight-at w (y ∷ ys) (suc i) x l e =
+    let all : sum (map w (y ∷ ys)) ≡ w y + sum (map w ys) = refl in
+    let within : w x ≤ sum (map w ys) = weight-at w ys i x (omega arith) e in
+    omega (arith, all, within)
+
+-- a list weighs as much as its first and the others
+pub weight-more : {A : Type 0} (w : A → ℕ) (x : A) (xs ys : List A) → ys ≡ x ∷ xs → sum (map w ys) ≡ w x + sum (map w xs)
+weight-more w x xs ys e = ap (λ l. sum (map w l)) e
 
 pub ruleset weights = (weight-Bracket, weight-Negative, weight-Chain, weight-Related, weight-Member, weight-Equivalent, weight-Implied, weight-Or, weight-And, weight-Not, weight-Call, weight-AllDifferent, weight-Element, weight-Field, weight-Record, weight-Listed, weight-Aggregate, weight-Described)
 
@@ -140,3 +150,4 @@ pub ruleset weights_of_sets = (weight-Whole, weight-Between)
 pub ruleset weights_of_groups = (weight-Unordered, weight-Ordered)
 
 pub ruleset weights_of_steps = (weight-Plus, weight-Minus, weight-Times, weight-Quotient, weight-Remainder)
+pub ruleset weights_of_lists = (weight-at, weight-more)

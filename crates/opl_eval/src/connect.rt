@@ -1,5 +1,5 @@
 //! What operations make of the values of their operands.
-ghost use Rattle.std.specs.Prelude.{◌≡◌, IfOk, map};
+ghost use Rattle.std.specs.Prelude.{◌≡◌, IfOk, fold, map};
 ghost use Rattle.std.specs.List.{list_all, list_any};
 ghost use Rattle.std.specs.Option.{option_copied, option_map};
 ghost use Rattle.opl_value.specs.declared.value.Dimension.TheViews.{out-Value};
@@ -55,25 +55,35 @@ pub(crate) fn all_true(values: &[Value]) -> bool
 pub(crate) fn equivalent(values: &[Value]) -> bool
     ensures { result ≡ spec.equivalent values.now }
 {
-    let Some((first, others)) = values.split_first() else {
-        return true;
-    };
-    let mut holds = is_true(first);
+    match values.split_first() {
+        Some((first, others)) => equivalent_from(is_true(first), others),
+        None => true,
+    }
+}
+
+/// The same behind a first truth.
+fn equivalent_from(first: bool, others: &[Value]) -> bool
+    ensures { result ≡ fold (λ holds v. spec.same holds (spec.is_true v)) first others.now }
+{
+    let mut holds = first;
     for value in others {
-        holds = holds == is_true(value);
+        holds = same(holds, is_true(value));
     }
     holds
+}
+
+/// Whether two truths are the same.
+fn same(a: bool, b: bool) -> bool
+    ensures { result ≡ spec.same a b }
+{
+    if a { b } else { !b }
 }
 
 /// The numbers that values count as.
 fn numbers(alloc: Global, values: &[Value]) -> Result<Vec<i128>, AllocError>
     ensures { IfOk result (λ numbers. numbers.items ≡ map compare.number values.now) }
 {
-    let mut numbers = Vec::new(alloc);
-    for value in values {
-        numbers.push(number(value))?;
-    }
-    Ok(numbers)
+    values.iter().map(|value| number(value)).collect(alloc)
 }
 
 /// An aggregate of numbers.
@@ -156,22 +166,22 @@ pub(crate) fn set_of<'a>(alloc: Global, values: Vec<Value>) -> Result<Held<'a>, 
 /// The part of a record at a position.
 pub(crate) fn part<'a>(
     alloc: Global,
-    record: Held<'a>,
+    whole: Held<'a>,
     position: u32,
 ) -> Result<Held<'a>, AllocError>
-    ensures { IfOk result (λ part. held part ≡ value_at (spec.parts (held record.entry)) position) }
+    ensures { IfOk result (λ part. held part ≡ value_at (spec.parts (held whole.entry)) position) }
 {
-    match record {
+    match whole {
         Held::Borrowed(value) => Ok(cell(parts_of(value), position as usize)),
         Held::Owned(value) => owned_part(alloc, &value, position),
     }
 }
 
 /// The same of a record that does not last.
-fn owned_part<'a>(alloc: Global, record: &Value, position: u32) -> Result<Held<'a>, AllocError>
-    ensures { IfOk result (λ part. held part ≡ value_at (spec.parts record.now) position) }
+fn owned_part<'a>(alloc: Global, whole: &Value, position: u32) -> Result<Held<'a>, AllocError>
+    ensures { IfOk result (λ part. held part ≡ value_at (spec.parts whole.now) position) }
 {
-    let part = cell(parts_of(record), position as usize).into_value(alloc)?;
+    let part = cell(parts_of(whole), position as usize).into_value(alloc)?;
     Ok(Held::Owned(part))
 }
 

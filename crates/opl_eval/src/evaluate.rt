@@ -179,7 +179,7 @@ pub(crate) fn evaluate_set<'a>(
 }
 
 /// What terms come to, one after another.
-#[tactic(auto, using(crate::proofs::Weights::weight_at))]
+#[tactic(auto, using(crate::proofs::Weights::weights_of_lists))]
 #[cycle(evaluation)]
 fn values(alloc: Global, scope: Scope<'_>, terms: &[Term]) -> Result<Vec<Value>, EvalFault>
     ensures { Gives (λ vs. vs.items) (spec.all (map (λ t. spec.eval t (names_in scope.entry)) terms.now)) result }
@@ -192,7 +192,7 @@ fn values(alloc: Global, scope: Scope<'_>, terms: &[Term]) -> Result<Vec<Value>,
 }
 
 /// The operations of a chain, with their operands evaluated one after another.
-#[tactic(auto, using(crate::proofs::Weights::weight_at))]
+#[tactic(auto, using(crate::proofs::Weights::weights_of_lists))]
 #[cycle(evaluation)]
 fn operations(
     alloc: Global,

@@ -1,6 +1,7 @@
 //! Evaluation of data expressions: numbers, comparisons, and what an expression means.
 #![tactic(auto)]
 
+mod answer;
 mod arithmetic;
 mod compare;
 mod connect;
@@ -17,6 +18,7 @@ mod scope;
 mod tests;
 mod visible;
 
+pub use answer::{eval, eval_set};
 pub use arithmetic::{
     Operation, absolute, applied, greatest, least, minus, negative, plus, product, quotient,
     remainder, run, sum, times,
