@@ -1,5 +1,5 @@
 -- Choices, element by element.
-use Rattle.std.proofs.Common.{◌≡◌, Bool, true, false, cond, List, [], ◌∷◌, ◌++◌, map, Option, None, Some, Ok, Err, refl, ap, sym, ◌∙◌}
+use Rattle.std.proofs.Common.{◌≡◌, ◌≢◌, ℕ, Bool, true, false, cond, List, [], ◌∷◌, ◌++◌, map, Option, None, Some, Ok, Err, refl, ap, sym, ◌∙◌}
 use Rattle.std.specs.List.{flat_map}
 use Rattle.std.specs.Option.{option_copied, option_map}
 use Rattle.std.proofs.lemmas.List.{append-nil}
@@ -10,10 +10,11 @@ use Rattle.opl_term.specs.declared.term.SetTerm.{SetTerm}
 use Rattle.opl_value.specs.declared.value.Value.{Value}
 use Rattle.opl_eval.specs.declared.evaluate.Visit.{Visit}
 use Rattle.opl_eval.specs.declared.fault.EvalFault.{EvalFault}
+use Rattle.opl_eval.specs.declared.fault.EvalFault.TheVariants.{OutOfMemory}
 use Rattle.opl_eval.specs.Arithmetic.{then}
 use Rattle.opl_eval.specs.Evaluation.{Environment, Parameter, Found, Group, found, bound, with_parameters, independent, in_order, choices, gathered, visited, bodies, body_where, elements, declaration_of, group_meaning, set_meaning, meaning}
 use Rattle.opl_eval.specs.Scopes.{chosen, turns}
-use Rattle.opl_eval.specs.Visits.{bodies_of, group_visits, over_visits}
+use Rattle.opl_eval.specs.Visits.{bodies_in, bodies_of, group_visits, over_visits}
 use Rattle.opl_eval.proofs.Meanings as by
 
 pub append-assoc : {A : Type 0} (xs ys zs : List A) → xs ++ (ys ++ zs) ≡ (xs ++ ys) ++ zs
@@ -67,16 +68,16 @@ module _ {A : Type 0} (inner : Environment → Found (List A)) where
 
   of_independent : (ps : List Pattern) (vs : List Value) (env : Environment) → gathered (map (under env) (independent ps vs)) ≡ chosen false ps vs inner env
   of_independent [] vs env = one-choice env
-  of_independent (p ∷ ps) vs env = along vs
+  of_independent (p ∷ ps) vs env = along (of_independent ps vs) vs
     where
-      along : (ws : List Value) → gathered (map (under env) (flat_map (λ v. map (λ later. bound p v ++ later) (independent ps vs)) ws)) ≡ turns (λ later v. chosen false ps vs inner (with_parameters (bound p v) env)) ws
-      along [] = refl
-      along (w ∷ ws) =
+      along : ((e : Environment) → gathered (map (under e) (independent ps vs)) ≡ chosen false ps vs inner e) → (ws : List Value) → gathered (map (under env) (flat_map (λ v. map (λ later. bound p v ++ later) (independent ps vs)) ws)) ≡ turns (λ later v. chosen false ps vs inner (with_parameters (bound p v) env)) ws
+      along others [] = refl
+      along others (w ∷ ws) =
           ap gathered (map-append (under env) (map (λ later. bound p w ++ later) (independent ps vs)) (flat_map (λ v. map (λ later. bound p v ++ later) (independent ps vs)) ws))
           ∙ gathered-append (map (under env) (map (λ later. bound p w ++ later) (independent ps vs))) (map (under env) (flat_map (λ v. map (λ later. bound p v ++ later) (independent ps vs)) ws))
           ∙ ap (λ cs. then (gathered cs) (λ xs. found (λ ys. xs ++ ys) (gathered (map (under env) (flat_map (λ v. map (λ later. bound p v ++ later) (independent ps vs)) ws))))) (behind (bound p w) (independent ps vs) env)
-          ∙ ap (λ r. then r (λ xs. found (λ ys. xs ++ ys) (gathered (map (under env) (flat_map (λ v. map (λ later. bound p v ++ later) (independent ps vs)) ws))))) (of_independent ps vs (with_parameters (bound p w) env))
-          ∙ ap (λ r. then (chosen false ps vs inner (with_parameters (bound p w) env)) (λ xs. found (λ ys. xs ++ ys) r)) (along ws)
+          ∙ ap (λ r. then r (λ xs. found (λ ys. xs ++ ys) (gathered (map (under env) (flat_map (λ v. map (λ later. bound p v ++ later) (independent ps vs)) ws))))) (others (with_parameters (bound p w) env))
+          ∙ ap (λ r. then (chosen false ps vs inner (with_parameters (bound p w) env)) (λ xs. found (λ ys. xs ++ ys) r)) (along others ws)
 
   of_in_order : (ps : List Pattern) (vs : List Value) (env : Environment) → gathered (map (under env) (in_order ps vs)) ≡ chosen true ps vs inner env
   of_in_order [] vs env = one-choice env
@@ -104,7 +105,7 @@ visited-more g gs inner env = alike-then (g.over.value env) _ _ (λ v. of_choice
 -- groups, the first in front
 pub visits-more : (g : GroupTerm) (gs : List GroupTerm) (all later : Visit) (env : Environment) → all.groups.now ≡ g ∷ gs → later.groups.now ≡ gs → later.condition ≡ all.condition → later.body ≡ all.body →
     bodies_of all env ≡ group_visits g later env
-unfolding bodies_of group_visits
+unfolding bodies_in group_visits
 visits-more g gs all later env h k c b =
     ap (λ l. bodies (map group_meaning l) (option_map meaning (option_copied all.condition)) (meaning all.body.now) env) h
     ∙ visited-more (group_meaning g) (map group_meaning gs) (body_where (option_map meaning (option_copied all.condition)) (meaning all.body.now)) env
@@ -114,7 +115,7 @@ visits-more g gs all later env h k c b =
     same = λ i e. visited (map group_meaning (sym k i)) (body_where (option_map meaning (option_copied (sym c i))) (meaning (sym b i).now)) e
 
 pub visits-none : (all : Visit) (env : Environment) → all.groups.now ≡ [] → bodies_of all env ≡ body_where (option_map meaning (option_copied all.condition)) (meaning all.body.now) env
-unfolding bodies_of
+unfolding bodies_in
 visits-none all env h = ap (λ l. bodies (map group_meaning l) (option_map meaning (option_copied all.condition)) (meaning all.body.now) env) h
 
 pub group-Unordered : (ps : List Pattern) (s : SetTerm) (later : Visit) (env : Environment) → group_visits (groups.Unordered ps s) later env ≡ over_visits false ps s later env
@@ -126,5 +127,21 @@ pub group-Ordered : (ps : List Pattern) (s : SetTerm) (later : Visit) (env : Env
 unfolding group_visits over_visits
 group-Ordered ps s later env =
     ap (λ g. then (g.over.value env) (λ v. chosen g.is_ordered g.patterns (elements (declaration_of (g.over.item env)) v) (bodies_of later) env)) (by.group_meaning-Ordered ps s)
+
+-- patterns over a set
+pub over-made : (is_ordered : Bool) (ps : List Pattern) (over : SetTerm) (later : Visit) (env : Environment) (v w : Value) (d : ℕ) (es : List Value) → (set_meaning over).value env ≡ Ok v → d ≡ declaration_of ((set_meaning over).item env) → w ≡ v →
+    ◌≡◌ {A = Found (List Value)} (Ok (elements d w)) (Ok es) → over_visits is_ordered ps over later env ≡ chosen is_ordered ps es (bodies_of later) env
+unfolding over_visits
+over-made is_ordered ps over later env v w d es h e g l =
+    ap (λ r. then r (λ x. chosen is_ordered ps (elements (declaration_of ((set_meaning over).item env)) x) (bodies_of later) env)) h
+    ∙ ap (λ x. chosen is_ordered ps x (bodies_of later) env) (ap (λ n. elements n v) (sym e) ∙ ap (elements d) (sym g) ∙ same l)
+  where
+    same : ◌≡◌ {A = Found (List Value)} (Ok (elements d w)) (Ok es) → elements d w ≡ es
+    same q = cc
+
+pub over-fault : (is_ordered : Bool) (ps : List Pattern) (over : SetTerm) (later : Visit) (env : Environment) (e : EvalFault) → (e ≢ OutOfMemory → (set_meaning over).value env ≡ Err e) → e ≢ OutOfMemory → over_visits is_ordered ps over later env ≡ Err e
+unfolding over_visits
+over-fault is_ordered ps over later env e h n =
+    ap (λ r. then r (λ x. chosen is_ordered ps (elements (declaration_of ((set_meaning over).item env)) x) (bodies_of later) env)) (h n)
 
 pub ruleset groups_of = (group-Unordered, group-Ordered)

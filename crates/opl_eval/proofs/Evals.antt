@@ -1,5 +1,5 @@
 -- What each form of terms comes to, by what its parts come to.
-use Rattle.std.proofs.Common.{◌≡◌, ◌||◌, ℕ, ℤ, pos, Bool as Truth, not, List, [], ◌∷◌, map, Option, None, Some, Ok, refl, ap, ◌∙◌}
+use Rattle.std.proofs.Common.{◌≡◌, ◌||◌, ℕ, ℤ, pos, Bool as Truth, not, List, [], ◌∷◌, map, Option, None, Some, Ok, Err, refl, ap, ◌∙◌}
 use Rattle.std.specs.Option.{option_map}
 use Rattle.std.specs.List.{list_any, list_all}
 use Rattle.opl_tree.specs.declared.expression.AggregateOp.{AggregateOp}
@@ -23,14 +23,21 @@ use Rattle.opl_eval.specs.declared.arithmetic.Operation.TheVariants as operation
 use Rattle.opl_eval.specs.Arithmetic.{then, run, negative}
 use Rattle.opl_eval.specs.Compare.{number, relates, is_member}
 use Rattle.opl_eval.specs.Evaluation.{Environment, Found, Group, Meaning, aggregate, all, bodies, between, called, different_layer, element, equivalent, eval, found, integer, is_true, meaning, parts, set_meaning, step_meaning, group_meaning, truth, value_named, values_of}
+use Rattle.opl_eval.specs.Visits.{bodies_in, operations_in, values_in}
 use Rattle.opl_eval.proofs.Meanings as by
 
 -- the meanings of parts, and what they come to
-each-term : (ts : List Term) (env : Environment) → values_of (map meaning ts) env ≡ all (map (λ t. eval t env) ts)
+each-term : (ts : List Term) (env : Environment) → values_of (map meaning ts) env ≡ values_in ts env
+unfolding values_in
 each-term [] env = refl
 each-term (t ∷ ts) env = ap (λ r. then (eval t env) (λ x. found (λ xs. x ∷ xs) r)) (each-term ts env)
 
-each-step : (ss : List Step) (env : Environment) → all (map (λ s. s env) (map step_meaning ss)) ≡ all (map (λ s. step_meaning s env) ss)
+truths : (f : List Value → Truth) (r : Found (List Value)) → truth (found f r) ≡ found (λ vs. values.Bool (f vs)) r
+truths f (Ok vs) = refl
+truths f (Err e) = refl
+
+each-step : (ss : List Step) (env : Environment) → all (map (λ s. s env) (map step_meaning ss)) ≡ operations_in ss env
+unfolding operations_in
 each-step [] env = refl
 each-step (s ∷ ss) env = ap (λ r. then (step_meaning s env) (λ x. found (λ xs. x ∷ xs) r)) (each-step ss env)
 
@@ -46,7 +53,7 @@ eval-Bracket at t env = ap (λ m. m.value env) (by.meaning-Bracket at t)
 pub eval-Negative : (at : ℕ) (t : Term) (env : Environment) → eval (terms.Negative at t) env ≡ then (eval t env) (λ v. integer (negative at (number v)))
 eval-Negative at t env = ap (λ m. m.value env) (by.meaning-Negative at t)
 
-pub eval-Chain : (at : ℕ) (t : Term) (ss : List Step) (env : Environment) → eval (terms.Chain at t ss) env ≡ then (eval t env) (λ v. then (all (map (λ s. step_meaning s env) ss)) (λ os. integer (run at (number v) os)))
+pub eval-Chain : (at : ℕ) (t : Term) (ss : List Step) (env : Environment) → eval (terms.Chain at t ss) env ≡ then (eval t env) (λ v. then (operations_in ss env) (λ os. integer (run at (number v) os)))
 eval-Chain at t ss env = ap (λ m. m.value env) (by.meaning-Chain at t ss) ∙ ap (λ r. then (eval t env) (λ v. then r (λ os. integer (run at (number v) os)))) (each-step ss env)
 
 pub eval-Related : (at : ℕ) (t : Term) (r : Relation) (u : Term) (env : Environment) → eval (terms.Related at t r u) env ≡ then (eval t env) (λ v. then (eval u env) (λ w. Ok (values.Bool (relates r v w))))
@@ -55,17 +62,17 @@ eval-Related at t r u env = ap (λ m. m.value env) (by.meaning-Related at t r u)
 pub eval-Member : (at : ℕ) (t : Term) (s : SetTerm) (env : Environment) → eval (terms.Member at t s) env ≡ then (eval t env) (λ v. then ((set_meaning s).value env) (λ w. Ok (values.Bool (is_member v w))))
 eval-Member at t s env = ap (λ m. m.value env) (by.meaning-Member at t s)
 
-pub eval-Equivalent : (at : ℕ) (ts : List Term) (env : Environment) → eval (terms.Equivalent at ts) env ≡ truth (found equivalent (all (map (λ t. eval t env) ts)))
-eval-Equivalent at ts env = ap (λ m. m.value env) (by.meaning-Equivalent at ts) ∙ ap (λ r. truth (found equivalent r)) (each-term ts env)
+pub eval-Equivalent : (at : ℕ) (ts : List Term) (env : Environment) → eval (terms.Equivalent at ts) env ≡ found (λ vs. values.Bool (equivalent vs)) (values_in ts env)
+eval-Equivalent at ts env = ap (λ m. m.value env) (by.meaning-Equivalent at ts) ∙ ap (λ r. truth (found equivalent r)) (each-term ts env) ∙ truths equivalent (values_in ts env)
 
 pub eval-Implied : (at : ℕ) (t : Term) (u : Term) (env : Environment) → eval (terms.Implied at t u) env ≡ then (eval t env) (λ v. then (eval u env) (λ w. Ok (values.Bool (not (is_true v) || is_true w))))
 eval-Implied at t u env = ap (λ m. m.value env) (by.meaning-Implied at t u)
 
-pub eval-Or : (at : ℕ) (ts : List Term) (env : Environment) → eval (terms.Or at ts) env ≡ truth (found (list_any is_true) (all (map (λ t. eval t env) ts)))
-eval-Or at ts env = ap (λ m. m.value env) (by.meaning-Or at ts) ∙ ap (λ r. truth (found (list_any is_true) r)) (each-term ts env)
+pub eval-Or : (at : ℕ) (ts : List Term) (env : Environment) → eval (terms.Or at ts) env ≡ found (λ vs. values.Bool (list_any is_true vs)) (values_in ts env)
+eval-Or at ts env = ap (λ m. m.value env) (by.meaning-Or at ts) ∙ ap (λ r. truth (found (list_any is_true) r)) (each-term ts env) ∙ truths (list_any is_true) (values_in ts env)
 
-pub eval-And : (at : ℕ) (ts : List Term) (env : Environment) → eval (terms.And at ts) env ≡ truth (found (list_all is_true) (all (map (λ t. eval t env) ts)))
-eval-And at ts env = ap (λ m. m.value env) (by.meaning-And at ts) ∙ ap (λ r. truth (found (list_all is_true) r)) (each-term ts env)
+pub eval-And : (at : ℕ) (ts : List Term) (env : Environment) → eval (terms.And at ts) env ≡ found (λ vs. values.Bool (list_all is_true vs)) (values_in ts env)
+eval-And at ts env = ap (λ m. m.value env) (by.meaning-And at ts) ∙ ap (λ r. truth (found (list_all is_true) r)) (each-term ts env) ∙ truths (list_all is_true) (values_in ts env)
 
 pub eval-Not : (at : ℕ) (t : Term) (env : Environment) → eval (terms.Not at t) env ≡ found (λ v. values.Bool (not (is_true v))) (eval t env)
 eval-Not at t env = ap (λ m. m.value env) (by.meaning-Not at t)
@@ -79,16 +86,16 @@ eval-AllDifferent at t env = ap (λ m. m.value env) (by.meaning-AllDifferent at 
 pub eval-Question : (at : ℕ) (op : QuestionOp) (t : Term) (env : Environment) → eval (terms.Question at op t) env ≡ Ok (values.Int (pos 0))
 eval-Question at op t env = ap (λ m. m.value env) (by.meaning-Question at op t)
 
-pub eval-Element : (at : ℕ) (t : Term) (ts : List Term) (env : Environment) → eval (terms.Element at t ts) env ≡ then (all (map (λ t. eval t env) ts)) (λ key. element at key ((meaning t).item env))
+pub eval-Element : (at : ℕ) (t : Term) (ts : List Term) (env : Environment) → eval (terms.Element at t ts) env ≡ then (values_in ts env) (λ key. element at key ((meaning t).item env))
 eval-Element at t ts env = ap (λ m. m.value env) (by.meaning-Element at t ts) ∙ ap (λ r. then r (λ key. element at key ((meaning t).item env))) (each-term ts env)
 
 pub eval-Field : (at : ℕ) (t : Term) (place : ℕ) (name : List ℕ) (env : Environment) → eval (terms.Field at t place name) env ≡ found (λ v. value_at (parts v) (env.position place)) (eval t env)
 eval-Field at t place name env = ap (λ m. m.value env) (by.meaning-Field at t place name)
 
-pub eval-Record : (at : ℕ) (ts : List Term) (env : Environment) → eval (terms.Record at ts) env ≡ found values.Record (all (map (λ t. eval t env) ts))
+pub eval-Record : (at : ℕ) (ts : List Term) (env : Environment) → eval (terms.Record at ts) env ≡ found values.Record (values_in ts env)
 eval-Record at ts env = ap (λ m. m.value env) (by.meaning-Record at ts) ∙ ap (λ r. found values.Record r) (each-term ts env)
 
-pub eval-Listed : (at : ℕ) (ts : List Term) (env : Environment) → eval (terms.Listed at ts) env ≡ found (λ vs. values.Set (first_occurrences vs)) (all (map (λ t. eval t env) ts))
+pub eval-Listed : (at : ℕ) (ts : List Term) (env : Environment) → eval (terms.Listed at ts) env ≡ found (λ vs. values.Set (first_occurrences vs)) (values_in ts env)
 eval-Listed at ts env = ap (λ m. m.value env) (by.meaning-Listed at ts) ∙ ap (λ r. found (λ vs. values.Set (first_occurrences vs)) r) (each-term ts env)
 
 pub eval-Array : (at : ℕ) (ts : List Term) (env : Environment) → eval (terms.Array at ts) env ≡ Ok (values.Int (pos 0))
@@ -97,11 +104,13 @@ eval-Array at ts env = ap (λ m. m.value env) (by.meaning-Array at ts)
 pub eval-KeyedArray : (at : ℕ) (ts us : List Term) (env : Environment) → eval (terms.KeyedArray at ts us) env ≡ Ok (values.Int (pos 0))
 eval-KeyedArray at ts us env = ap (λ m. m.value env) (by.meaning-KeyedArray at ts us)
 
-pub eval-Aggregate : (at : ℕ) (op : AggregateOp) (gs : List GroupTerm) (c : Option Term) (t : Term) (env : Environment) → eval (terms.Aggregate at op gs c t) env ≡ then (bodies (map group_meaning gs) (option_map meaning c) (meaning t) env) (λ vs. integer (aggregate op at (map number vs)))
+pub eval-Aggregate : (at : ℕ) (op : AggregateOp) (gs : List GroupTerm) (c : Option Term) (t : Term) (env : Environment) → eval (terms.Aggregate at op gs c t) env ≡ then (bodies_in gs c t env) (λ vs. integer (aggregate op at (map number vs)))
+unfolding bodies_in
 eval-Aggregate at op gs None t env = ap (λ m. m.value env) (by.meaning-Aggregate at op gs t)
 eval-Aggregate at op gs (Some c) t env = ap (λ m. m.value env) (by.meaning-Aggregate_where at op gs c t)
 
-pub eval-Described : (at : ℕ) (t : Term) (gs : List GroupTerm) (c : Option Term) (env : Environment) → eval (terms.Described at t gs c) env ≡ found (λ vs. values.Set (first_occurrences vs)) (bodies (map group_meaning gs) (option_map meaning c) (meaning t) env)
+pub eval-Described : (at : ℕ) (t : Term) (gs : List GroupTerm) (c : Option Term) (env : Environment) → eval (terms.Described at t gs c) env ≡ found (λ vs. values.Set (first_occurrences vs)) (bodies_in gs c t env)
+unfolding bodies_in
 eval-Described at t gs None env = ap (λ m. m.value env) (by.meaning-Described at t gs)
 eval-Described at t gs (Some c) env = ap (λ m. m.value env) (by.meaning-Described_where at t gs c)
 

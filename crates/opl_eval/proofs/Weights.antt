@@ -1,5 +1,5 @@
 -- The weight of each form of terms.
-use Rattle.std.proofs.Common.{◌≡◌, ◌+◌, ◌*◌, ◌<◌, ◌≤◌, ℕ, ℤ, List, [], ◌∷◌, map, sum, length, get_or, zero, suc, Option, None, Some, refl, ap, sym, ◌∙◌, arith}
+use Rattle.std.proofs.Common.{◌≡◌, ◌+◌, ◌*◌, ◌<◌, ◌≤◌, ℕ, ℤ, List, [], ◌∷◌, map, length, get_or, zero, suc, Option, None, Some, refl, ap, sym, ◌∙◌, arith}
 use Rattle.std.specs.Option.{option_map}
 use Rattle.opl_tree.specs.declared.expression.AggregateOp.{AggregateOp}
 use Rattle.opl_tree.specs.declared.expression.CallOp.{CallOp}
@@ -15,7 +15,7 @@ use Rattle.opl_term.specs.declared.term.Step.TheVariants as steps
 use Rattle.opl_term.specs.declared.term.Term.{Term}
 use Rattle.opl_term.specs.declared.term.Term.TheVariants as terms
 use Rattle.opl_term.specs.declared.term.GroupTerm.TheFolds.{fold-roll-GroupTerm, fold-roll-SetTerm, fold-roll-Step, fold-roll-Term}
-use Rattle.opl_eval.specs.Weights.{weight, step_weight, set_weight, group_weight, if_any}
+use Rattle.opl_eval.specs.Weights.{weight, step_weight, set_weight, group_weight, if_any, total}
 
 pub weight-Bracket : (at : ℕ) (t : Term) → weight (terms.Bracket at t) ≡ weight t + 20
 unfolding weight step_weight set_weight group_weight
@@ -25,7 +25,7 @@ pub weight-Negative : (at : ℕ) (t : Term) → weight (terms.Negative at t) ≡
 unfolding weight step_weight set_weight group_weight
 weight-Negative at t = ap weight (sym (terms.rolls-Negative at t)) ∙ rw fold-roll-Term refl
 
-pub weight-Chain : (at : ℕ) (t : Term) (ss : List Step) → weight (terms.Chain at t ss) ≡ weight t + sum (map step_weight ss) + 20
+pub weight-Chain : (at : ℕ) (t : Term) (ss : List Step) → weight (terms.Chain at t ss) ≡ weight t + total (map step_weight ss) + 20
 unfolding weight step_weight set_weight group_weight
 weight-Chain at t ss = ap weight (sym (terms.rolls-Chain at t ss)) ∙ rw fold-roll-Term refl
 
@@ -37,7 +37,7 @@ pub weight-Member : (at : ℕ) (t : Term) (s : SetTerm) → weight (terms.Member
 unfolding weight step_weight set_weight group_weight
 weight-Member at t s = ap weight (sym (terms.rolls-Member at t s)) ∙ rw fold-roll-Term refl
 
-pub weight-Equivalent : (at : ℕ) (ts : List Term) → weight (terms.Equivalent at ts) ≡ sum (map weight ts) + 20
+pub weight-Equivalent : (at : ℕ) (ts : List Term) → weight (terms.Equivalent at ts) ≡ total (map weight ts) + 20
 unfolding weight step_weight set_weight group_weight
 weight-Equivalent at ts = ap weight (sym (terms.rolls-Equivalent at ts)) ∙ rw fold-roll-Term refl
 
@@ -45,11 +45,11 @@ pub weight-Implied : (at : ℕ) (t : Term) (u : Term) → weight (terms.Implied 
 unfolding weight step_weight set_weight group_weight
 weight-Implied at t u = ap weight (sym (terms.rolls-Implied at t u)) ∙ rw fold-roll-Term refl
 
-pub weight-Or : (at : ℕ) (ts : List Term) → weight (terms.Or at ts) ≡ sum (map weight ts) + 20
+pub weight-Or : (at : ℕ) (ts : List Term) → weight (terms.Or at ts) ≡ total (map weight ts) + 20
 unfolding weight step_weight set_weight group_weight
 weight-Or at ts = ap weight (sym (terms.rolls-Or at ts)) ∙ rw fold-roll-Term refl
 
-pub weight-And : (at : ℕ) (ts : List Term) → weight (terms.And at ts) ≡ sum (map weight ts) + 20
+pub weight-And : (at : ℕ) (ts : List Term) → weight (terms.And at ts) ≡ total (map weight ts) + 20
 unfolding weight step_weight set_weight group_weight
 weight-And at ts = ap weight (sym (terms.rolls-And at ts)) ∙ rw fold-roll-Term refl
 
@@ -65,7 +65,7 @@ pub weight-AllDifferent : (at : ℕ) (t : Term) → weight (terms.AllDifferent a
 unfolding weight step_weight set_weight group_weight
 weight-AllDifferent at t = ap weight (sym (terms.rolls-AllDifferent at t)) ∙ rw fold-roll-Term refl
 
-pub weight-Element : (at : ℕ) (t : Term) (ts : List Term) → weight (terms.Element at t ts) ≡ weight t + sum (map weight ts) + 20
+pub weight-Element : (at : ℕ) (t : Term) (ts : List Term) → weight (terms.Element at t ts) ≡ weight t + total (map weight ts) + 20
 unfolding weight step_weight set_weight group_weight
 weight-Element at t ts = ap weight (sym (terms.rolls-Element at t ts)) ∙ rw fold-roll-Term refl
 
@@ -73,20 +73,20 @@ pub weight-Field : (at : ℕ) (t : Term) (place : ℕ) (name : List ℕ) → wei
 unfolding weight step_weight set_weight group_weight
 weight-Field at t place name = ap weight (sym (terms.rolls-Field at t place name)) ∙ rw fold-roll-Term refl
 
-pub weight-Record : (at : ℕ) (ts : List Term) → weight (terms.Record at ts) ≡ sum (map weight ts) + 20
+pub weight-Record : (at : ℕ) (ts : List Term) → weight (terms.Record at ts) ≡ total (map weight ts) + 20
 unfolding weight step_weight set_weight group_weight
 weight-Record at ts = ap weight (sym (terms.rolls-Record at ts)) ∙ rw fold-roll-Term refl
 
-pub weight-Listed : (at : ℕ) (ts : List Term) → weight (terms.Listed at ts) ≡ sum (map weight ts) + 20
+pub weight-Listed : (at : ℕ) (ts : List Term) → weight (terms.Listed at ts) ≡ total (map weight ts) + 20
 unfolding weight step_weight set_weight group_weight
 weight-Listed at ts = ap weight (sym (terms.rolls-Listed at ts)) ∙ rw fold-roll-Term refl
 
-pub weight-Aggregate : (at : ℕ) (op : AggregateOp) (gs : List GroupTerm) (c : Option Term) (t : Term) → weight (terms.Aggregate at op gs c t) ≡ sum (map group_weight gs) + if_any (option_map weight c) + weight t + 20
+pub weight-Aggregate : (at : ℕ) (op : AggregateOp) (gs : List GroupTerm) (c : Option Term) (t : Term) → weight (terms.Aggregate at op gs c t) ≡ total (map group_weight gs) + if_any (option_map weight c) + weight t + 20
 unfolding weight step_weight set_weight group_weight
 weight-Aggregate at op gs None t = ap weight (sym (terms.rolls-Aggregate at op gs None t)) ∙ rw fold-roll-Term refl
 weight-Aggregate at op gs (Some c) t = ap weight (sym (terms.rolls-Aggregate at op gs (Some c) t)) ∙ rw fold-roll-Term refl
 
-pub weight-Described : (at : ℕ) (t : Term) (gs : List GroupTerm) (c : Option Term) → weight (terms.Described at t gs c) ≡ sum (map group_weight gs) + if_any (option_map weight c) + weight t + 20
+pub weight-Described : (at : ℕ) (t : Term) (gs : List GroupTerm) (c : Option Term) → weight (terms.Described at t gs c) ≡ total (map group_weight gs) + if_any (option_map weight c) + weight t + 20
 unfolding weight step_weight set_weight group_weight
 weight-Described at t gs None = ap weight (sym (terms.rolls-Described at t gs None)) ∙ rw fold-roll-Term refl
 weight-Described at t gs (Some c) = ap weight (sym (terms.rolls-Described at t gs (Some c))) ∙ rw fold-roll-Term refl
@@ -128,20 +128,20 @@ unfolding weight step_weight set_weight group_weight
 weight-Remainder t = ap step_weight (sym (steps.rolls-Remainder t)) ∙ rw fold-roll-Step refl
 
 -- one of a list weighs no more than all
-pub weight-at : {A : Type 0} (w : A → ℕ) (xs : List A) (i : ℕ) (x : A) → i < length xs → x ≡ get_or xs i x → w x ≤ sum (map w xs)
+pub weight-at : {A : Type 0} (w : A → ℕ) (xs : List A) (i : ℕ) (x : A) → i < length xs → x ≡ get_or xs i x → w x ≤ total (map w xs)
 weight-at w [] i x l e = absurd (omega arith)
 weight-at w (y ∷ ys) zero x l e =
     let same : w x ≡ w y = ap w e in
-    let all : sum (map w (y ∷ ys)) ≡ w y + sum (map w ys) = refl in
+    let all : total (map w (y ∷ ys)) ≡ w y + total (map w ys) = refl in
     omega (arith, same, all)
 weight-at w (y ∷ ys) (suc i) x l e =
-    let all : sum (map w (y ∷ ys)) ≡ w y + sum (map w ys) = refl in
-    let within : w x ≤ sum (map w ys) = weight-at w ys i x (omega arith) e in
+    let all : total (map w (y ∷ ys)) ≡ w y + total (map w ys) = refl in
+    let within : w x ≤ total (map w ys) = weight-at w ys i x (omega arith) e in
     omega (arith, all, within)
 
 -- a list weighs as much as its first and the others
-pub weight-more : {A : Type 0} (w : A → ℕ) (x : A) (xs ys : List A) → ys ≡ x ∷ xs → sum (map w ys) ≡ w x + sum (map w xs)
-weight-more w x xs ys e = ap (λ l. sum (map w l)) e
+pub weight-more : {A : Type 0} (w : A → ℕ) (x : A) (xs ys : List A) → ys ≡ x ∷ xs → total (map w ys) ≡ w x + total (map w xs)
+weight-more w x xs ys e = ap (λ l. total (map w l)) e
 
 pub ruleset weights = (weight-Bracket, weight-Negative, weight-Chain, weight-Related, weight-Member, weight-Equivalent, weight-Implied, weight-Or, weight-And, weight-Not, weight-Call, weight-AllDifferent, weight-Element, weight-Field, weight-Record, weight-Listed, weight-Aggregate, weight-Described)
 

@@ -1,12 +1,14 @@
 //! What expressions come to.
-ghost use Rattle.std.specs.Prelude.{◌≡◌, ◌||◌, map, not};
+ghost use Rattle.std.specs.Prelude.{◌≡◌, ◌||◌, Ok, cond, map, not};
+ghost use Rattle.std.specs.List.{list_all, list_any};
 ghost use Rattle.std.specs.Option.{option_copied, option_map};
-ghost use Rattle.opl_eval.specs.Arithmetic.{run, then};
+ghost use Rattle.opl_value.specs.Places.{value_at};
+ghost use Rattle.opl_eval.specs.Arithmetic as arithmetic;
 ghost use Rattle.opl_eval.specs.Compare as compare;
 ghost use Rattle.opl_eval.specs.Evaluation as spec;
 ghost use Rattle.opl_eval.specs.Scopes.{chosen, names_in};
 ghost use Rattle.opl_eval.specs.Visible.{Adds, Gives, held, left};
-ghost use Rattle.opl_eval.specs.Visits.{bodies_of, group_visits, over_visits};
+ghost use Rattle.opl_eval.specs.Visits.{bodies_in, bodies_of, group_visits, operations_in, over_visits, values_in};
 
 use crate::arithmetic::{Operation, negative, run};
 use crate::compare::{is_member, number, relates};
@@ -20,6 +22,7 @@ use crate::held::Held;
 use crate::scope::{Scope, bind, declaration_of, entry_of};
 use crate::visible::value_named;
 use opl_list::{Boxed, Seq};
+use opl_tree::AggregateOp;
 use opl_term::{GroupTerm, Pattern, SetTerm, Step, Term};
 use opl_value::Value;
 use std::alloc::Global;
@@ -52,12 +55,12 @@ pub(crate) fn evaluate<'a>(
         Term::Bracket(_, inner) => evaluate(alloc, scope, inner.get()),
         Term::Negative(at, operand) => {
             let operand = evaluate(alloc, scope, operand.get())?;
-            integer(negative(*at, number(operand.get())))
+            negative_of(*at, operand.get())
         }
         Term::Chain(at, first, steps) => {
             let first = evaluate(alloc, scope, first.get())?;
             let operations = operations(alloc, scope, steps.as_slice())?;
-            integer(run(*at, number(first.get()), operations.as_slice()))
+            chain_of(*at, first.get(), operations.as_slice())
         }
         Term::Related(_, left, relation, right) => {
             let left = evaluate(alloc, scope, left.get())?;
@@ -71,7 +74,7 @@ pub(crate) fn evaluate<'a>(
         }
         Term::Equivalent(_, terms) => {
             let values = values(alloc, scope, terms.as_slice())?;
-            Ok(truth(equivalent(values.as_slice())))
+            Ok(equivalence_of(values))
         }
         Term::Implied(_, premise, conclusion) => {
             let premise = evaluate(alloc, scope, premise.get())?;
@@ -80,20 +83,19 @@ pub(crate) fn evaluate<'a>(
         }
         Term::Or(_, terms) => {
             let values = values(alloc, scope, terms.as_slice())?;
-            Ok(truth(any_true(values.as_slice())))
+            Ok(disjunction_of(values))
         }
         Term::And(_, terms) => {
             let values = values(alloc, scope, terms.as_slice())?;
-            Ok(truth(all_true(values.as_slice())))
+            Ok(conjunction_of(values))
         }
         Term::Not(_, operand) => {
             let operand = evaluate(alloc, scope, operand.get())?;
             Ok(truth(!is_true(operand.get())))
         }
         Term::Aggregate(at, operation, groups, condition, body) => {
-            let visit = visit_of(groups.as_slice(), condition, body.get());
-            let found = bodies(alloc, scope, visit)?;
-            aggregate(alloc, *operation, *at, found.as_slice())
+            let found = bodies(alloc, scope, groups.as_slice(), condition, body.get())?;
+            aggregate_of(alloc, *operation, *at, found)
         }
         Term::Call(at, operation, operand) => {
             let operand = evaluate(alloc, scope, operand.get())?;
@@ -108,26 +110,115 @@ pub(crate) fn evaluate<'a>(
         }
         Term::Element(at, base, subscripts) => {
             let key = values(alloc, scope, subscripts.as_slice())?;
-            element(*at, entry_of(scope, base.get()), key.as_slice())
+            element_at(*at, scope, base.get(), key)
         }
         Term::Field(_, record, place, _) => {
             let record = evaluate(alloc, scope, record.get())?;
-            Ok(part(alloc, record, scope.environment.positions.get(*place))?)
+            field_of(alloc, scope, record, *place)
         }
         Term::Record(_, terms) => {
             let parts = values(alloc, scope, terms.as_slice())?;
-            Ok(Held::Owned(Value::Record(Seq::from_vec(parts))))
+            Ok(record_of(parts))
         }
         Term::Listed(_, terms) => {
             let elements = values(alloc, scope, terms.as_slice())?;
-            Ok(set_of(alloc, elements)?)
+            set_of(alloc, elements)
         }
         Term::Described(_, body, groups, condition) => {
-            let visit = visit_of(groups.as_slice(), condition, body.get());
-            let found = bodies(alloc, scope, visit)?;
-            Ok(set_of(alloc, found)?)
+            let found = bodies(alloc, scope, groups.as_slice(), condition, body.get())?;
+            set_of(alloc, found)
         }
     }
+}
+
+/// `- a` of a value.
+fn negative_of<'a>(at: u32, operand: &Value) -> Result<Held<'a>, EvalFault>
+    ensures { Gives held (spec.integer (arithmetic.negative at (compare.number operand.now))) result }
+{
+    integer(negative(at, number(operand)))
+}
+
+/// A chain of a first value and operations.
+fn chain_of<'a>(
+    at: u32,
+    first: &Value,
+    operations: &[Operation],
+) -> Result<Held<'a>, EvalFault>
+    ensures { Gives held (spec.integer (arithmetic.run at (compare.number first.now) operations.now)) result }
+{
+    integer(run(at, number(first), operations))
+}
+
+/// `a <=> b <=> ..` of values.
+fn equivalence_of<'a>(values: Vec<Value>) -> Held<'a>
+    ensures { held result ≡ Value.Bool (spec.equivalent values.items) }
+{
+    truth(equivalent(values.as_slice()))
+}
+
+/// `a \/ b \/ ..` of values.
+fn disjunction_of<'a>(values: Vec<Value>) -> Held<'a>
+    ensures { held result ≡ Value.Bool (list_any spec.is_true values.items) }
+{
+    truth(any_true(values.as_slice()))
+}
+
+/// `a & b & ..` of values.
+fn conjunction_of<'a>(values: Vec<Value>) -> Held<'a>
+    ensures { held result ≡ Value.Bool (list_all spec.is_true values.items) }
+{
+    truth(all_true(values.as_slice()))
+}
+
+/// An aggregate of values.
+fn aggregate_of<'a>(
+    alloc: Global,
+    operation: AggregateOp,
+    at: u32,
+    values: Vec<Value>,
+) -> Result<Held<'a>, EvalFault>
+    ensures { Gives held (spec.integer (spec.aggregate operation at (map compare.number values.items))) result }
+{
+    aggregate(alloc, operation, at, values.as_slice())
+}
+
+/// The record of these parts.
+fn record_of<'a>(parts: Vec<Value>) -> Held<'a>
+    ensures { held result ≡ Value.Record parts.items }
+{
+    Held::Owned(Value::Record(Seq::from_vec(parts)))
+}
+
+/// The range from one value to another.
+fn range_of<'a>(low: &Value, high: &Value) -> Held<'a>
+    ensures { held result ≡ Value.Range (compare.number low.now) (compare.number high.now) }
+{
+    Held::Owned(Value::Range(number(low), number(high)))
+}
+
+/// The field of a record whose name stands at a place.
+#[tactic(auto, unfolding(crate::specs::Visible::within))]
+fn field_of<'a>(
+    alloc: Global,
+    scope: Scope<'a>,
+    whole: Held<'a>,
+    place: u32,
+) -> Result<Held<'a>, EvalFault>
+    ensures { Gives held (Ok (value_at (spec.parts (held whole.entry)) ((names_in scope.entry).position place))) result }
+{
+    Ok(part(alloc, whole, scope.environment.positions.get(place))?)
+}
+
+/// The element with this key of a term that is a declared name.
+fn element_at<'a>(
+    at: u32,
+    scope: Scope<'a>,
+    base: &Term,
+    key: Vec<Value>,
+) -> Result<Held<'a>, EvalFault>
+    ensures { Gives held (spec.element at key.items ((spec.meaning base.now).item (names_in scope.entry))) result }
+{
+    element(at, entry_of(scope, base), key.as_slice())
 }
 
 /// `a => b` of two truth values.
@@ -173,16 +264,16 @@ pub(crate) fn evaluate_set<'a>(
         SetTerm::Between(low, high) => {
             let low = evaluate(alloc, scope, low.get())?;
             let high = evaluate(alloc, scope, high.get())?;
-            Ok(Held::Owned(Value::Range(number(low.get()), number(high.get()))))
+            Ok(range_of(low.get(), high.get()))
         }
     }
 }
 
 /// What terms come to, one after another.
-#[tactic(auto, using(crate::proofs::Weights::weights_of_lists))]
+#[tactic(auto, using(crate::proofs::Weights::weights_of_lists), unfolding(crate::specs::Visits::values_in))]
 #[cycle(evaluation)]
 fn values(alloc: Global, scope: Scope<'_>, terms: &[Term]) -> Result<Vec<Value>, EvalFault>
-    ensures { Gives (λ vs. vs.items) (spec.all (map (λ t. spec.eval t (names_in scope.entry)) terms.now)) result }
+    ensures { Gives (λ vs. vs.items) (values_in terms.now (names_in scope.entry)) result }
 {
     let mut found = Vec::new(alloc);
     for term in terms {
@@ -192,14 +283,14 @@ fn values(alloc: Global, scope: Scope<'_>, terms: &[Term]) -> Result<Vec<Value>,
 }
 
 /// The operations of a chain, with their operands evaluated one after another.
-#[tactic(auto, using(crate::proofs::Weights::weights_of_lists))]
+#[tactic(auto, using(crate::proofs::Weights::weights_of_lists), unfolding(crate::specs::Visits::operations_in))]
 #[cycle(evaluation)]
 fn operations(
     alloc: Global,
     scope: Scope<'_>,
     steps: &[Step],
 ) -> Result<Vec<Operation>, EvalFault>
-    ensures { Gives (λ os. os.items) (spec.all (map (λ s. spec.step_meaning s (names_in scope.entry)) steps.now)) result }
+    ensures { Gives (λ os. os.items) (operations_in steps.now (names_in scope.entry)) result }
 {
     let mut found = Vec::new(alloc);
     for step in steps {
@@ -240,9 +331,16 @@ fn operation(alloc: Global, scope: Scope<'_>, step: &Step) -> Result<Operation, 
 
 /// What the body comes to under all choices for which the condition holds.
 #[cycle(evaluation)]
-fn bodies(alloc: Global, scope: Scope<'_>, visit: Visit<'_>) -> Result<Vec<Value>, EvalFault>
-    ensures { Gives (λ vs. vs.items) (bodies_of visit.entry (names_in scope.entry)) result }
+fn bodies(
+    alloc: Global,
+    scope: Scope<'_>,
+    groups: &[GroupTerm],
+    condition: &Option<Boxed<Term>>,
+    body: &Term,
+) -> Result<Vec<Value>, EvalFault>
+    ensures { Gives (λ vs. vs.items) (bodies_in groups.now condition.now body.now (names_in scope.entry)) result }
 {
+    let visit = visit_of(groups, condition, body);
     let mut found = Vec::new(alloc);
     visit_groups(alloc, scope, visit, &mut found)?;
     Ok(found)
@@ -351,11 +449,18 @@ fn choose(
     };
     let mut rest = elements;
     while let Some((element, behind)) = rest.split_first() {
-        let next = if is_ordered { behind } else { elements };
+        let next = next_of(is_ordered, behind, elements);
         take_turn(alloc, scope, pattern, element.get(), is_ordered, others, next, later, found)?;
         rest = behind;
     }
     Ok(())
+}
+
+/// The elements for the next pattern: those behind, or all.
+fn next_of<'a>(is_ordered: bool, behind: Elements<'a>, all: Elements<'a>) -> Elements<'a>
+    ensures { left result ≡ cond is_ordered (left behind.entry) (left all.entry) }
+{
+    if is_ordered { behind } else { all }
 }
 
 /// Adds what is found where a pattern calls an element.

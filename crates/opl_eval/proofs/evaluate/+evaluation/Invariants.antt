@@ -1,10 +1,10 @@
-use Rattle.std.proofs.Common.{◌≡◌, ℕ, ◌+◌, ◌*◌, ◌++◌, cond, drop, length, map, sum}
+use Rattle.std.proofs.Common.{◌≡◌, ℕ, ◌+◌, ◌*◌, ◌++◌, cond, drop, length, map}
 use Rattle.std.specs.Option.{option_copied, option_map}
 use Rattle.opl_eval.specs.Evaluation.{all, bound, eval, found, step_meaning, with_parameters}
 use Rattle.opl_eval.specs.Scopes.{chosen, names_in, turns}
 use Rattle.opl_eval.specs.Visible.{left}
 use Rattle.opl_eval.specs.Visits.{bodies_of}
-use Rattle.opl_eval.specs.Weights.{weight, step_weight, set_weight, group_weight, visit_weight, if_any}
+use Rattle.opl_eval.specs.Weights.{weight, step_weight, set_weight, group_weight, visit_weight, if_any, total}
 use Rattle.opl_eval.proofs.evaluate.+evaluation.Given as goal
 
 abbrev pub decreases-evaluate : goal.decreases-evaluate
@@ -14,16 +14,16 @@ abbrev pub decreases-evaluate_set : goal.decreases-evaluate_set
 decreases-evaluate_set l = set_weight l.set.now + 5
 
 abbrev pub decreases-values : goal.decreases-values
-decreases-values l = sum (map weight l.terms.now) + 5
+decreases-values l = total (map weight l.terms.now) + 5
 
 abbrev pub decreases-operations : goal.decreases-operations
-decreases-operations l = sum (map step_weight l.steps.now) + 6
+decreases-operations l = total (map step_weight l.steps.now) + 6
 
 abbrev pub decreases-operation : goal.decreases-operation
 decreases-operation l = step_weight l.step.now + 5
 
 abbrev pub decreases-bodies : goal.decreases-bodies
-decreases-bodies l = visit_weight l.visit + 16
+decreases-bodies l = total (map group_weight l.groups.now) + if_any (option_map weight l.condition.now) + weight l.body.now + 16
 
 abbrev pub decreases-visit_groups : goal.decreases-visit_groups
 decreases-visit_groups l = visit_weight l.visit + 8
@@ -55,3 +55,8 @@ invariant-operations-loop-step l =
 
 abbrev pub decreases-choose-loop-element : goal.decreases-choose-loop-element
 decreases-choose-loop-element l = length (left l.rest)
+
+abbrev pub invariant-choose-loop-element : goal.invariant-choose-loop-element
+invariant-choose-loop-element l =
+    found (λ xs. l.initial.found.items ++ xs) (chosen l.is_ordered l.patterns (left l.elements) (bodies_of l.later) (names_in l.scope))
+    ≡ found (λ xs. l.found.items ++ xs) (turns (λ behind v. chosen l.is_ordered l.others (cond l.is_ordered behind (left l.elements)) (bodies_of l.later) (with_parameters (bound l.pattern v) (names_in l.scope))) (left l.rest))
