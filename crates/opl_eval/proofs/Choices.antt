@@ -1,5 +1,5 @@
 -- Choices, element by element.
-use Rattle.std.proofs.Common.{◌≡◌, ◌≢◌, ℕ, Bool, true, false, cond, List, [], ◌∷◌, ◌++◌, map, Option, None, Some, Ok, Err, refl, ap, sym, ◌∙◌}
+use Rattle.std.proofs.Common.{◌≡◌, ◌≢◌, ◌+◌, ℕ, length, arith, Bool, true, false, cond, List, [], ◌∷◌, ◌++◌, map, Option, None, Some, Ok, Err, refl, ap, sym, ◌∙◌}
 use Rattle.std.specs.List.{flat_map}
 use Rattle.std.specs.Option.{option_copied, option_map}
 use Rattle.std.proofs.lemmas.List.{append-nil}
@@ -114,9 +114,13 @@ visits-more g gs all later env h k c b =
     same : visited (map group_meaning gs) (body_where (option_map meaning (option_copied all.condition)) (meaning all.body.now)) ≡ bodies_of later
     same = λ i e. visited (map group_meaning (sym k i)) (body_where (option_map meaning (option_copied (sym c i))) (meaning (sym b i).now)) e
 
-pub visits-none : (all : Visit) (env : Environment) → all.groups.now ≡ [] → bodies_of all env ≡ body_where (option_map meaning (option_copied all.condition)) (meaning all.body.now) env
+no-groups : (gs : List GroupTerm) → length gs ≡ 0 → gs ≡ []
+no-groups [] h = refl
+no-groups (g ∷ gs) h = absurd (omega (arith, h))
+
+pub visits-none : (all : Visit) (env : Environment) → length all.groups.now ≡ 0 → bodies_of all env ≡ body_where (option_map meaning (option_copied all.condition)) (meaning all.body.now) env
 unfolding bodies_in
-visits-none all env h = ap (λ l. bodies (map group_meaning l) (option_map meaning (option_copied all.condition)) (meaning all.body.now) env) h
+visits-none all env h = ap (λ l. bodies (map group_meaning l) (option_map meaning (option_copied all.condition)) (meaning all.body.now) env) (no-groups all.groups.now h)
 
 pub group-Unordered : (ps : List Pattern) (s : SetTerm) (later : Visit) (env : Environment) → group_visits (groups.Unordered ps s) later env ≡ over_visits false ps s later env
 unfolding group_visits over_visits

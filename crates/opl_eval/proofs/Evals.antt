@@ -135,7 +135,9 @@ step-Quotient t env = by.step_meaning-Quotient t env
 pub step-Remainder : (t : Term) (env : Environment) → step_meaning (steps.Remainder t) env ≡ found (λ v. operations.Remainder (number v)) (eval t env)
 step-Remainder t env = by.step_meaning-Remainder t env
 
-pub ruleset evals = (eval-Number, eval-Named, eval-Bracket, eval-Negative, eval-Chain, eval-Related, eval-Member, eval-Equivalent, eval-Implied, eval-Or, eval-And, eval-Not, eval-Call, eval-AllDifferent, eval-Question, eval-Element, eval-Field, eval-Record, eval-Listed, eval-Array, eval-KeyedArray, eval-Aggregate, eval-Described)
+pub ruleset evals = (eval-Number, eval-Named, eval-Bracket, eval-Negative, eval-Chain, eval-Related, eval-Member, eval-Equivalent, eval-Implied, eval-Or, eval-And, eval-Not, eval-Call, eval-AllDifferent, eval-Question, eval-Element, eval-Field, eval-Record, eval-Listed, eval-Array, eval-KeyedArray, eval-Aggregate)
+
+pub ruleset descriptions = (eval-Described, eval-Number)
 
 pub ruleset sets_of = (set-Whole, set-Between)
 

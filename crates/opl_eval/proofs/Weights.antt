@@ -143,11 +143,14 @@ weight-at w (y ∷ ys) (suc i) x l e =
 pub weight-more : {A : Type 0} (w : A → ℕ) (x : A) (xs ys : List A) → ys ≡ x ∷ xs → total (map w ys) ≡ w x + total (map w xs)
 weight-more w x xs ys e = ap (λ l. total (map w l)) e
 
-pub ruleset weights = (weight-Bracket, weight-Negative, weight-Chain, weight-Related, weight-Member, weight-Equivalent, weight-Implied, weight-Or, weight-And, weight-Not, weight-Call, weight-AllDifferent, weight-Element, weight-Field, weight-Record, weight-Listed, weight-Aggregate, weight-Described)
+pub ruleset weights = (weight-Bracket, weight-Negative, weight-Chain, weight-Related, weight-Member, weight-Equivalent, weight-Implied, weight-Or, weight-And, weight-Not, weight-Call, weight-AllDifferent, weight-Element, weight-Field, weight-Record, weight-Listed, weight-Aggregate)
+
+pub ruleset weights_of_descriptions = (weight-Described, weight-Bracket)
 
 pub ruleset weights_of_sets = (weight-Whole, weight-Between)
 
 pub ruleset weights_of_groups = (weight-Unordered, weight-Ordered)
 
 pub ruleset weights_of_steps = (weight-Plus, weight-Minus, weight-Times, weight-Quotient, weight-Remainder)
+
 pub ruleset weights_of_lists = (weight-at, weight-more)

@@ -22,8 +22,8 @@ use crate::held::Held;
 use crate::scope::{Scope, bind, declaration_of, entry_of};
 use crate::visible::value_named;
 use opl_list::{Boxed, Seq};
-use opl_tree::AggregateOp;
 use opl_term::{GroupTerm, Pattern, SetTerm, Step, Term};
+use opl_tree::AggregateOp;
 use opl_value::Value;
 use std::alloc::Global;
 
@@ -124,11 +124,27 @@ pub(crate) fn evaluate<'a>(
             let elements = values(alloc, scope, terms.as_slice())?;
             set_of(alloc, elements)
         }
-        Term::Described(_, body, groups, condition) => {
-            let found = bodies(alloc, scope, groups.as_slice(), condition, body.get())?;
-            set_of(alloc, found)
+        Term::Described(at, body, groups, condition) => {
+            described(alloc, scope, *at, body.get(), groups.as_slice(), condition)
         }
     }
+}
+
+/// `{a | GROUPS : c}`
+#[tactic(auto, using(crate::proofs::Evals::descriptions, crate::proofs::Weights::weights_of_descriptions))]
+#[cycle(evaluation)]
+fn described<'a>(
+    alloc: Global,
+    scope: Scope<'a>,
+    at: u32,
+    body: &Term,
+    groups: &[GroupTerm],
+    condition: &Option<Boxed<Term>>,
+) -> Result<Held<'a>, EvalFault>
+    ensures { Gives held (spec.eval (Term.Described at body.now groups.now condition.now) (names_in scope.entry)) result }
+{
+    let found = bodies(alloc, scope, groups, condition, body)?;
+    set_of(alloc, found)
 }
 
 /// `- a` of a value.
@@ -139,11 +155,7 @@ fn negative_of<'a>(at: u32, operand: &Value) -> Result<Held<'a>, EvalFault>
 }
 
 /// A chain of a first value and operations.
-fn chain_of<'a>(
-    at: u32,
-    first: &Value,
-    operations: &[Operation],
-) -> Result<Held<'a>, EvalFault>
+fn chain_of<'a>(at: u32, first: &Value, operations: &[Operation]) -> Result<Held<'a>, EvalFault>
     ensures { Gives held (spec.integer (arithmetic.run at (compare.number first.now) operations.now)) result }
 {
     integer(run(at, number(first), operations))
@@ -285,11 +297,7 @@ fn values(alloc: Global, scope: Scope<'_>, terms: &[Term]) -> Result<Vec<Value>,
 /// The operations of a chain, with their operands evaluated one after another.
 #[tactic(auto, using(crate::proofs::Weights::weights_of_lists), unfolding(crate::specs::Visits::operations_in))]
 #[cycle(evaluation)]
-fn operations(
-    alloc: Global,
-    scope: Scope<'_>,
-    steps: &[Step],
-) -> Result<Vec<Operation>, EvalFault>
+fn operations(alloc: Global, scope: Scope<'_>, steps: &[Step]) -> Result<Vec<Operation>, EvalFault>
     ensures { Gives (λ os. os.items) (operations_in steps.now (names_in scope.entry)) result }
 {
     let mut found = Vec::new(alloc);
@@ -450,7 +458,17 @@ fn choose(
     let mut rest = elements;
     while let Some((element, behind)) = rest.split_first() {
         let next = next_of(is_ordered, behind, elements);
-        take_turn(alloc, scope, pattern, element.get(), is_ordered, others, next, later, found)?;
+        take_turn(
+            alloc,
+            scope,
+            pattern,
+            element.get(),
+            is_ordered,
+            others,
+            next,
+            later,
+            found,
+        )?;
         rest = behind;
     }
     Ok(())

@@ -14,28 +14,28 @@ choose-loop-element-init t c =
 pub choose-returns-in_err-take_turn : goal.choose-returns-in_err-take_turn
 choose-returns-in_err-take_turn t c =
     let h = turn_fault c.args.is_ordered c.in-Some.pattern.now c.in-Some.others.now (left c.args.elements) (bodies_of c.args.later) (names_in c.args.scope)
-        (chosen c.args.is_ordered c.args.patterns.now (left c.args.elements) (bodies_of c.args.later) (names_in c.args.scope))
-        c.args.found.now.items c.loop-element.found.items (left c.loop-element.rest) c.loop-element.invariant
-        (held c.in-Some-split_first.element) c.get.result.now (left c.in-Some-split_first.behind) (left c.next_of-next.result)
-        c.in-Some-split_first.ensures.some c.next_of-next.ensures c.get.ensures
-        c.in_err-take_turn.field-0.0 c.in_err-take_turn.ensures in
+    (chosen c.args.is_ordered c.args.patterns.now (left c.args.elements) (bodies_of c.args.later) (names_in c.args.scope))
+    c.args.found.now.items c.loop-element.found.items (left c.loop-element.rest) c.loop-element.invariant
+    (held c.in-Some-split_first.element) c.get.result.now (left c.in-Some-split_first.behind) (left c.next_of-next.result)
+    c.in-Some-split_first.ensures.some c.next_of-next.ensures c.get.ensures
+    c.in_err-take_turn.field-0.0 c.in_err-take_turn.ensures in
     search rules
 
 pub choose-loop-element-preserved : goal.choose-loop-element-preserved
 choose-loop-element-preserved t c =
     turn_added c.args.is_ordered c.in-Some.pattern.now c.in-Some.others.now (left c.args.elements) (bodies_of c.args.later) (names_in c.args.scope)
-        (chosen c.args.is_ordered c.args.patterns.now (left c.args.elements) (bodies_of c.args.later) (names_in c.args.scope))
-        c.args.found.now.items c.loop-element.found.items (left c.loop-element.rest) c.loop-element.invariant
-        (held c.in-Some-split_first.element) c.get.result.now (left c.in-Some-split_first.behind) (left c.next_of-next.result)
-        c.in-Some-split_first.ensures.some c.next_of-next.ensures c.get.ensures
-        c.take_turn.new.found.items c.in_ok-take_turn.ensures
+    (chosen c.args.is_ordered c.args.patterns.now (left c.args.elements) (bodies_of c.args.later) (names_in c.args.scope))
+    c.args.found.now.items c.loop-element.found.items (left c.loop-element.rest) c.loop-element.invariant
+    (held c.in-Some-split_first.element) c.get.result.now (left c.in-Some-split_first.behind) (left c.next_of-next.result)
+    c.in-Some-split_first.ensures.some c.next_of-next.ensures c.get.ensures
+    c.take_turn.new.found.items c.in_ok-take_turn.ensures
 
 pub choose-returns : goal.choose-returns
 choose-returns t c =
     turns_end (λ behind v. chosen c.args.is_ordered c.in-Some.others.now (cond c.args.is_ordered behind (left c.args.elements)) (bodies_of c.args.later) (with_parameters (bound c.in-Some.pattern.now v) (names_in c.args.scope)))
-        (chosen c.args.is_ordered c.args.patterns.now (left c.args.elements) (bodies_of c.args.later) (names_in c.args.scope))
-        c.args.found.now.items c.loop-element.found.items (left c.loop-element.rest) c.loop-element.invariant
-        c.in_default-split_first.ensures.none
+    (chosen c.args.is_ordered c.args.patterns.now (left c.args.elements) (bodies_of c.args.later) (names_in c.args.scope))
+    c.args.found.now.items c.loop-element.found.items (left c.loop-element.rest) c.loop-element.invariant
+    c.in_default-split_first.ensures.none
 
 pub take_turn-returns : goal.take_turn-returns
 take_turn-returns t c =
@@ -64,5 +64,5 @@ pub visit_over-returns : goal.visit_over-returns
 visit_over-returns t c =
     subst (λ f. Adds f c.args.found.now.items c.choose.new.found.items c.choose.result)
     (sym (over-made c.args.is_ordered c.args.patterns.now c.args.over.now c.args.later (names_in c.args.scope) (held c.in_ok-set.set) c.get.result.now c.declaration_of.result (left c.in_ok-elements.elements)
-        c.in_ok-set.ensures c.declaration_of.ensures c.get.ensures c.in_ok-elements.ensures))
+    c.in_ok-set.ensures c.declaration_of.ensures c.get.ensures c.in_ok-elements.ensures))
     c.choose.ensures

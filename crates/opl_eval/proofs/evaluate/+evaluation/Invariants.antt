@@ -5,6 +5,7 @@ use Rattle.opl_eval.specs.Scopes.{chosen, names_in, turns}
 use Rattle.opl_eval.specs.Visible.{left}
 use Rattle.opl_eval.specs.Visits.{bodies_of}
 use Rattle.opl_eval.specs.Weights.{weight, step_weight, set_weight, group_weight, visit_weight, if_any, total}
+use Rattle.opl_term.specs.declared.term.Term.TheVariants as terms
 use Rattle.opl_eval.proofs.evaluate.+evaluation.Given as goal
 
 abbrev pub decreases-evaluate : goal.decreases-evaluate
@@ -21,6 +22,9 @@ decreases-operations l = total (map step_weight l.steps.now) + 6
 
 abbrev pub decreases-operation : goal.decreases-operation
 decreases-operation l = step_weight l.step.now + 5
+
+abbrev pub decreases-described : goal.decreases-described
+decreases-described l = weight (terms.Described l.at l.body.now l.groups.now l.condition.now) + 3
 
 abbrev pub decreases-bodies : goal.decreases-bodies
 decreases-bodies l = total (map group_weight l.groups.now) + if_any (option_map weight l.condition.now) + weight l.body.now + 16
