@@ -1,6 +1,6 @@
 -- What a data expression comes to under the values of the visible names: a value, or the first fault.
--- Typing rules out a name that is not visible and a value of a kind that an operation does not take; what stands for these here
--- is the number 0, what is false or the empty list, so that each expression comes to something.
+-- Typing rules out a name that is not visible, a value of a kind that an operation does not take, and elements of what is no declared
+-- array; what stands for these here is the number 0, what is false or the empty list, so that each expression comes to something.
 use Rattle.std.specs.Prelude.{ℕ, suc, ℤ, pos, Bool, true, false, cond, not, ◌||◌, List, [], ◌∷◌, ◌++◌, map, fold, Option, Some, None, Result, Ok, Err}
 use Rattle.std.specs.List.{list_any, list_all, flat_map}
 use Rattle.std.specs.Str.{bytes_eq}
@@ -32,33 +32,67 @@ use Rattle.opl_eval.specs.Compare.{number, relates, is_member, cardinality, all_
 
 -- ---- names and their values
 
--- a visible name with its value; for the name of an enumeration, the number of its declaration
+-- what is found, or the first fault
+abbrev pub Found : Type 0 → Type 0
+Found A = Result A EvalFault
+
+-- a declared name with its value; for the name of an enumeration, the number of its declaration
 pub record Item : Type 0 where
   pub name : List ℕ
   pub value : Value
   pub declaration : ℕ
 
--- the visible names, the latest first, and for the place of each field's name the field's position in its struct
+-- a parameter with its value
+pub record Parameter : Type 0 where
+  pub name : List ℕ
+  pub value : Value
+
+-- the declared names and the parameters, each in the order in which they became visible, and for the place of each field's name
+-- the field's position in its struct
 pub record Environment : Type 0 where
   pub items : List Item
+  pub parameters : List Parameter
   pub position : ℕ → ℕ
 
--- what is found, or the first fault
-abbrev pub Found : Type 0 → Type 0
-Found A = Result A EvalFault
+-- the latest item with this name, else the one before
+abbrev pub latest_or : Option Item → List ℕ → List Item → Option Item
+latest_or before name [] = before
+latest_or before name (i ∷ is) = latest_or (cond (bytes_eq name i.name) (Some i) before) name is
 
--- a name that is no enumeration's
-abbrev pub named : List ℕ → Value → Item
-named name v = record { name = name; value = v; declaration = 0 }
+-- the value of the latest parameter with this name, else the one before
+abbrev pub parameter_or : Option Value → List ℕ → List Parameter → Option Value
+parameter_or before name [] = before
+parameter_or before name (p ∷ ps) = parameter_or (cond (bytes_eq name p.name) (Some p.value) before) name ps
 
--- the latest with this name
-abbrev pub item_of : List ℕ → List Item → Item
-item_of name [] = named name (values.Int (pos 0))
-item_of name (i ∷ is) = cond (bytes_eq name i.name) i (item_of name is)
+-- the item of a name, which a parameter hides
+abbrev pub unhidden : Option Value → Option Item → Option Item
+unhidden None i = i
+unhidden (Some v) i = None
 
--- the environment with further names
-abbrev pub with_items : List Item → Environment → Environment
-with_items is env = record { items = is ++ env.items; position = env.position }
+unfoldable pub item_named : List ℕ → Environment → Option Item
+item_named name env = unhidden (parameter_or None name env.parameters) (latest_or None name env.items)
+
+-- the value of a name
+abbrev pub visible : Option Value → Option Item → Value
+visible (Some v) i = v
+visible None (Some i) = i.value
+visible None None = values.Int (pos 0)
+
+unfoldable pub value_named : List ℕ → Environment → Value
+value_named name env = visible (parameter_or None name env.parameters) (latest_or None name env.items)
+
+-- the number of an enumeration's declaration, and 0 for what is none
+abbrev pub declaration_of : Option Item → ℕ
+declaration_of (Some i) = i.declaration
+declaration_of None = 0
+
+-- the environment with further parameters
+abbrev pub with_parameters : List Parameter → Environment → Environment
+with_parameters ps env = record { items = env.items; parameters = env.parameters ++ ps; position = env.position }
+
+-- the environment with one more declared name
+abbrev pub declared : List ℕ → Value → ℕ → Environment → Environment
+declared name v d env = record { items = env.items ++ record { name = name; value = v; declaration = d } ∷ []; parameters = env.parameters; position = env.position }
 
 -- ---- values
 
@@ -98,13 +132,14 @@ abbrev pub at_place : ℕ → List Value → Option ℕ → Found Value
 at_place at cells None = Err (OutOfIndex at)
 at_place at cells (Some p) = Ok (value_at cells p)
 
--- the element of an array with this key
+-- the element of a declared array with this key
 abbrev pub element_layer : {A : Type 0} → ℕ → List Value → Value-F A Value IndexSpace → Found Value
 element_layer at key (Value-F.Array space cells) = at_place at cells (place_of (lists space) key)
 element_layer at key v = Ok (values.Int (pos 0))
 
-abbrev pub element : ℕ → List Value → Value → Found Value
-element at key v = element_layer at key (out-Value v)
+abbrev pub element : ℕ → List Value → Option Item → Found Value
+element at key (Some i) = element_layer at key (out-Value i.value)
+element at key None = Ok (values.Int (pos 0))
 
 -- whether the elements of an array differ pairwise
 abbrev pub different_layer : {A C : Type 0} → Value-F A Value C → Bool
@@ -137,10 +172,10 @@ gathered (a ∷ others) = then a (λ xs. found (λ ys. xs ++ ys) (gathered other
 
 -- ---- what the parts of an expression mean
 
--- of a term: its value, and where it names an enumeration the number of that one's declaration
+-- of a term: its value, and where it is a declared name that one's item
 pub record Meaning : Type 0 where
   pub value : Environment → Found Value
-  pub declaration : Environment → ℕ
+  pub item : Environment → Option Item
 
 -- of a group of parameters: whether it is ordered, what its elements are called, and its set
 pub record Group : Type 0 where
@@ -151,28 +186,28 @@ pub record Group : Type 0 where
 -- ---- parameters
 
 -- the parts of a record by name
-abbrev pub bound_parts : List (List ℕ) → List Value → List Item
-bound_parts (n ∷ ns) (v ∷ vs) = named n v ∷ bound_parts ns vs
+abbrev pub bound_parts : List (List ℕ) → List Value → List Parameter
+bound_parts (n ∷ ns) (v ∷ vs) = record { name = n; value = v } ∷ bound_parts ns vs
 bound_parts ns vs = []
 
 -- what a pattern calls an element or its parts
-abbrev pub bound : Pattern → Value → List Item
-bound (Single name) v = named name v ∷ []
+abbrev pub bound : Pattern → Value → List Parameter
+bound (Single name) v = record { name = name; value = v } ∷ []
 bound (Parts names) v = bound_parts names (parts v)
 
 -- each pattern goes over all elements, the first slowest
-abbrev pub independent : List Pattern → List Value → List (List Item)
+abbrev pub independent : List Pattern → List Value → List (List Parameter)
 independent [] vs = [] ∷ []
-independent (p ∷ ps) vs = flat_map (λ v. map (λ later. later ++ bound p v) (independent ps vs)) vs
+independent (p ∷ ps) vs = flat_map (λ v. map (λ later. bound p v ++ later) (independent ps vs)) vs
 
 -- each pattern's element stands before that of the next
-abbrev pub in_order : List Pattern → List Value → List (List Item)
+abbrev pub in_order : List Pattern → List Value → List (List Parameter)
 in_order [] vs = [] ∷ []
 in_order (p ∷ ps) [] = []
-in_order (p ∷ ps) (v ∷ vs) = map (λ later. later ++ bound p v) (in_order ps vs) ++ in_order (p ∷ ps) vs
+in_order (p ∷ ps) (v ∷ vs) = map (λ later. bound p v ++ later) (in_order ps vs) ++ in_order (p ∷ ps) vs
 
 -- the choices of a group
-abbrev pub choices : Group → List Value → List (List Item)
+abbrev pub choices : Group → List Value → List (List Parameter)
 choices g vs = cond g.is_ordered (in_order g.patterns vs) (independent g.patterns vs)
 
 -- what is found under all choices of the groups, the first varying slowest; the set of each is found anew for each choice of those
@@ -180,7 +215,7 @@ choices g vs = cond g.is_ordered (in_order g.patterns vs) (independent g.pattern
 abbrev pub visited : {A : Type 0} → List Group → (Environment → Found (List A)) → Environment → Found (List A)
 visited [] inner env = inner env
 visited (g ∷ gs) inner env =
-    then (g.over.value env) (λ v. gathered (map (λ is. visited gs inner (with_items is env)) (choices g (elements (g.over.declaration env) v))))
+    then (g.over.value env) (λ v. gathered (map (λ ps. visited gs inner (with_parameters ps env)) (choices g (elements (declaration_of (g.over.item env)) v))))
 
 -- the body, where the condition holds
 abbrev pub body_where : Option Meaning → Meaning → Environment → Found (List Value)
@@ -226,7 +261,7 @@ abbrev pub value_layer : Term-F Group Meaning (Environment → Found Operation) 
 -- a number
 value_layer (Term-F.Number at n) env = Ok (values.Int n)
 -- a name
-value_layer (Term-F.Named at name) env = Ok (item_of name env.items).value
+value_layer (Term-F.Named at name) env = Ok (value_named name env)
 -- `(a)`
 value_layer (Term-F.Bracket at t) env = t.value env
 -- `-a`
@@ -261,8 +296,7 @@ value_layer (Term-F.AllDifferent at t) env = found (λ v. values.Bool (different
 -- questions are no data
 value_layer (Term-F.Question at op t) env = Ok (values.Int (pos 0))
 -- `a[b,..]`
-value_layer (Term-F.Element at base subscripts) env =
-    then (base.value env) (λ v. then (values_of subscripts env) (λ key. element at key v))
+value_layer (Term-F.Element at base subscripts) env = then (values_of subscripts env) (λ key. element at key (base.item env))
 -- `a.f`
 value_layer (Term-F.Field at t place name) env = found (λ v. value_at (parts v) (env.position place)) (t.value env)
 -- `<a,..>`
@@ -276,14 +310,14 @@ value_layer (Term-F.Described at t groups condition) env =
 value_layer (Term-F.Array at ts) env = Ok (values.Int (pos 0))
 value_layer (Term-F.KeyedArray at keys cells) env = Ok (values.Int (pos 0))
 
--- a name, in brackets or not, may be that of an enumeration
-abbrev pub declaration_layer : Term-F Group Meaning (Environment → Found Operation) Meaning → Environment → ℕ
-declaration_layer (Term-F.Named at name) env = (item_of name env.items).declaration
-declaration_layer (Term-F.Bracket at t) env = t.declaration env
-declaration_layer t env = 0
+-- a name, in brackets or not
+abbrev pub item_layer : Term-F Group Meaning (Environment → Found Operation) Meaning → Environment → Option Item
+item_layer (Term-F.Named at name) env = item_named name env
+item_layer (Term-F.Bracket at t) env = t.item env
+item_layer t env = None
 
 abbrev pub term_layer : Term-F Group Meaning (Environment → Found Operation) Meaning → Meaning
-term_layer t = record { value = value_layer t; declaration = declaration_layer t }
+term_layer t = record { value = value_layer t; item = item_layer t }
 
 -- the numbers from one to another
 abbrev pub between : Meaning → Meaning → Environment → Found Value
@@ -291,7 +325,7 @@ between low high env = then (low.value env) (λ l. then (high.value env) (λ h. 
 
 abbrev pub set_layer : SetTerm-F Group Meaning (Environment → Found Operation) Meaning → Meaning
 set_layer (SetTerm-F.Whole t) = t
-set_layer (SetTerm-F.Between low high) = record { value = between low high; declaration = λ env. 0 }
+set_layer (SetTerm-F.Between low high) = record { value = between low high; item = λ env. None }
 
 abbrev pub group_layer : GroupTerm-F Group Meaning (Environment → Found Operation) Meaning → Group
 group_layer (GroupTerm-F.Unordered patterns over) = record { is_ordered = false; patterns = patterns; over = over }

@@ -1,4 +1,10 @@
 pub mod Arithmetic
+pub mod ArrayKeys
 pub mod Compare
 pub mod Evaluation
+pub mod LatestPlaces
 pub mod Laws
+pub mod Scopes
+pub mod Visible
+pub mod Visits
+pub mod Weights
