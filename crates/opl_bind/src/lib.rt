@@ -1,0 +1,19 @@
+//! The data values of a model, from its declarations and its data files.
+#![tactic(auto)]
+
+mod assigned;
+mod axis;
+mod cells;
+mod declare;
+mod enumeration;
+mod fault;
+mod form;
+mod given;
+pub mod laws;
+mod names;
+mod place;
+mod types;
+mod value;
+
+pub use assigned::Override;
+pub use fault::BindFault;
