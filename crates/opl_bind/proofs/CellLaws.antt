@@ -68,13 +68,17 @@ length-listed wrong axis parts cells h =
     let w = passed (nat_eq (length parts) (length axis.values)) (Ok parts) wrong cells h in
     ap length (sym (same_ok parts cells w.1)) ∙ same_number (length parts) (length axis.values) w.0
 
+length-free : (pairs : List DataPair) → length (free {C = DataValue} pairs) ≡ length pairs
+length-free [] = refl
+length-free (p ∷ ps) = ap suc (length-free ps)
+
 length-keyed : (known : Known) (wrong : BindFault) (axis : Axis) (pairs : List DataPair) (cells : List DataValue) → keyed known wrong axis pairs ≡ Ok cells → length cells ≡ length axis.values
 length-keyed known wrong axis pairs cells h =
     let w = passed (nat_eq (length pairs) (length axis.values)) (then (lay known wrong axis (free pairs) pairs) (filled wrong [])) wrong cells h in
     let s = went_first (lay known wrong axis (free pairs) pairs) (filled wrong []) cells w.1 in
     let a = length-filled wrong [] cells s.0 s.2 in
     let b = length-lay known wrong axis (free pairs) s.0 pairs s.1 in
-    let l : length (free pairs) ≡ length pairs = length-map pairs (λ p. None {A = DataValue}) in
+    let l = length-free pairs in
     let n = same_number (length pairs) (length axis.values) w.0 in
     omega arith
 

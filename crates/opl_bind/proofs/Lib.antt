@@ -5,6 +5,8 @@ pub mod Examples
 pub mod Gifts
 pub mod Kept
 pub mod Layers
+pub mod Learnt
 pub mod Numbers
 pub mod Places
 pub mod Slots
+pub mod Spaces

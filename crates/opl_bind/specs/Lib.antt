@@ -6,5 +6,7 @@ pub mod Arrays
 pub mod Given
 pub mod Enumerations
 pub mod Assigned
+pub mod Axes
+pub mod Items
 pub mod Laws
 pub mod Readings
