@@ -1,5 +1,5 @@
 //! The index sets of arrays.
-ghost use Rattle.std.specs.Prelude.{◌≡◌};
+ghost use Rattle.std.specs.Prelude.{◌≡◌, IfOk};
 ghost use Rattle.opl_value.specs.Places.{numbers_between};
 ghost use Rattle.opl_bind.specs.Axes as spec;
 ghost use Rattle.opl_bind.specs.Faults.{Does};
@@ -12,7 +12,7 @@ use crate::learn::learn_elements;
 use opl_list::Seq;
 use opl_token::Name;
 use opl_value::{Dimension, Value};
-use std::alloc::Global;
+use std::alloc::{AllocError, Global};
 
 /// The position as it is kept; where there is no such position memory is wanting.
 fn position_of(place: usize) -> Result<u32, BindFault>
@@ -35,12 +35,23 @@ fn name_values(alloc: Global, declaration: u32, names: &[Name]) -> Result<Seq<Va
     Ok(values)
 }
 
-/// The index set of a set's elements.
-fn listed(alloc: Global, elements: Seq<Value>) -> Result<Axis, BindFault>
-    ensures { Does (λ axis. axis_of axis ≡ spec.listed elements) result }
+/// Copies of values, in their order.
+fn copies(alloc: Global, values: &[Value]) -> Result<Seq<Value>, AllocError>
+    ensures { IfOk result (λ copies. copies ≡ values.now) }
 {
-    let form = learn_elements(alloc, elements.as_slice(), Form::Nothing)?;
-    let dimension = Dimension::of_set(alloc, elements)?;
+    let mut copies = Seq::new(alloc);
+    for value in values {
+        copies.push(value.copy(alloc)?)?;
+    }
+    Ok(copies)
+}
+
+/// The index set of a set's elements.
+fn listed(alloc: Global, elements: &[Value]) -> Result<Axis, BindFault>
+    ensures { Does (λ axis. axis_of axis ≡ spec.listed elements.now) result }
+{
+    let form = learn_elements(alloc, elements, Form::Nothing)?;
+    let dimension = Dimension::of_set(alloc, copies(alloc, elements)?)?;
     Ok(Axis { dimension, form })
 }
 
@@ -74,12 +85,16 @@ fn nothing() -> Axis
 
 /// The index set that a set is, or the enumeration of this declaration.
 #[tactic(auto, using(crate::proofs::Learnt::sets))]
-pub(crate) fn index_set(alloc: Global, set: Value, declaration: u32) -> Result<Axis, BindFault>
-    ensures { Does (λ axis. axis_of axis ≡ spec.axis_of_set declaration set) result }
+pub(crate) fn index_set(
+    alloc: Global,
+    set: &Value,
+    declaration: u32,
+) -> Result<Axis, BindFault>
+    ensures { Does (λ axis. axis_of axis ≡ spec.axis_of_set declaration set.now) result }
 {
     match set {
-        Value::Set(elements) => listed(alloc, elements),
-        Value::Range(low, high) => Ok(between(&low, &high)),
+        Value::Set(elements) => listed(alloc, elements.as_slice()),
+        Value::Range(low, high) => Ok(between(low, high)),
         Value::Names(names) => named(alloc, declaration, names.as_slice()),
         Value::Int(_) | Value::Bool(_) | Value::Enum(..) | Value::Record(_) | Value::Array(..) => {
             Ok(nothing())

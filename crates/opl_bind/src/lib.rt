@@ -15,6 +15,8 @@ pub mod laws;
 mod learn;
 mod names;
 mod place;
+#[cfg(test)]
+mod tests;
 mod types;
 mod value;
 
