@@ -116,11 +116,11 @@ parts_of-Set known element = ap (parts_layer known) (forms.outs-Set element)
 
 pub element_of-Nothing : element_of forms.Nothing ≡ None
 unfolding element_of
-element_of-Nothing  = ap element_layer forms.outs-Nothing
+element_of-Nothing = ap element_layer forms.outs-Nothing
 
 pub element_of-Int : element_of forms.Int ≡ None
 unfolding element_of
-element_of-Int  = ap element_layer forms.outs-Int
+element_of-Int = ap element_layer forms.outs-Int
 
 pub element_of-Range : (low : ℤ) (high : ℤ) → element_of (forms.Range low high) ≡ None
 unfolding element_of

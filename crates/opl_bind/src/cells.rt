@@ -202,9 +202,8 @@ fn cells_of<'v>(
     match value {
         DataValue::Array(_, parts) => listed(alloc, source, axis, parts.as_slice()),
         DataValue::KeyedArray(_, pairs) => keyed(alloc, types, source, axis, pairs.as_slice()),
-        DataValue::Number(..) | DataValue::Named(_) | DataValue::Record(..) | DataValue::Set(..) => {
-            Err(source.shape())
-        }
+        DataValue::Number(..) | DataValue::Named(_) | DataValue::Record(..) | DataValue::Set(..) =>
+            { Err(source.shape()) }
     }
 }
 

@@ -29,11 +29,7 @@ fn form_named(alloc: Global, types: &Types<'_>, name: &[u8]) -> Result<Form, All
 
 /// The form of a type that is written.
 #[tactic(auto, using(crate::proofs::Kept::written))]
-pub(crate) fn form_of(
-    alloc: Global,
-    types: &Types<'_>,
-    t: &TypeTree,
-) -> Result<Form, AllocError>
+pub(crate) fn form_of(alloc: Global, types: &Types<'_>, t: &TypeTree) -> Result<Form, AllocError>
     ensures { IfOk result (λ form. form ≡ spec.form_of t.now (known_of types.now)) }
 {
     match t {
@@ -167,7 +163,8 @@ impl<'a> Types<'a> {
     ) -> Result<Types<'a>, BindFault>
         ensures { Does (λ types. known_of types ≡ spec.with_range name.now low high (known_of self.entry)) result }
     {
-        self.with_type(name, Form::Range(low, high))?.with_none(alloc)
+        self.with_type(name, Form::Range(low, high))?
+            .with_none(alloc)
     }
 
     /// The same, with an enumeration of these names.
@@ -180,15 +177,21 @@ impl<'a> Types<'a> {
         ensures { Does (λ types. known_of types ≡ spec.with_enumeration name.now (texts_of names.entry) (known_of self.entry)) result }
     {
         let form = Form::Enumeration(self.number());
-        self.with_type(name, form)?.with_declaration(names, Seq::new(alloc))
+        self.with_type(name, form)?
+            .with_declaration(names, Seq::new(alloc))
     }
 
     /// The same, with a struct.
-    pub(crate) fn with_struct(self, alloc: Global, t: &'a StructTree) -> Result<Types<'a>, BindFault>
+    pub(crate) fn with_struct(
+        self,
+        alloc: Global,
+        t: &'a StructTree,
+    ) -> Result<Types<'a>, BindFault>
         ensures { Does (λ types. known_of types ≡ spec.with_struct t.now (known_of self.entry)) result }
     {
         let fields = field_forms(alloc, &self, &t.first, t.rest.as_slice())?;
         let form = Form::Struct(self.number());
-        self.with_type(t.name.text.as_slice(), form)?.with_declaration(Names::new(alloc), fields)
+        self.with_type(t.name.text.as_slice(), form)?
+            .with_declaration(Names::new(alloc), fields)
     }
 }

@@ -42,11 +42,7 @@ fn name_of(source: Source, value: &DataValue) -> Result<&[u8], BindFault>
 }
 
 /// A name behind those before, from which it differs.
-fn with_new<'d>(
-    source: Source,
-    names: Names<'d>,
-    name: &'d [u8],
-) -> Result<Names<'d>, BindFault>
+fn with_new<'d>(source: Source, names: Names<'d>, name: &'d [u8]) -> Result<Names<'d>, BindFault>
     ensures { Gives texts_of (spec.with_new (BindFault.Shape source.file source.at) (texts_of names.entry) name.now) result }
 {
     if names.place(name).is_some() {
@@ -73,11 +69,7 @@ fn different_names<'d>(
 
 /// A set of names that all differ.
 #[tactic(auto, using(crate::proofs::Enumerations::variants))]
-fn names_in<'d>(
-    alloc: Global,
-    source: Source,
-    value: &'d DataValue,
-) -> Result<Names<'d>, BindFault>
+fn names_in<'d>(alloc: Global, source: Source, value: &'d DataValue) -> Result<Names<'d>, BindFault>
     ensures { Gives texts_of (spec.names_in (BindFault.Shape source.file source.at) value.now) result }
 {
     match value {

@@ -76,7 +76,11 @@ fn given_twice(alloc: Global, name: &Name) -> Result<BindFault, BindFault>
 }
 
 /// The names before, and that of a data item that awaits its value.
-fn awaiting_item<'m>(names: Names<'m>, initial: &InitialTree, name: &'m [u8]) -> Result<Names<'m>, BindFault>
+fn awaiting_item<'m>(
+    names: Names<'m>,
+    initial: &InitialTree,
+    name: &'m [u8],
+) -> Result<Names<'m>, BindFault>
     ensures { Does (λ r. texts_of r ≡ texts_of names.entry ++ spec.awaited_initial initial.now name.now) result }
 {
     match initial {
@@ -86,7 +90,11 @@ fn awaiting_item<'m>(names: Names<'m>, initial: &InitialTree, name: &'m [u8]) ->
 }
 
 /// The names before, and that of an enumeration that awaits its names.
-fn awaiting_enumeration<'m>(names: Names<'m>, listed: &EnumNamesTree, name: &'m [u8]) -> Result<Names<'m>, BindFault>
+fn awaiting_enumeration<'m>(
+    names: Names<'m>,
+    listed: &EnumNamesTree,
+    name: &'m [u8],
+) -> Result<Names<'m>, BindFault>
     ensures { Does (λ r. texts_of r ≡ texts_of names.entry ++ spec.awaited_names listed.now name.now) result }
 {
     match listed {

@@ -85,11 +85,7 @@ fn nothing() -> Axis
 
 /// The index set that a set is, or the enumeration of this declaration.
 #[tactic(auto, using(crate::proofs::Learnt::sets))]
-pub(crate) fn index_set(
-    alloc: Global,
-    set: &Value,
-    declaration: u32,
-) -> Result<Axis, BindFault>
+pub(crate) fn index_set(alloc: Global, set: &Value, declaration: u32) -> Result<Axis, BindFault>
     ensures { Does (λ axis. axis_of axis ≡ spec.axis_of_set declaration set.now) result }
 {
     match set {

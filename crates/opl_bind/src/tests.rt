@@ -1,10 +1,13 @@
 //! Values of data files, worked out by hand.
+use crate::assigned::Override;
 use crate::axis::Axis;
 use crate::cells::{Source, elements_in};
 use crate::enumeration::{first_token, given_names};
 use crate::fault::BindFault;
 use crate::form::Form;
-use crate::given::all_given;
+use crate::given::{GivenValue, all_given};
+use crate::index::index_set;
+use crate::item::{given_cells, single_value};
 use crate::names::Names;
 use crate::types::Types;
 use crate::value::value_in;
@@ -12,7 +15,7 @@ use opl_data::{DataFile, DataValue, parse_data};
 use opl_list::{Boxed, Seq};
 use opl_token::scan;
 use opl_tree::{DataTree, DeclTree, InitialTree, NameTree, TypeTree};
-use opl_value::{Dimension, Value};
+use opl_value::Value;
 use std::alloc::Global;
 use std::process::Abort;
 
@@ -44,6 +47,8 @@ enum Way {
     Grid,
     /// `int x[{<1,2>,<2,1>}]`
     Pairs,
+    /// `int x[{<1,{}>,<2,{7}>}]`
+    Sets,
     /// `enum E ...;`
     Enumeration,
 }
@@ -73,20 +78,16 @@ fn types<'a>(alloc: Global) -> Result<Types<'a>, BindFault> {
 }
 
 /// The index set 1..2.
-fn two() -> Axis {
-    let dimension = Dimension::whole(1, 2);
-    let form = Form::Int;
-    Axis { dimension, form }
+fn two(alloc: Global) -> Result<Axis, BindFault> {
+    index_set(alloc, &Value::Range(1, 2), 0)
 }
 
 /// The index set E.
 fn names(alloc: Global) -> Result<Axis, BindFault> {
-    let mut values = Seq::new(alloc);
-    values.push(Value::Enum(1, 0))?;
-    values.push(Value::Enum(1, 1))?;
-    let dimension = Dimension::of_set(alloc, values)?;
-    let form = Form::Enumeration(1);
-    Ok(Axis { dimension, form })
+    let mut names = Seq::new(alloc);
+    names.push(Seq::from_slice(alloc, b"a")?)?;
+    names.push(Seq::from_slice(alloc, b"b")?)?;
+    index_set(alloc, &Value::Names(names), 1)
 }
 
 /// The record <a,b>.
@@ -102,14 +103,25 @@ fn pairs(alloc: Global) -> Result<Axis, BindFault> {
     let mut values = Seq::new(alloc);
     values.push(pair(alloc, 1, 2)?)?;
     values.push(pair(alloc, 2, 1)?)?;
-    let dimension = Dimension::of_set(alloc, values)?;
+    index_set(alloc, &Value::Set(values), 0)
+}
+
+/// The record <a,S>.
+fn with_set(alloc: Global, a: i128, set: Seq<Value>) -> Result<Value, BindFault> {
     let mut parts = Seq::new(alloc);
-    parts.push(Form::Int)?;
-    parts.push(Form::Int)?;
-    Ok(Axis {
-        dimension,
-        form: Form::Record(parts),
-    })
+    parts.push(Value::Int(a))?;
+    parts.push(Value::Set(set))?;
+    Ok(Value::Record(parts))
+}
+
+/// The index set {<1,{}>,<2,{7}>}.
+fn sets(alloc: Global) -> Result<Axis, BindFault> {
+    let mut seven = Seq::new(alloc);
+    seven.push(Value::Int(7))?;
+    let mut values = Seq::new(alloc);
+    values.push(with_set(alloc, 1, Seq::new(alloc))?)?;
+    values.push(with_set(alloc, 2, seven)?)?;
+    index_set(alloc, &Value::Set(values), 0)
 }
 
 /// The form of the elements.
@@ -119,7 +131,7 @@ fn form(alloc: Global, way: Way) -> Result<Form, BindFault> {
         Way::Names => Ok(Form::Enumeration(1)),
         Way::Struct => Ok(Form::Struct(2)),
         Way::Structs => Ok(Form::Set(Boxed::new(alloc, Form::Struct(2))?)),
-        Way::Int | Way::Row | Way::Pairs | Way::Enumeration => Ok(Form::Int),
+        Way::Int | Way::Row | Way::Pairs | Way::Sets | Way::Enumeration => Ok(Form::Int),
     }
 }
 
@@ -127,12 +139,13 @@ fn form(alloc: Global, way: Way) -> Result<Form, BindFault> {
 fn axes(alloc: Global, way: Way) -> Result<Seq<Axis>, BindFault> {
     let mut axes = Seq::new(alloc);
     match way {
-        Way::Row => axes.push(two())?,
+        Way::Row => axes.push(two(alloc)?)?,
         Way::Grid => {
-            axes.push(two())?;
+            axes.push(two(alloc)?)?;
             axes.push(names(alloc)?)?;
         }
         Way::Pairs => axes.push(pairs(alloc)?)?,
+        Way::Sets => axes.push(sets(alloc)?)?,
         Way::Int | Way::Range | Way::Names | Way::Struct | Way::Structs | Way::Enumeration => {}
     }
     Ok(axes)
@@ -147,7 +160,7 @@ fn read(alloc: Global, way: Way, value: &DataValue) -> Result<(), BindFault> {
         Way::Enumeration => {
             let _names = given_names(alloc, 1, value)?;
         }
-        Way::Row | Way::Grid | Way::Pairs => {
+        Way::Row | Way::Grid | Way::Pairs | Way::Sets => {
             let at = first_token(value);
             let source = Source { file: 1, at };
             let _cells = elements_in(alloc, &types, source, axes.as_slice(), &form, value)?;
@@ -160,7 +173,7 @@ fn read(alloc: Global, way: Way, value: &DataValue) -> Result<(), BindFault> {
 }
 
 /// What becomes of the first item of a data file.
-fn answer(rt: &impl Abort, alloc: Global, way: Way, text: &[u8]) -> Answer {
+fn told(rt: &impl Abort, alloc: Global, way: Way, text: &[u8]) -> Answer {
     let tree = file(rt, alloc, text);
     let Some(item) = tree.items.get(0) else {
         return Answer::Other;
@@ -174,7 +187,7 @@ fn answer(rt: &impl Abort, alloc: Global, way: Way, text: &[u8]) -> Answer {
 }
 
 /// A way to read, a data file, and what becomes of its first item.
-const VALUES: [(Way, &[u8], Answer); 44] = [
+const VALUES: [(Way, &[u8], Answer); 48] = [
     (Way::Int, b"x = 5;", Answer::Fits),
     (Way::Int, b"x = -5;", Answer::Fits),
     (Way::Int, b"x = a;", Answer::Shape(4)),
@@ -216,6 +229,10 @@ const VALUES: [(Way, &[u8], Answer); 44] = [
     (Way::Pairs, b"x = #[<2,1>:4,<1,2>:5]#;", Answer::Fits),
     (Way::Pairs, b"x = #[<1,2>:4]#;", Answer::Shape(4)),
     (Way::Pairs, b"x = #[<1,2>:4,<1>:5]#;", Answer::Shape(4)),
+    (Way::Sets, b"x = #[<2,{7}>:4,<1,{}>:5]#;", Answer::Fits),
+    (Way::Sets, b"x = #[<2,{7,7}>:4,<1,{}>:5]#;", Answer::Fits),
+    (Way::Sets, b"x = #[<2,{7}>:4,<1,{7}>:5]#;", Answer::Shape(4)),
+    (Way::Sets, b"x = #[<2,{7}>:4,<1,{}>:a]#;", Answer::Shape(23)),
     (Way::Enumeration, b"E = {a,b};", Answer::Fits),
     (Way::Enumeration, b"E = {a,b,a};", Answer::Shape(4)),
     (Way::Enumeration, b"E = {a,1};", Answer::Shape(4)),
@@ -224,7 +241,7 @@ const VALUES: [(Way, &[u8], Answer); 44] = [
 #[test]
 fn values(rt: HostRuntime) {
     for (way, text, wanted) in VALUES {
-        assert_eq!(&rt; answer(&rt, rt.alloc(), way, text), wanted);
+        assert_eq!(&rt; told(&rt, rt.alloc(), way, text), wanted);
     }
 }
 
@@ -276,9 +293,129 @@ const FILES: [(&[u8], &[u8], u32); 8] = [
 #[test]
 fn given(rt: HostRuntime) {
     for (first, second, wanted) in FILES {
-        let Ok(files) = vec![in rt.alloc(); file(&rt, rt.alloc(), first), file(&rt, rt.alloc(), second)] else {
+        let Ok(files) = vec![in rt.alloc();
+            file(&rt, rt.alloc(), first),
+            file(&rt, rt.alloc(), second),
+        ] else {
             panic!(&rt; "out of memory")
         };
         assert_eq!(&rt; fault_of(rt.alloc(), files.as_slice()), wanted);
+    }
+}
+
+/// The values that are assigned to the elements of x with these subscripts.
+fn assigned(alloc: Global, values: &[(i128, i128)]) -> Result<Seq<Override>, BindFault> {
+    let mut overrides = Seq::new(alloc);
+    for (subscript, value) in values {
+        overrides.push(Override {
+            name: Seq::from_slice(alloc, b"x")?,
+            index: Seq::from_slice(alloc, &[*subscript])?,
+            value: *value,
+        })?;
+    }
+    Ok(overrides)
+}
+
+/// The cells of `R x[1..2]` as `[1,1]` gives them, after assignments: 12 for [1,2], and 0 for an assignment that does not fit.
+fn cells_after(
+    alloc: Global,
+    value: &DataValue,
+    values: &[(i128, i128)],
+) -> Result<i128, BindFault> {
+    let types = types(alloc)?;
+    let axes = axes(alloc, Way::Row)?;
+    let overrides = assigned(alloc, values)?;
+    let given = GivenValue { file: 1, value };
+    let name = Seq::from_slice(alloc, b"x")?;
+    let form = Form::Range(1, 2);
+    let found = given_cells(
+        alloc,
+        &types,
+        &form,
+        &name,
+        overrides.as_slice(),
+        given,
+        axes.as_slice(),
+    );
+    match found {
+        Ok((_, cells)) => match cells.as_slice() {
+            [Value::Int(a), Value::Int(b)] => Ok(a.wrapping_mul(10).wrapping_add(*b)),
+            _ => Ok(-1),
+        },
+        Err(BindFault::Override(_)) => Ok(0),
+        Err(fault) => Err(fault),
+    }
+}
+
+/// Subscripts with values, and the cells after their assignments.
+const ASSIGNED: [(&[(i128, i128)], i128); 8] = [
+    (&[], 11),
+    (&[(1, 2)], 21),
+    (&[(2, 2)], 12),
+    (&[(1, 9), (1, 2)], 21),
+    (&[(1, 2), (1, 9)], 0),
+    (&[(3, 1)], 0),
+    (&[(0, 1), (1, 1)], 0),
+    (&[(2, 2), (1, 2)], 22),
+];
+
+#[test]
+fn assignments(rt: HostRuntime) {
+    let tree = file(&rt, rt.alloc(), b"x = [1,1];");
+    let Some(item) = tree.items.get(0) else {
+        panic!(&rt; "no item")
+    };
+    for (values, wanted) in ASSIGNED {
+        let Ok(found) = cells_after(rt.alloc(), &item.value, values) else {
+            panic!(&rt; "no cells")
+        };
+        assert_eq!(&rt; found, wanted);
+    }
+}
+
+/// The value of `R x = ...;` with no value in the files, or -1 where it is missing, -2 where what is assigned does not fit.
+fn alone(alloc: Global, values: &[i128]) -> Result<i128, BindFault> {
+    let types = types(alloc)?;
+    let mut overrides = Seq::new(alloc);
+    for value in values {
+        overrides.push(Override {
+            name: Seq::from_slice(alloc, b"x")?,
+            index: Seq::new(alloc),
+            value: *value,
+        })?;
+    }
+    let name = Seq::from_slice(alloc, b"x")?;
+    match single_value(
+        alloc,
+        &types,
+        &Form::Range(1, 2),
+        &name,
+        overrides.as_slice(),
+        None,
+    ) {
+        Ok(Value::Int(number)) => Ok(number),
+        Ok(_) => Ok(-9),
+        Err(BindFault::Missing(_)) => Ok(-1),
+        Err(BindFault::Override(_)) => Ok(-2),
+        Err(fault) => Err(fault),
+    }
+}
+
+/// Values that are assigned to a single item, and its value.
+const ALONE: [(&[i128], i128); 5] = [
+    (&[], -1),
+    (&[1], 1),
+    (&[9, 2], 2),
+    (&[2, 9], -2),
+    (&[1, 2], 2),
+];
+
+#[test]
+fn single_items(rt: HostRuntime) {
+    for (values, wanted) in ALONE {
+        let Ok(found) = alone(rt.alloc(), values) else {
+            panic!(&rt; "no value")
+        };
+        assert_eq!(&rt; found, wanted);
     }
 }
