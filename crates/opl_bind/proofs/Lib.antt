@@ -1,0 +1,12 @@
+pub mod Answering
+pub mod CellLaws
+pub mod Enumerations
+pub mod Examples
+pub mod Gifts
+pub mod Kept
+pub mod Layers
+pub mod Learnt
+pub mod Numbers
+pub mod Places
+pub mod Slots
+pub mod Spaces

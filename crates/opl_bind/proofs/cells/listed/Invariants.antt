@@ -1,0 +1,6 @@
+use Rattle.std.proofs.Common.{◌≡◌, ◌++◌, [], ◌∷◌, map, drop}
+use Rattle.opl_bind.specs.Readings.{axis_of, known_of, laid, lent}
+use Rattle.opl_bind.proofs.cells.listed.Given as goal
+
+abbrev pub invariant-loop-part : goal.invariant-loop-part
+invariant-loop-part l = l.parts ≡ lent l.cells ++ drop l.part-index l.parts

@@ -1,0 +1,10 @@
+use Rattle.std.proofs.Common.{◌≡◌, ◌++◌, [], ◌∷◌, map, drop}
+use Rattle.opl_bind.specs.Arrays as spec
+use Rattle.opl_bind.specs.Readings.{axis_of, known_of, laid, lent}
+use Rattle.opl_bind.specs.declared.fault.BindFault.TheVariants.{Shape}
+use Rattle.opl_bind.proofs.cells.opened.Given as goal
+
+abbrev pub invariant-loop-value : goal.invariant-loop-value
+invariant-loop-value l =
+    spec.opened (known_of l.types) (Shape l.source.file l.source.at) (axis_of l.axis) [] (lent l.values)
+    ≡ spec.opened (known_of l.types) (Shape l.source.file l.source.at) (axis_of l.axis) (lent l.all) (lent (drop l.value-index l.values))

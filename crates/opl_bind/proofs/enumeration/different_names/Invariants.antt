@@ -1,0 +1,10 @@
+use Rattle.std.proofs.Common.{◌≡◌, ◌++◌, [], ◌∷◌, map, drop}
+use Rattle.opl_bind.specs.Readings.{known_of, texts_of}
+use Rattle.opl_bind.specs.declared.fault.BindFault.TheVariants.{Shape}
+use Rattle.opl_bind.specs.Enumerations as spec
+use Rattle.opl_bind.proofs.enumeration.different_names.Given as goal
+
+abbrev pub invariant-loop-value : goal.invariant-loop-value
+invariant-loop-value l =
+    spec.different_names (Shape l.source.file l.source.at) [] l.values
+    ≡ spec.different_names (Shape l.source.file l.source.at) (texts_of l.names) (drop l.value-index l.values)

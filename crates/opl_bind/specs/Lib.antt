@@ -1,0 +1,12 @@
+pub mod Faults
+pub mod Names
+pub mod Forms
+pub mod Values
+pub mod Arrays
+pub mod Given
+pub mod Enumerations
+pub mod Assigned
+pub mod Axes
+pub mod Items
+pub mod Laws
+pub mod Readings

@@ -1,0 +1,43 @@
+//! What the declarations so far say of types.
+ghost use Rattle.std.specs.Prelude.{◌≡◌};
+ghost use Rattle.opl_bind.specs.Forms as spec;
+ghost use Rattle.opl_bind.specs.Names.{position};
+ghost use Rattle.opl_bind.specs.Readings.{known_of};
+
+use crate::form::Form;
+use crate::names::Names;
+use opl_list::Seq;
+
+/// The names of types with their forms, and for each declaration, by its number, the names of an enumeration and the forms of a
+/// struct's fields, or none.
+#[derive(Drop)]
+pub(crate) struct Types<'a> {
+    pub(crate) names: Names<'a>,
+    pub(crate) forms: Seq<Form>,
+    pub(crate) enumerations: Seq<Names<'a>>,
+    pub(crate) fields: Seq<Seq<Form>>,
+}
+
+impl Types<'_> {
+    /// The place of a name in the enumeration with that number.
+    #[tactic(auto, using(crate::proofs::Layers::known))]
+    pub(crate) fn place(&self, declaration: u32, name: &[u8]) -> Option<u32>
+        ensures { result ≡ position name.now (spec.names_of (known_of self.now) declaration) }
+    {
+        match self.enumerations.get(declaration as usize) {
+            Some(names) => names.place(name),
+            None => None,
+        }
+    }
+
+    /// The forms of the fields of the struct with that number.
+    #[tactic(auto, using(crate::proofs::Layers::known))]
+    pub(crate) fn fields(&self, declaration: u32) -> &[Form]
+        ensures { result.now ≡ spec.fields_of (known_of self.now) declaration }
+    {
+        match self.fields.get(declaration as usize) {
+            Some(fields) => fields.as_slice(),
+            None => &[],
+        }
+    }
+}
