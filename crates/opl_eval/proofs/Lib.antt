@@ -8,7 +8,6 @@ pub mod Latest
 pub mod Loops
 pub mod Meanings
 pub mod NumberLaws
-pub mod Patterns
 pub mod SetElements
 pub mod Sized
 pub mod Sizes
