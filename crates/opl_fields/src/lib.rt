@@ -9,8 +9,6 @@ mod model;
 mod place;
 mod search;
 mod structs;
-#[cfg(test)]
-mod tests;
 mod walk;
 
 pub use model::fields;
