@@ -7,6 +7,7 @@ pub mod Given
 pub mod Enumerations
 pub mod Assigned
 pub mod Axes
+pub mod Dimensions
 pub mod Items
 pub mod Laws
 pub mod Readings

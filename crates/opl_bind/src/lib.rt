@@ -5,6 +5,7 @@ mod assigned;
 mod axis;
 mod cells;
 mod declare;
+mod dimension;
 mod enumeration;
 mod fault;
 mod form;
