@@ -7,6 +7,7 @@ pub mod Known
 pub mod Latest
 pub mod Loops
 pub mod Meanings
+pub mod NoMemory
 pub mod NumberLaws
 pub mod SetElements
 pub mod Sized

@@ -4,6 +4,7 @@ pub mod Joint
 pub mod PlaceLaws
 pub mod Places
 pub mod Ranked
+pub mod Rising
 pub mod Search
 pub mod SetLaws
 pub mod Sets

@@ -8,12 +8,12 @@ use Rattle.opl_value.specs.declared.value.Value.TheVariants.{Int}
 use Rattle.opl_value.specs.declared.value.Value.TheVariants as made
 use Rattle.opl_value.specs.declared.value.IndexSpace.{IndexSpace}
 use Rattle.opl_value.specs.declared.value.Dimension.{Dimension}
-use Rattle.opl_value.specs.declared.value.Dimension.TheViews.{roll-IndexSpace, out-roll-IndexSpace}
+use Rattle.opl_value.specs.declared.value.Dimension.TheViews.{out-roll-IndexSpace, roll-out-IndexSpace}
 use Rattle.opl_value.specs.declared.value.Dimension.TheVariants as dims
 use Rattle.opl_value.specs.declared.value.Dimension.TheVariants.{outs-Whole, outs-Listed}
 use Rattle.opl_value.specs.Order.{value_eq}
 use Rattle.opl_value.specs.Total.{value_same}
-use Rattle.opl_value.specs.Places.{value_at, AreDifferent, numbers_from, numbers_between, or_zero, place_in, dimension_values, values_layer, sorted_layer, IsSorted, AreSorted, AreRising, dimensions}
+use Rattle.opl_value.specs.Places.{value_at, AreDifferent, numbers_from, numbers_between, or_zero, place_in, dimension_values, values_layer, sorted_layer, IsSorted, AreSorted, AreRising, dimensions, space_of}
 
 -- what a value's comparison with the first one of a list gives
 pub by_first : {G : Type 0} (v w : Value) → (value_eq v w ≡ true → v ≡ w → G) → (value_eq v w ≡ false → G) → G
@@ -132,15 +132,15 @@ pub ruleset variants = (values-Whole, values-Listed, sorted-Listed)
 
 -- ---- index spaces
 
-abbrev pub space_of : List Dimension → IndexSpace
-space_of ds = roll-IndexSpace (record { dims = ds })
-
 pub dimensions-space_of : (ds : List Dimension) → dimensions (space_of ds) ≡ ds
 dimensions-space_of ds = ap (λ s. s.dims) (out-roll-IndexSpace (record { dims = ds }))
+
+pub is_space_of : (space : IndexSpace) (ds : List Dimension) → dimensions space ≡ ds → space ≡ space_of ds
+is_space_of space ds e = sym (roll-out-IndexSpace space) ∙ ap space_of e
 
 pub sorted-push : (ds : List Dimension) (d : Dimension) → AreSorted ds → IsSorted d → AreSorted (ds ++ d ∷ [])
 sorted-push [] d s t = (t, tt)
 sorted-push (e ∷ ds) d s t = (s.0, sorted-push ds d s.1 t)
 
 -- what the making of a space comes to
-pub ruleset spaces = (dimensions-space_of, sorted-push)
+pub ruleset spaces = (dimensions-space_of, is_space_of, sorted-push)

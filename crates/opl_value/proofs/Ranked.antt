@@ -1,5 +1,5 @@
 -- What sorting values beside their places gives.
-use Rattle.std.proofs.Common.{◌≡◌, ℕ, zero, suc, ◌+◌, ◌<◌, false, List, [], ◌∷◌, ◌++◌, map, length, get_or, refl, sym, ap, subst, ◌∙◌, arith, true≢false}
+use Rattle.std.proofs.Common.{◌≡◌, ℕ, zero, suc, ◌+◌, ◌<◌, false, List, [], ◌∷◌, ◌++◌, map, length, get_or, add-one, refl, sym, ap, subst, ◌∙◌, arith, true≢false}
 use Rattle.std.specs.Borrow.{Bor}
 use Rattle.std.specs.List.{All, slice_index}
 use Rattle.std.specs.List.Sorted.{IsPermutation, IsSorted}
@@ -8,14 +8,16 @@ use Rattle.std.specs.Ordering.{nat_cmp, ordering_then, ordering_reverse, is_lt, 
 use Rattle.std.specs.declared.cmp.Ordering.{Ordering}
 use Rattle.std.specs.declared.cmp.Ordering.TheVariants.{Less, Equal, Greater}
 use Rattle.std.proofs.lemmas.Cmp.{then_total, on_total, nat_cmp_total}
-use Rattle.std.proofs.lemmas.List.{get_or-map, length-map}
+use Rattle.std.proofs.lemmas.List.{get_or-map, length-map, map-append}
 use Rattle.std.proofs.lemmas.List.Elements.{All-nil, All-push, Contains-append_left, Contains-push}
-use Rattle.std.proofs.lemmas.List.Sorted.{All-permutation, Contains-permutation, ranks_by, sorted_far}
+use Rattle.std.proofs.lemmas.List.Sorted.{All-permutation, Contains-permutation, IsPermutation-map, ranks_by, sorted_far}
 use Rattle.opl_value.specs.declared.value.Value.{Value}
 use Rattle.opl_value.specs.Order.{value_cmp}
 use Rattle.opl_value.specs.Total.{value_total}
 use Rattle.opl_value.specs.Places.{value_at, AreDifferent, AreRising}
-use Rattle.opl_value.specs.Ranked.{IsPaired, ArePaired}
+use Rattle.opl_value.specs.Ranked.{IsPaired, ArePaired, numbers_below}
+use Rattle.opl_value.specs.Rising.{rising_of}
+use Rattle.opl_value.proofs.Rising.{count, count-IsPermutation, count-numbers_below, stand_once, rising_places_are_one}
 use Rattle.opl_value.proofs.Search.{by_size, stands_among}
 
 abbrev Pair : Type 0
@@ -30,7 +32,7 @@ pair_total = then_total (on_total (λ p. p.0.now) value_total) (on_total (λ p. 
 
 -- no pairs yet
 pub pairs_none : (values : List Value) → ArePaired values 0 []
-pairs_none values = record { all = All-nil (IsPaired values); each = λ j h. absurd (omega arith) }
+pairs_none values = record { all = All-nil (IsPaired values); each = λ j h. absurd (omega arith); ordered = refl }
 
 -- one more pair
 pub pairs_more : (values : List Value) (i : ℕ) (ps : List Pair) (q : Pair) → i < length values → q.1 ≡ i → q.0.now ≡ value_at values i → ArePaired values i ps → ArePaired values (i + 1) (ps ++ q ∷ [])
@@ -40,6 +42,7 @@ pairs_more values i ps q l place value pairs = record {
       (λ b. let old = pairs.each j b in (old.0, Contains-append_left ps (q ∷ []) old.0 old.1, old.2))
       (λ s. (q, Contains-push ps q, place ∙ sym s))
       (λ b. absurd (omega arith));
+  ordered = map-append (λ p. p.1) ps (q ∷ []) ∙ (λ k. pairs.ordered k ++ place k ∷ []) ∙ rw add-one refl;
 }
 
 -- an element of a list that has that many
@@ -80,8 +83,8 @@ module _ (values : List Value) (ps qs : List Pair) (different : AreDifferent val
       let p = not_behind (get_or qs j d).0.now (get_or qs k d).0.now (nat_cmp (get_or qs k d).1 (get_or qs j d).1) far in
       (λ i. is_gt (value_cmp (value_is j d jl i) (value_is k d l i))) ∙ p
 
-  pub rising_of : AreRising values places
-  rising_of = record {
+  pub sorted_are_rising : AreRising values places
+  sorted_are_rising = record {
     different = different;
     within = λ k l. let d = nth qs k (among l) in subst (λ n. n < length values) (sym (place_is k d (among l))) (paired k d (among l)).0;
     each = λ j l.
@@ -90,3 +93,10 @@ module _ (values : List Value) (ps qs : List Pair) (different : AreDifferent val
         stands_among j places q.0 (subst (λ n. q.0 < n) (sym (length-map qs (λ p. p.1))) q.1) (place_is q.0 p.0 q.1 ∙ ap (λ x. x.1) q.2 ∙ p.2);
     rise = λ j k h l. rises j k h (among l);
   }
+
+  -- the places of sorted pairs are the places in the rising order of the values
+  pub sorted_are_all : places ≡ rising_of values
+  sorted_are_all = rising_places_are_one values places sorted_are_rising (stand_once places (λ n.
+      let moves = IsPermutation-map (λ p. p.1) ps qs moved in
+      let same : count n places ≡ count n (numbers_below (length values)) = count-IsPermutation n (map (λ p. p.1) ps) places moves ∙ ap (count n) pairs.ordered in
+      omega (arith, count-numbers_below n (length values))))

@@ -15,7 +15,7 @@ use Rattle.opl_value.proofs.Places.{place_in-found, place_in-missing}
 pub by_size : {G : Type 0} (a b : ℕ) → (a < b → G) → (a ≡ b → G) → (b < a → G) → G
 by_size {G} a b less same greater = by_ranked (a < b) (a ≡ b) (b < a) (nat_cmp a b) (ranked a b (nat_cmp a b) refl) (λ o h. less h) (λ o h. same h) (λ o h. greater h)
 
-same_number : (m n : ℕ) → (m == n) ≡ true → m ≡ n
+pub same_number : (m n : ℕ) → (m == n) ≡ true → m ≡ n
 same_number m n e = grind (arith, nat_tests)
 
 -- where a number stands among others

@@ -5,5 +5,6 @@ pub mod Order
 pub mod Places
 pub mod Ranked
 pub mod Rebuilt
+pub mod Rising
 pub mod Sets
 pub mod Total

@@ -8,7 +8,7 @@ use Rattle.opl_value.specs.declared.value.Value.TheVariants.{Int}
 use Rattle.opl_value.specs.declared.value.IndexSpace.{IndexSpace}
 use Rattle.opl_value.specs.declared.value.Dimension.{Dimension}
 use Rattle.opl_value.specs.declared.value.Dimension.TheOpen.{Dimension-F}
-use Rattle.opl_value.specs.declared.value.Dimension.TheViews.{out-Dimension, out-IndexSpace}
+use Rattle.opl_value.specs.declared.value.Dimension.TheViews.{out-Dimension, out-IndexSpace, roll-IndexSpace}
 use Rattle.opl_value.specs.Order.{value_cmp, value_eq}
 
 -- ---- dimensions
@@ -70,6 +70,10 @@ dimensions space = (out-IndexSpace space).dims
 
 abbrev pub lists : IndexSpace → List (List Value)
 lists space = map dimension_values (dimensions space)
+
+-- the index space of these dimensions
+abbrev pub space_of : List Dimension → IndexSpace
+space_of ds = roll-IndexSpace (record { dims = ds })
 
 -- ---- places
 

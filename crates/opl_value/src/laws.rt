@@ -1,5 +1,5 @@
 //! Laws of values and places, as contracts of functions without effect.
-ghost use Rattle.opl_value.specs.Laws.{DifferentValuesStay, EachNumberIsAPlace, EqualIsSame, OrderIsTotal, PlacesAreApart, PlacesAreBelow, SetsDiffer, SetsKeepMembers, SetsKeepOrder};
+ghost use Rattle.opl_value.specs.Laws.{DifferentValuesRise, DifferentValuesStay, EachNumberIsAPlace, EqualIsSame, ListedHasItsValues, ListedIsSorted, OrderIsTotal, PlacesAreApart, PlacesAreBelow, RisingPlacesAreOne, RisingPlacesStandOnce, SetsDiffer, SetsKeepMembers, SetsKeepOrder, SpaceHasItsDimensions, SpaceIsOfItsDimensions, WholeHasItsNumbers, WholeIsSorted};
 
 /// `==` holds of equal values alone.
 #[tactic(auto, using(crate::specs::Total::value_same))]
@@ -53,4 +53,36 @@ pub fn sets_keep_order()
 #[tactic(auto, using(crate::proofs::SetLaws::different_values_stay))]
 pub fn different_values_stay()
     ensures { DifferentValuesStay }
+{}
+
+/// The places of values in rising order, none twice, are those that the definition lists.
+pub fn rising_places_are_one()
+    ensures { RisingPlacesAreOne }
+{}
+
+/// Of values that differ, the definition lists the places in rising order, none twice.
+pub fn different_values_rise()
+    ensures rising { DifferentValuesRise }
+    ensures once { RisingPlacesStandOnce }
+{}
+
+/// A dimension that lists values has these values, and places can be found by it where they differ.
+#[tactic(auto, using(crate::proofs::Rising::named))]
+pub fn listed_has_its_values()
+    ensures values { ListedHasItsValues }
+    ensures sorted { ListedIsSorted }
+{}
+
+/// A dimension of whole numbers has those from its first to its last, and places can be found by it.
+#[tactic(auto, using(crate::proofs::Rising::named))]
+pub fn whole_has_its_numbers()
+    ensures values { WholeHasItsNumbers }
+    ensures sorted { WholeIsSorted }
+{}
+
+/// An index space is its dimensions: each list of dimensions is that of one index space.
+#[tactic(auto, using(crate::proofs::Places::spaces))]
+pub fn space_is_its_dimensions()
+    ensures dims { SpaceHasItsDimensions }
+    ensures space { SpaceIsOfItsDimensions }
 {}

@@ -1,6 +1,6 @@
 //! Sets, copies and places that were worked out by hand.
-ghost use Rattle.std.specs.Prelude.{IfOk};
-ghost use Rattle.opl_value.specs.Places.{AreSorted, dimensions};
+ghost use Rattle.std.specs.Prelude.{◌≡◌, ◌∷◌, [], IfOk, pos};
+ghost use Rattle.opl_value.specs.Places.{AreSorted, dimensions, space_of};
 
 use crate::{Dimension, IndexSpace, KeySpace, Value, make_set, place};
 use opl_list::Seq;
@@ -20,8 +20,10 @@ fn records(alloc: Global) -> Result<Vec<Value>, AllocError> {
 }
 
 /// The keys <1,1> to <2,3>.
+#[tactic(auto, using(crate::proofs::Places::spaces))]
 fn grid(alloc: Global) -> Result<IndexSpace, AllocError>
-    ensures { IfOk result (λ space. AreSorted (dimensions space)) }
+    ensures sorted { IfOk result (λ space. AreSorted (dimensions space)) }
+    ensures space { IfOk result (λ space. space ≡ space_of (Dimension.Whole (pos 1) (pos 2) ∷ Dimension.Whole (pos 1) (pos 3) ∷ [])) }
 {
     let mut space = IndexSpace::new(alloc);
     space.push(Dimension::whole(1, 2))?;
