@@ -1,5 +1,5 @@
 -- How many cells an array has.
-use Rattle.std.proofs.Common.{◌≡◌, ℕ, suc, zero, ◌+◌, ◌*◌, Bool, true, false, cond, List, [], ◌∷◌, ◌++◌, length, map, set, Option, None, Some, Result, Ok, Err, refl, sym, ap, subst, ◌∙◌, arith, length-append}
+use Rattle.std.proofs.Common.{◌≡◌, ℕ, suc, ◌+◌, ◌*◌, Bool, true, false, cond, List, [], ◌∷◌, ◌++◌, length, map, set, Option, None, Some, Ok, Err, refl, sym, ap, ◌∙◌, arith, length-append}
 use Rattle.std.specs.Prelude.{nat_eq}
 use Rattle.std.specs.List.{slice_get}
 use Rattle.std.proofs.Math.Nat.{add-mul, mul_assoc}
@@ -13,34 +13,34 @@ use Rattle.opl_value.specs.declared.value.Value.{Value}
 use Rattle.opl_value.specs.Places.{elements}
 use Rattle.opl_bind.specs.declared.fault.BindFault.{BindFault}
 use Rattle.opl_bind.specs.declared.form.Form.{Form}
-use Rattle.opl_bind.specs.Arrays.{Axis, is_free, put, lay, filled, free, listed, keyed, key_place, cells_layer, cells_of, opened, flat, elements_in}
+use Rattle.opl_bind.specs.Arrays.{Axis, values_of, is_free, put, lay, filled, free, listed, keyed, key_place, cells_layer, cells_of, opened, flat}
 use Rattle.opl_bind.specs.Faults.{Bound, then}
 use Rattle.opl_bind.specs.Forms.{Known}
 use Rattle.opl_bind.specs.Laws.{CellsFillTheSpace}
 use Rattle.opl_bind.specs.Values.{value_in, all_by_form}
 
 -- where two steps find something, the first does
-went : {A B : Type 0} (b : Bound A) (f : A → Bound B) (y : B) → then b f ≡ Ok y → (a : A) × (f a ≡ Ok y)
+pub went : {A B : Type 0} (b : Bound A) (f : A → Bound B) (y : B) → then b f ≡ Ok y → (a : A) × (f a ≡ Ok y)
 went (Ok a) f y h = (a, h)
 went (Err e) f y h = absurd (cc)
 
-went_first : {A B : Type 0} (b : Bound A) (f : A → Bound B) (y : B) → then b f ≡ Ok y → (a : A) × (b ≡ Ok a) × (f a ≡ Ok y)
+pub went_first : {A B : Type 0} (b : Bound A) (f : A → Bound B) (y : B) → then b f ≡ Ok y → (a : A) × (b ≡ Ok a) × (f a ≡ Ok y)
 went_first (Ok a) f y h = (a, refl, h)
 went_first (Err e) f y h = absurd (cc)
 
-same_ok : {A : Type 0} (a b : A) → (let x : Bound A = Ok a in x) ≡ Ok b → a ≡ b
+pub same_ok : {A : Type 0} (a b : A) → (let x : Bound A = Ok a in x) ≡ Ok b → a ≡ b
 same_ok a b h = cc
 
 -- a test that lets go on
-passed : {A : Type 0} (b : Bool) (x : Bound A) (e : BindFault) (y : A) → cond b x (Err e) ≡ Ok y → (b ≡ true) × (x ≡ Ok y)
+pub passed : {A : Type 0} (b : Bool) (x : Bound A) (e : BindFault) (y : A) → cond b x (Err e) ≡ Ok y → (b ≡ true) × (x ≡ Ok y)
 passed true x e y h = (refl, h)
 passed false x e y h = absurd (cc)
 
-same_number : (m n : ℕ) → nat_eq m n ≡ true → m ≡ n
+pub same_number : (m n : ℕ) → nat_eq m n ≡ true → m ≡ n
 same_number m n h = grind (arith, nat_tests, h)
 
 -- one value for each cell
-length-all_by_form : (before vs : List Value) (es : List (Form → Bound Value)) (form : Form) → all_by_form before es form ≡ Ok vs → length vs ≡ length before + length es
+pub length-all_by_form : (before vs : List Value) (es : List (Form → Bound Value)) (form : Form) → all_by_form before es form ≡ Ok vs → length vs ≡ length before + length es
 length-all_by_form before vs [] form h = ap length (sym (same_ok before vs h)) ∙ omega arith
 length-all_by_form before vs (e ∷ es) form h =
     let w = went (e form) (λ v. all_by_form (before ++ v ∷ []) es form) vs h in
@@ -58,31 +58,31 @@ length-lay known wrong axis slots more (p ∷ ps) h =
     let w = went_first (put wrong slots (key_place known axis (out-DataPair p).key) (out-DataPair p).value) (λ laid. lay known wrong axis laid ps) more h in
     length-lay known wrong axis w.0 more ps w.2 ∙ length-put wrong slots w.0 (key_place known axis (out-DataPair p).key) (out-DataPair p).value w.1
 
-length-filled : {C : Type 0} (wrong : BindFault) (before cells : List C) (slots : List (Option C)) → filled wrong before slots ≡ Ok cells → length cells ≡ length before + length slots
+pub length-filled : {C : Type 0} (wrong : BindFault) (before cells : List C) (slots : List (Option C)) → filled wrong before slots ≡ Ok cells → length cells ≡ length before + length slots
 length-filled wrong before cells [] h = ap length (sym (same_ok before cells h)) ∙ omega arith
 length-filled wrong before cells (Some c ∷ slots) h = length-filled wrong (before ++ c ∷ []) cells slots h ∙ omega (arith, length-append before (c ∷ []))
 length-filled wrong before cells (None ∷ slots) h = absurd (cc)
 
-length-listed : (wrong : BindFault) (axis : Axis) (parts cells : List DataValue) → listed wrong axis parts ≡ Ok cells → length cells ≡ length axis.values
+length-listed : (wrong : BindFault) (axis : Axis) (parts cells : List DataValue) → listed wrong axis parts ≡ Ok cells → length cells ≡ length (values_of axis)
 length-listed wrong axis parts cells h =
-    let w = passed (nat_eq (length parts) (length axis.values)) (Ok parts) wrong cells h in
-    ap length (sym (same_ok parts cells w.1)) ∙ same_number (length parts) (length axis.values) w.0
+    let w = passed (nat_eq (length parts) (length (values_of axis))) (Ok parts) wrong cells h in
+    ap length (sym (same_ok parts cells w.1)) ∙ same_number (length parts) (length (values_of axis)) w.0
 
 length-free : (pairs : List DataPair) → length (free {C = DataValue} pairs) ≡ length pairs
 length-free [] = refl
 length-free (p ∷ ps) = ap suc (length-free ps)
 
-length-keyed : (known : Known) (wrong : BindFault) (axis : Axis) (pairs : List DataPair) (cells : List DataValue) → keyed known wrong axis pairs ≡ Ok cells → length cells ≡ length axis.values
+length-keyed : (known : Known) (wrong : BindFault) (axis : Axis) (pairs : List DataPair) (cells : List DataValue) → keyed known wrong axis pairs ≡ Ok cells → length cells ≡ length (values_of axis)
 length-keyed known wrong axis pairs cells h =
-    let w = passed (nat_eq (length pairs) (length axis.values)) (then (lay known wrong axis (free pairs) pairs) (filled wrong [])) wrong cells h in
+    let w = passed (nat_eq (length pairs) (length (values_of axis))) (then (lay known wrong axis (free pairs) pairs) (filled wrong [])) wrong cells h in
     let s = went_first (lay known wrong axis (free pairs) pairs) (filled wrong []) cells w.1 in
     let a = length-filled wrong [] cells s.0 s.2 in
     let b = length-lay known wrong axis (free pairs) s.0 pairs s.1 in
     let l = length-free pairs in
-    let n = same_number (length pairs) (length axis.values) w.0 in
+    let n = same_number (length pairs) (length (values_of axis)) w.0 in
     omega arith
 
-length-cells_layer : (known : Known) (wrong : BindFault) (axis : Axis) (v : DataValue-F DataValue DataPair) (cells : List DataValue) → cells_layer known wrong axis v ≡ Ok cells → length cells ≡ length axis.values
+length-cells_layer : (known : Known) (wrong : BindFault) (axis : Axis) (v : DataValue-F DataValue DataPair) (cells : List DataValue) → cells_layer known wrong axis v ≡ Ok cells → length cells ≡ length (values_of axis)
 length-cells_layer known wrong axis (DataValue-F.Number at b n) cells h = absurd (cc)
 length-cells_layer known wrong axis (DataValue-F.Named name) cells h = absurd (cc)
 length-cells_layer known wrong axis (DataValue-F.Record at head rest) cells h = absurd (cc)
@@ -90,28 +90,28 @@ length-cells_layer known wrong axis (DataValue-F.Set at elements) cells h = absu
 length-cells_layer known wrong axis (DataValue-F.Array at parts) cells h = length-listed wrong axis parts cells h
 length-cells_layer known wrong axis (DataValue-F.KeyedArray at pairs) cells h = length-keyed known wrong axis pairs cells h
 
-length-cells_of : (known : Known) (wrong : BindFault) (axis : Axis) (v : DataValue) (cells : List DataValue) → cells_of known wrong axis v ≡ Ok cells → length cells ≡ length axis.values
+length-cells_of : (known : Known) (wrong : BindFault) (axis : Axis) (v : DataValue) (cells : List DataValue) → cells_of known wrong axis v ≡ Ok cells → length cells ≡ length (values_of axis)
 unfolding cells_of
 length-cells_of known wrong axis v cells h = length-cells_layer known wrong axis (out-DataValue v) cells h
 
 -- as many cells for each of the values
-length-opened : (known : Known) (wrong : BindFault) (axis : Axis) (before values cells : List DataValue) → opened known wrong axis before values ≡ Ok cells → length cells ≡ length before + length values * length axis.values
+length-opened : (known : Known) (wrong : BindFault) (axis : Axis) (before values cells : List DataValue) → opened known wrong axis before values ≡ Ok cells → length cells ≡ length before + length values * length (values_of axis)
 length-opened known wrong axis before [] cells h = ap length (sym (same_ok before cells h)) ∙ omega arith
 length-opened known wrong axis before (v ∷ vs) cells h =
     let w = went_first (cells_of known wrong axis v) (λ more. opened known wrong axis (before ++ more) vs) cells h in
     let a = length-opened known wrong axis (before ++ w.0) vs cells w.2 in
     let b = length-append before w.0 in
     let d = length-cells_of known wrong axis v w.0 w.1 in
-    let e = add-mul 1 (length vs) (length axis.values) in
+    let e = add-mul 1 (length vs) (length (values_of axis)) in
     omega (arith, a, b, d, e)
 
-length-flat : (known : Known) (wrong : BindFault) (axes : List Axis) (values cells : List DataValue) → flat known wrong axes values ≡ Ok cells → length cells ≡ length values * elements (map (λ a. a.values) axes)
+length-flat : (known : Known) (wrong : BindFault) (axes : List Axis) (values cells : List DataValue) → flat known wrong axes values ≡ Ok cells → length cells ≡ length values * elements (map values_of axes)
 length-flat known wrong [] values cells h = ap length (sym (same_ok values cells h)) ∙ omega arith
 length-flat known wrong (a ∷ others) values cells h =
     let w = went_first (opened known wrong a [] values) (flat known wrong others) cells h in
     let n = length-flat known wrong others w.0 cells w.2 in
-    let m : length w.0 ≡ length values * length a.values = length-opened known wrong a [] values w.0 w.1 ∙ omega arith in
-    n ∙ ap (λ k. k * elements (map (λ b. b.values) others)) m ∙ mul_assoc (length values) (length a.values) (elements (map (λ b. b.values) others))
+    let m : length w.0 ≡ length values * length (values_of a) = length-opened known wrong a [] values w.0 w.1 ∙ omega arith in
+    n ∙ ap (λ k. k * elements (map values_of others)) m ∙ mul_assoc (length values) (length (values_of a)) (elements (map values_of others))
 
 -- an array that is given has as many cells as its index space has keys
 pub cells_fill : CellsFillTheSpace

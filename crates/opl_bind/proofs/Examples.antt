@@ -1,17 +1,14 @@
 -- Values of data files, worked out by hand.
-use Rattle.std.proofs.Common.{◌≡◌, ℕ, ℤ, pos, negsuc, true, false, List, [], ◌∷◌, Ok, Err, refl}
-use Rattle.opl_tree.specs.declared.expression.NameTree.{NameTree}
+use Rattle.std.proofs.Common.{◌≡◌, ℕ, ℤ, pos, true, false, [], ◌∷◌, Ok, Err, refl}
 use Rattle.opl_data.specs.declared.tree.DataValue.{DataValue}
 use Rattle.opl_data.specs.declared.tree.DataValue.TheVariants.{Number, Named, Record, Set, Array}
-use Rattle.opl_value.specs.declared.value.Value.{Value}
 use Rattle.opl_value.specs.declared.value.Value.TheVariants as values
+use Rattle.opl_value.specs.declared.value.Dimension.TheVariants as dimensions
 use Rattle.opl_value.proofs.Trees.{trees}
 use Rattle.opl_bind.specs.declared.fault.BindFault.TheVariants.{Shape, Outside}
-use Rattle.opl_bind.specs.declared.form.Form.{Form}
 use Rattle.opl_bind.specs.declared.form.Form.TheVariants as forms
 use Rattle.opl_bind.specs.Arrays.{Axis, elements_in}
 use Rattle.opl_bind.specs.Forms.{Known, names_of, fields_of}
-use Rattle.opl_bind.specs.Names.{position}
 use Rattle.opl_bind.specs.Values.{value_in}
 use Rattle.opl_bind.proofs.Layers.{forms_say, values_are}
 use Rattle.opl_bind.proofs.Slots.{cells}
@@ -66,16 +63,16 @@ small_set = simp (values_are, forms_say, trees) refl
 -- ---- arrays
 
 abbrev two : Axis
-two = record { values = values.Int (pos 1) ∷ values.Int (pos 2) ∷ []; form = forms.Int }
+two = record { dimension = dimensions.Whole (pos 1) (pos 2); form = forms.Int }
 
 -- `[7,8]` over 1..2
 both : elements_in known 1 (Shape 1 4) (two ∷ []) forms.Int (Array 4 (number 5 (pos 7) ∷ number 7 (pos 8) ∷ [])) ≡ Ok (values.Int (pos 7) ∷ values.Int (pos 8) ∷ [])
-both = simp (cells, values_are, forms_say) refl
+both = simp (dimensions.outs-Whole, cells, values_are, forms_say) refl
 
 -- `[1,2,3]` has an element too many, which is told before the 9 that is outside
 too_many : elements_in known 1 (Shape 1 4) (two ∷ []) (forms.Range (pos 1) (pos 2)) (Array 4 (number 5 (pos 9) ∷ number 7 (pos 2) ∷ number 9 (pos 3) ∷ [])) ≡ Err (Shape 1 4)
-too_many = simp (cells, values_are, forms_say) refl
+too_many = simp (dimensions.outs-Whole, cells, values_are, forms_say) refl
 
 -- a row of a nested array is too short
 short_row : elements_in known 1 (Shape 1 4) (two ∷ two ∷ []) forms.Int (Array 4 (Array 5 (number 6 (pos 1) ∷ number 8 (pos 2) ∷ []) ∷ Array 10 (number 11 (pos 3) ∷ []) ∷ [])) ≡ Err (Shape 1 4)
-short_row = simp (cells, values_are, forms_say) refl
+short_row = simp (dimensions.outs-Whole, cells, values_are, forms_say) refl

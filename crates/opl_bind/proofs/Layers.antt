@@ -1,6 +1,6 @@
 -- What each form says of values, one layer at a time.
-use Rattle.std.proofs.Common.{◌≡◌, ℕ, suc, zero, ℤ, Bool, cond, ◌&&◌, List, [], ◌∷◌, length, map, Option, None, Some, Ok, Err, refl, ap, ◌∙◌, sym}
-use Rattle.std.specs.Prelude.{int_le, nat_eq}
+use Rattle.std.proofs.Common.{◌≡◌, ℕ, ℤ, Bool, cond, ◌&&◌, List, length, map, None, Some, Ok, Err, refl, ap, ◌∙◌, sym}
+use Rattle.std.specs.Prelude.{int_le}
 use Rattle.std.specs.List.{slice_get}
 use Rattle.std.specs.Option.{option_map}
 use Rattle.std.proofs.lemmas.List.{length-map}

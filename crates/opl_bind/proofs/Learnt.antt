@@ -6,7 +6,6 @@ use Rattle.opl_value.specs.declared.value.IndexSpace.{IndexSpace}
 use Rattle.opl_value.specs.declared.value.Dimension.TheFolds.{fold-roll-Value}
 use Rattle.opl_bind.specs.declared.form.Form.{Form}
 use Rattle.opl_bind.specs.declared.form.Form.TheVariants as forms
-use Rattle.opl_bind.specs.Arrays.{Axis}
 use Rattle.opl_bind.specs.Axes.{parts_layer, parts_known, element_layer, element_known, parts_learnt, elements_learnt, learnt, axis_layer, axis_of_set, listed, named, between, no_elements}
 
 pub parts_known-Nothing : parts_known forms.Nothing ≡ []

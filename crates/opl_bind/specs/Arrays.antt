@@ -1,21 +1,26 @@
 -- Arrays of data files: the shape of the whole, then the elements in index order.
-use Rattle.std.specs.Prelude.{ℕ, Bool, true, false, cond, List, [], ◌∷◌, ◌++◌, length, map, set, slice_get, nat_eq, Option, Some, None, Result, Ok, Err}
+use Rattle.std.specs.Prelude.{ℕ, Bool, true, false, cond, List, [], ◌∷◌, ◌++◌, length, map, set, slice_get, nat_eq, Option, Some, None, Ok, Err}
 use Rattle.opl_data.specs.declared.tree.DataPair.{DataPair}
 use Rattle.opl_data.specs.declared.tree.DataValue.{DataValue}
 use Rattle.opl_data.specs.declared.tree.DataValue.TheOpen.{DataValue-F}
 use Rattle.opl_data.specs.declared.tree.DataValue.TheViews.{out-DataValue, out-DataPair}
 use Rattle.opl_value.specs.declared.value.Value.{Value}
-use Rattle.opl_value.specs.Places.{place_in}
+use Rattle.opl_value.specs.declared.value.Dimension.{Dimension}
+use Rattle.opl_value.specs.Places.{dimension_values, place_in}
 use Rattle.opl_bind.specs.declared.fault.BindFault.{BindFault}
 use Rattle.opl_bind.specs.declared.form.Form.{Form}
 use Rattle.opl_bind.specs.Faults.{Bound, then}
 use Rattle.opl_bind.specs.Forms.{Known}
 use Rattle.opl_bind.specs.Values.{value_in, key_in, all_by_form}
 
--- the index set of one dimension: its elements in order, and their form
+-- the index set of one dimension, and the form of its elements
 pub record Axis : Type 0 where
-  pub values : List Value
+  pub dimension : Dimension
   pub form : Form
+
+-- the elements of an index set, in order
+abbrev pub values_of : Axis → List Value
+values_of axis = dimension_values axis.dimension
 
 -- ---- the cells of one dimension
 
@@ -25,7 +30,7 @@ place_of_value values (Some v) = place_in v values
 place_of_value values None = None
 
 abbrev pub key_place : Known → Axis → DataValue → Option ℕ
-key_place known axis key = place_of_value axis.values (key_in known key axis.form)
+key_place known axis key = place_of_value (values_of axis) (key_in known key axis.form)
 
 -- whether a place has no cell yet
 abbrev pub is_free : {C : Type 0} → Option (Option C) → Bool
@@ -55,11 +60,11 @@ abbrev pub free : {A C : Type 0} → List A → List (Option C)
 free pairs = map (λ p. None) pairs
 
 abbrev pub listed : BindFault → Axis → List DataValue → Bound (List DataValue)
-listed wrong axis parts = cond (nat_eq (length parts) (length axis.values)) (Ok parts) (Err wrong)
+listed wrong axis parts = cond (nat_eq (length parts) (length (values_of axis))) (Ok parts) (Err wrong)
 
 abbrev pub keyed : Known → BindFault → Axis → List DataPair → Bound (List DataValue)
 keyed known wrong axis pairs =
-    cond (nat_eq (length pairs) (length axis.values)) (then (lay known wrong axis (free pairs) pairs) (filled wrong [])) (Err wrong)
+    cond (nat_eq (length pairs) (length (values_of axis))) (then (lay known wrong axis (free pairs) pairs) (filled wrong [])) (Err wrong)
 
 -- `[..]` has as many cells as the index set has elements; `#[..]#` has one for each key, in any order
 abbrev pub cells_layer : Known → BindFault → Axis → DataValue-F DataValue DataPair → Bound (List DataValue)

@@ -1,11 +1,12 @@
 -- The index sets of arrays.
-use Rattle.std.specs.Prelude.{ℕ, suc, ℤ, List, [], ◌∷◌, ◌++◌, map}
+use Rattle.std.specs.Prelude.{ℕ, suc, ℤ, pos, List, [], ◌∷◌, ◌++◌, map}
 use Rattle.opl_value.specs.declared.value.Value.{Value}
 use Rattle.opl_value.specs.declared.value.Value.TheVariants as values
 use Rattle.opl_value.specs.declared.value.Dimension.TheOpen.{Value-F}
 use Rattle.opl_value.specs.declared.value.Dimension.TheViews.{out-Value}
 use Rattle.opl_value.specs.declared.value.Dimension.TheFolds.{fold-Value}
-use Rattle.opl_value.specs.Places.{numbers_between}
+use Rattle.opl_value.specs.declared.value.Dimension.TheVariants as dimensions
+use Rattle.opl_value.specs.Rising.{listed_dimension}
 use Rattle.opl_value.specs.Sets.{first_occurrences}
 use Rattle.opl_bind.specs.declared.form.Form.{Form}
 use Rattle.opl_bind.specs.declared.form.Form.TheVariants as forms
@@ -62,17 +63,17 @@ names_from declaration p (n ∷ ns) = values.Enum declaration p ∷ names_from d
 
 -- the elements of a set in its order, and the names of an enumeration in theirs
 abbrev pub listed : List Value → Axis
-listed elements = record { values = first_occurrences elements; form = elements_learnt (map learnt elements) forms.Nothing }
+listed elements = record { dimension = listed_dimension (first_occurrences elements); form = elements_learnt (map learnt elements) forms.Nothing }
 
 abbrev pub named : ℕ → List (List ℕ) → Axis
-named declaration names = record { values = first_occurrences (names_from declaration 0 names); form = forms.Enumeration declaration }
+named declaration names = record { dimension = listed_dimension (first_occurrences (names_from declaration 0 names)); form = forms.Enumeration declaration }
 
 -- the whole numbers from the first to the second
 abbrev pub between : ℤ → ℤ → Axis
-between low high = record { values = numbers_between low high; form = forms.Int }
+between low high = record { dimension = dimensions.Whole low high; form = forms.Int }
 
 abbrev pub no_elements : Axis
-no_elements = record { values = []; form = forms.Nothing }
+no_elements = record { dimension = dimensions.Whole (pos 1) (pos 0); form = forms.Nothing }
 
 -- a set in its order, a range in rising order, an enumeration in its order
 abbrev pub axis_layer : {A C : Type 0} → ℕ → Value-F A Value C → Axis

@@ -1,5 +1,5 @@
 -- What is found while a model's data are bound: a value, or the first fault.
-use Rattle.std.specs.Prelude.{◌≡◌, ℕ, Bool, cond, List, [], ◌∷◌, ◌++◌, Result, Ok, Err}
+use Rattle.std.specs.Prelude.{◌≡◌, Bool, cond, List, [], ◌∷◌, ◌++◌, Result, Ok, Err}
 use Rattle.opl_bind.specs.declared.fault.BindFault.{BindFault}
 use Rattle.opl_bind.specs.declared.fault.BindFault.TheVariants.{Given, Twice, Missing, Shape, Outside, Override, Eval, OutOfMemory}
 

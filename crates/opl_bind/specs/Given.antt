@@ -1,6 +1,5 @@
 -- The values that data files give, and the names that await them.
-use Rattle.std.specs.Prelude.{ℕ, suc, ◌+◌, cond, is_some, List, [], ◌∷◌, ◌++◌, map, slice_get, Option, Some, None, Ok, Err}
-use Rattle.std.specs.Borrow.{Bor}
+use Rattle.std.specs.Prelude.{ℕ, ◌+◌, cond, is_some, List, [], ◌∷◌, ◌++◌, slice_get, Option, Some, None, Ok, Err}
 use Rattle.opl_tree.specs.declared.declaration.DeclTree.{DeclTree}
 use Rattle.opl_tree.specs.declared.declaration.DeclTree.TheVariants as decls
 use Rattle.opl_tree.specs.declared.declaration.EnumNamesTree.{EnumNamesTree}

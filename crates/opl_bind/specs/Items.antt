@@ -1,20 +1,30 @@
 -- The values of items that data files give.
-use Rattle.std.specs.Prelude.{ℕ, pos, List, [], ◌∷◌, map, Option, Some, None, Ok, Err}
+use Rattle.std.specs.Prelude.{pos, Bool, true, false, List, [], ◌∷◌, map, Option, Some, None, Ok, Err}
 use Rattle.opl_value.specs.declared.value.Value.{Value}
 use Rattle.opl_value.specs.declared.value.Value.TheVariants as values
-use Rattle.opl_value.specs.Places.{value_at}
+use Rattle.opl_value.specs.declared.value.Dimension.TheOpen.{Value-F}
+use Rattle.opl_value.specs.declared.value.Dimension.TheViews.{out-Value}
+use Rattle.opl_value.specs.Places.{space_of, value_at}
 use Rattle.opl_bind.specs.declared.assigned.Override.{Override}
 use Rattle.opl_bind.specs.declared.fault.BindFault.TheVariants.{Missing, Shape}
 use Rattle.opl_bind.specs.declared.form.Form.{Form}
-use Rattle.opl_bind.specs.Arrays.{Axis, elements_in}
+use Rattle.opl_bind.specs.Arrays.{Axis, elements_in, values_of}
 use Rattle.opl_bind.specs.Assigned.{is_assigned, overridden}
-use Rattle.opl_bind.specs.Faults.{Bound, then, provided}
+use Rattle.opl_bind.specs.Faults.{Bound, then, provided, found}
 use Rattle.opl_bind.specs.Forms.{Known}
 use Rattle.opl_bind.specs.Given.{GivenValue}
 use Rattle.opl_bind.specs.Names.{Text}
 use Rattle.opl_bind.specs.Values.{value_in, first_token}
 
 -- ---- items without dimensions
+
+-- whether a value is an array
+abbrev pub array_layer : {A C : Type 0} → Value-F A Value C → Bool
+array_layer (Value-F.Array space cells) = true
+array_layer v = false
+
+abbrev pub is_array : Value → Bool
+is_array v = array_layer (out-Value v)
 
 -- the value that is given; an item to which a value is assigned needs none
 abbrev pub given_or_assigned : Known → Form → Text → List Override → Option GivenValue → Bound Value
@@ -28,21 +38,20 @@ single_value known form name os g =
 
 -- ---- arrays
 
--- the elements of the index sets of an array, and its cells in index order
-pub record Cells : Type 0 where
-  pub lists : List (List Value)
-  pub cells : List Value
-
 abbrev pub lists_of : List Axis → List (List Value)
-lists_of axes = map (λ a. a.values) axes
+lists_of axes = map values_of axes
 
--- the cells that are given, where those to which values are assigned have the last of these
-abbrev pub given_cells : Known → Form → Text → List Override → GivenValue → List Axis → Bound Cells
-given_cells known form name os g axes =
+-- the array over these index sets with these cells, which stand in index order
+abbrev pub array_over : List Axis → List Value → Value
+array_over axes cells = values.Array (space_of (map (λ a. a.dimension) axes)) cells
+
+-- the array that is given, where the cells to which values are assigned have the last of these
+abbrev pub given_array : Known → Form → Text → List Override → GivenValue → List Axis → Bound Value
+given_array known form name os g axes =
     then (elements_in known g.file (Shape g.file (first_token g.value)) axes form g.value)
-    (λ cells. then (overridden name form (lists_of axes) cells os) (λ more. Ok (record { lists = lists_of axes; cells = more })))
+    (λ cells. found (array_over axes) (overridden name form (lists_of axes) cells os))
 
 -- the array of an item over index sets, of which some may have faults: a value that is missing is told before these
-abbrev pub array_cells : Known → Form → Text → List Override → Bound (List Axis) → Option GivenValue → Bound Cells
-array_cells known form name os axes (Some g) = then axes (given_cells known form name os g)
-array_cells known form name os axes None = Err (Missing name)
+abbrev pub array_value : Known → Form → Text → List Override → Bound (List Axis) → Option GivenValue → Bound Value
+array_value known form name os axes (Some g) = then axes (given_array known form name os g)
+array_value known form name os axes None = Err (Missing name)

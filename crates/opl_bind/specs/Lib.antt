@@ -8,5 +8,12 @@ pub mod Enumerations
 pub mod Assigned
 pub mod Axes
 pub mod Items
+pub mod Dimensions
+pub mod Inside
+pub mod Elements
+pub mod Scopes
+pub mod Written
+pub mod Cells
+pub mod Bind
 pub mod Laws
 pub mod Readings

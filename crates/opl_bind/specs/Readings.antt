@@ -1,8 +1,9 @@
 -- What the program's values stand for in the definitions.
-use Rattle.std.specs.Prelude.{List, map, Option}
+use Rattle.std.specs.Prelude.{List, [], map, Option, Some, None}
 use Rattle.std.specs.Borrow.{Bor}
-use Rattle.opl_value.specs.Places.{dimension_values}
+use Rattle.opl_eval.specs.Visible as eval
 use Rattle.opl_bind.specs.declared.axis.Axis as axes
+use Rattle.opl_bind.specs.declared.model.DataValues.{DataValues}
 use Rattle.opl_bind.specs.declared.given.Given as gifts
 use Rattle.opl_bind.specs.declared.given.GivenValue as gift_values
 use Rattle.opl_bind.specs.declared.names.Names as names
@@ -10,6 +11,7 @@ use Rattle.opl_bind.specs.declared.types.Types.{Types}
 use Rattle.opl_bind.specs.Forms.{Known}
 use Rattle.opl_bind.specs.Given.{Given, GivenValue}
 use Rattle.opl_bind.specs.Arrays.{Axis}
+use Rattle.opl_bind.specs.Bind.{Data}
 use Rattle.opl_bind.specs.Names.{Text}
 use Rattle.opl_bind.specs.Values.{seen}
 
@@ -17,13 +19,18 @@ use Rattle.opl_bind.specs.Values.{seen}
 abbrev pub texts_of : names.Names → List Text
 texts_of n = map (λ t. t.now) n.texts
 
+-- names that are lent, or none
+abbrev pub texts_lent : Option (Bor (List (Bor Text))) → List Text
+texts_lent (Some ts) = map (λ t. t.now) ts.now
+texts_lent None = []
+
 -- what is known of types
 unfoldable pub known_of : Types → Known
 known_of types = record { names = texts_of types.names; forms = types.forms; enumerations = map texts_of types.enumerations; fields = types.fields }
 
 -- the index set that an axis keeps
 abbrev pub axis_of : axes.Axis → Axis
-axis_of a = record { values = dimension_values a.dimension; form = a.form }
+axis_of a = record { dimension = a.dimension; form = a.form }
 
 -- what is lent
 abbrev pub lent : {A : Type 0} → List (Bor A) → List A
@@ -39,3 +46,7 @@ given_value_of g = record { file = g.file; value = g.value.now }
 
 unfoldable pub given_of : gifts.Given → Given
 given_of g = record { names = texts_of g.names; values = map given_value_of g.values }
+
+-- what the declarations so far come to
+abbrev pub data_of : DataValues → Data
+data_of d = record { known = known_of d.types; environment = eval.seen d.environment }

@@ -1,9 +1,9 @@
 -- Values of data files, read by the form of their type.
-use Rattle.std.specs.Prelude.{ℕ, ℤ, neg_ℤ, Bool, true, false, ◌&&◌, cond, List, [], ◌∷◌, ◌++◌, length, int_le, nat_eq, Option, Some, None, Result, Ok, Err}
+use Rattle.std.specs.Prelude.{ℕ, ℤ, neg_ℤ, Bool, true, false, ◌&&◌, cond, List, [], ◌∷◌, ◌++◌, length, int_le, nat_eq, Option, Some, None, Ok, Err}
 use Rattle.std.specs.Borrow.{Bor}
 use Rattle.opl_tree.specs.declared.expression.NameTree.{NameTree}
 use Rattle.opl_data.specs.declared.tree.DataValue.{DataValue}
-use Rattle.opl_data.specs.declared.tree.DataValue.TheOpen.{DataValue-F, DataPair-F}
+use Rattle.opl_data.specs.declared.tree.DataValue.TheOpen.{DataValue-F}
 use Rattle.opl_data.specs.declared.tree.DataValue.TheViews.{out-DataValue}
 use Rattle.opl_data.specs.declared.tree.DataValue.TheFolds.{fold-DataValue}
 use Rattle.opl_value.specs.declared.value.Value.{Value}

@@ -88,7 +88,7 @@ fn all_assigned(
 
 /// Whether a value is within the ends of a range type.
 #[tactic(auto, using(crate::proofs::Numbers::numbers))]
-fn is_within(form: &Form, value: &Value) -> bool
+pub(crate) fn is_within(form: &Form, value: &Value) -> bool
     ensures { result ≡ spec.is_within form.now value.now }
 {
     match form {

@@ -34,7 +34,7 @@ impl Source {
 impl Axis {
     /// Whether the index set has so many elements.
     fn has_size(&self, count: usize) -> bool
-        ensures { result ≡ nat_eq count (length (axis_of self.now).values) }
+        ensures { result ≡ nat_eq count (length (spec.values_of (axis_of self.now))) }
     {
         match self.dimension.count() {
             Some(size) => count as u64 == size,
@@ -50,7 +50,7 @@ fn key_place(
     axis: &Axis,
     key: &DataValue,
 ) -> Result<Option<u64>, BindFault>
-    requires { length (axis_of axis.now).values < 2 ^ 64 }
+    requires { length (spec.values_of (axis_of axis.now)) < 2 ^ 64 }
     ensures { Does (λ place. place ≡ spec.key_place (known_of types.now) (axis_of axis.now) key.now) result }
 {
     match value_in(alloc, types, 0, key, &axis.form) {
@@ -121,7 +121,7 @@ fn lay<'v>(
     axis: &Axis,
     pairs: &'v [DataPair],
 ) -> Result<Vec<Option<&'v DataValue>>, BindFault>
-    requires { length (axis_of axis.now).values < 2 ^ 64 }
+    requires { length (spec.values_of (axis_of axis.now)) < 2 ^ 64 }
     ensures { Gives (λ s. laid s.items) (spec.lay (known_of types.now) (BindFault.Shape source.file source.at) (axis_of axis.now) (spec.free pairs.now) pairs.now) result }
 {
     let mut slots = free(alloc, pairs)?;

@@ -158,12 +158,12 @@ impl<'a> Types<'a> {
         self,
         alloc: Global,
         name: &'a [u8],
-        low: i128,
-        high: i128,
+        low: &i128,
+        high: &i128,
     ) -> Result<Types<'a>, BindFault>
-        ensures { Does (λ types. known_of types ≡ spec.with_range name.now low high (known_of self.entry)) result }
+        ensures { Does (λ types. known_of types ≡ spec.with_range name.now low.now high.now (known_of self.entry)) result }
     {
-        self.with_type(name, Form::Range(low, high))?
+        self.with_type(name, Form::Range(*low, *high))?
             .with_none(alloc)
     }
 

@@ -1,6 +1,5 @@
 //! The index sets of arrays.
 ghost use Rattle.std.specs.Prelude.{◌≡◌, IfOk};
-ghost use Rattle.opl_value.specs.Places.{numbers_between};
 ghost use Rattle.opl_bind.specs.Axes as spec;
 ghost use Rattle.opl_bind.specs.Faults.{Does};
 ghost use Rattle.opl_bind.specs.Readings.{axis_of};
@@ -15,7 +14,7 @@ use opl_value::{Dimension, Value};
 use std::alloc::{AllocError, Global};
 
 /// The position as it is kept; where there is no such position memory is wanting.
-fn position_of(place: usize) -> Result<u32, BindFault>
+pub(crate) fn position_of(place: usize) -> Result<u32, BindFault>
     ensures { Does (λ position. position ≡ place) result }
 {
     match u32::try_from(place) {

@@ -1,8 +1,9 @@
 //! The values of items that data files give.
-ghost use Rattle.std.specs.Prelude.{◌≡◌, [], IfOk, map};
+ghost use Rattle.std.specs.Prelude.{◌≡◌, IfOk, map};
 ghost use Rattle.std.specs.Option.{option_map};
-ghost use Rattle.opl_value.specs.Places.{AreSorted, dimensions, lists, value_at};
-ghost use Rattle.opl_bind.specs.Faults.{Binds, Does, Gives};
+ghost use Rattle.opl_eval.specs.ArrayKeys.{IsKeyed};
+ghost use Rattle.opl_value.specs.Places.{value_at};
+ghost use Rattle.opl_bind.specs.Faults.{Binds, Does};
 ghost use Rattle.opl_bind.specs.Items as spec;
 ghost use Rattle.opl_bind.specs.Readings.{axis_of, given_value_of, known_of};
 
@@ -13,11 +14,13 @@ use crate::enumeration::first_token;
 use crate::fault::BindFault;
 use crate::form::Form;
 use crate::given::GivenValue;
+use crate::space::{array_over, keys_of, no_dimensions};
 use crate::types::Types;
 use crate::value::value_in;
+use opl_list::Seq;
 use opl_token::Name;
-use opl_value::{IndexSpace, KeySpace, Value};
-use std::alloc::{AllocError, Global};
+use opl_value::Value;
+use std::alloc::Global;
 
 /// The fault of a missing value.
 pub(crate) fn missing(alloc: Global, name: &Name) -> Result<BindFault, BindFault>
@@ -49,14 +52,20 @@ fn given_or_assigned(
     }
 }
 
-/// The keys of an item without dimensions: the empty one alone.
-#[tactic(auto, using(crate::proofs::Spaces::spaces))]
-fn no_dimensions(alloc: Global) -> Result<KeySpace, BindFault>
-    ensures { Does (λ keys. lists keys.space ≡ []) result }
+/// Whether a value is an array.
+#[tactic(auto, using(crate::proofs::Plain::arrays))]
+pub(crate) fn is_array(value: &Value) -> bool
+    ensures { result ≡ spec.is_array value.now }
 {
-    match KeySpace::new(IndexSpace::new(alloc)) {
-        Some(keys) => Ok(keys),
-        None => Err(BindFault::OutOfMemory),
+    match value {
+        Value::Array(..) => true,
+        Value::Int(_)
+        | Value::Bool(_)
+        | Value::Enum(..)
+        | Value::Record(_)
+        | Value::Set(_)
+        | Value::Range(..)
+        | Value::Names(_) => false,
     }
 }
 
@@ -70,8 +79,8 @@ fn first_of(values: Vec<Value>) -> Result<Value, BindFault>
     }
 }
 
-/// The value of an item: the one that is given, or the last one that is assigned to it.
-pub(crate) fn single_value(
+/// The value that is given, or the last one that is assigned.
+fn value_alone(
     alloc: Global,
     types: &Types<'_>,
     form: &Form,
@@ -89,33 +98,25 @@ pub(crate) fn single_value(
     first_of(cells)
 }
 
-/// The keys of these index sets. For more than 2^64 - 1 of them memory is wanting.
-#[tactic(auto, using(crate::proofs::Spaces::spaces))]
-fn keys_of(alloc: Global, axes: &[Axis]) -> Result<KeySpace, BindFault>
-    ensures { Does (λ keys. lists keys.space ≡ spec.lists_of (map axis_of axes.now)) result }
+/// The value of an item without dimensions: the one that is given, or the last one that is assigned to it. It is no array.
+pub(crate) fn single_value(
+    alloc: Global,
+    types: &Types<'_>,
+    form: &Form,
+    name: &Name,
+    overrides: &[Override],
+    given: Option<GivenValue<'_>>,
+) -> Result<Value, BindFault>
+    ensures value { Binds (spec.single_value (known_of types.now) form.now name.now overrides.now (option_map given_value_of given.entry)) result }
+    ensures keyed { IfOk result IsKeyed }
 {
-    let space = space_of(alloc, axes)?;
-    match KeySpace::new(space) {
-        Some(keys) => Ok(keys),
-        None => Err(BindFault::OutOfMemory),
-    }
+    value_alone(alloc, types, form, name, overrides, given)
 }
 
-/// The index space of these index sets.
+/// The array that is given, where the cells to which values are assigned have the last of these. For an index space with more than
+/// 2^64 - 1 keys memory is wanting.
 #[tactic(auto, using(crate::proofs::Spaces::spaces))]
-fn space_of(alloc: Global, axes: &[Axis]) -> Result<IndexSpace, AllocError>
-    ensures lists { IfOk result (λ space. lists space ≡ spec.lists_of (map axis_of axes.now)) }
-    ensures sorted { IfOk result (λ space. AreSorted (dimensions space)) }
-{
-    let mut space = IndexSpace::new(alloc);
-    for axis in axes {
-        space.push(axis.dimension.copy(alloc)?)?;
-    }
-    Ok(space)
-}
-
-/// The cells that are given, where those to which values are assigned have the last of these.
-pub(crate) fn given_cells(
+pub(crate) fn given_array(
     alloc: Global,
     types: &Types<'_>,
     form: &Form,
@@ -123,8 +124,9 @@ pub(crate) fn given_cells(
     overrides: &[Override],
     given: GivenValue<'_>,
     axes: &[Axis],
-) -> Result<(KeySpace, Vec<Value>), BindFault>
-    ensures { Gives (λ r. record { lists = lists r.0.space; cells = r.1.items }) (spec.given_cells (known_of types.now) form.now name.now overrides.now (given_value_of given.entry) (map axis_of axes.now)) result }
+) -> Result<Value, BindFault>
+    ensures value { Binds (spec.given_array (known_of types.now) form.now name.now overrides.now (given_value_of given.entry) (map axis_of axes.now)) result }
+    ensures keyed { IfOk result IsKeyed }
 {
     let source = Source {
         file: given.file,
@@ -133,5 +135,5 @@ pub(crate) fn given_cells(
     let cells = elements_in(alloc, types, source, axes, form, given.value)?;
     let keys = keys_of(alloc, axes)?;
     let cells = overridden(alloc, name, form, &keys, cells.into_vec(), overrides)?;
-    Ok((keys, cells))
+    Ok(array_over(keys, Seq::from_vec(cells)))
 }

@@ -2,7 +2,7 @@
 ghost use Rattle.std.specs.Prelude.{◌≡◌};
 ghost use Rattle.opl_bind.specs.Forms as spec;
 ghost use Rattle.opl_bind.specs.Names.{position};
-ghost use Rattle.opl_bind.specs.Readings.{known_of};
+ghost use Rattle.opl_bind.specs.Readings.{known_of, texts_lent};
 
 use crate::form::Form;
 use crate::names::Names;
@@ -18,7 +18,16 @@ pub(crate) struct Types<'a> {
     pub(crate) fields: Seq<Seq<Form>>,
 }
 
-impl Types<'_> {
+impl<'a> Types<'a> {
+    /// The names of the enumeration with that number; None where no declaration has it.
+    #[tactic(auto, using(crate::proofs::Layers::known))]
+    pub(crate) fn names(&self, declaration: u32) -> Option<&[&'a [u8]]>
+        ensures { texts_lent result ≡ spec.names_of (known_of self.now) declaration }
+    {
+        let names = self.enumerations.get(declaration as usize)?;
+        Some(names.texts.as_slice())
+    }
+
     /// The place of a name in the enumeration with that number.
     #[tactic(auto, using(crate::proofs::Layers::known))]
     pub(crate) fn place(&self, declaration: u32, name: &[u8]) -> Option<u32>

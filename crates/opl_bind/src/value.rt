@@ -81,7 +81,7 @@ fn name_in(types: &Types<'_>, file: u32, name: &NameTree, form: &Form) -> Result
 
 /// The forms of the parts of a record.
 #[tactic(auto, using(crate::proofs::Layers::forms_say))]
-fn parts_of<'f>(types: &'f Types<'_>, form: &'f Form) -> Option<&'f [Form]>
+pub(crate) fn parts_of<'f>(types: &'f Types<'_>, form: &'f Form) -> Option<&'f [Form]>
     ensures { spec.seen result ≡ spec.parts_of (known_of types.now) form.now }
 {
     match form {
@@ -115,7 +115,7 @@ fn split<'f>(
 
 /// The form of the elements of a set.
 #[tactic(auto, using(crate::proofs::Layers::forms_say))]
-fn element_of(form: &Form) -> Option<&Form>
+pub(crate) fn element_of(form: &Form) -> Option<&Form>
     ensures { spec.seen result ≡ spec.element_of form.now }
 {
     match form {
@@ -130,7 +130,7 @@ fn element_of(form: &Form) -> Option<&Form>
 }
 
 /// A set of the elements, without later copies.
-fn set_of(alloc: Global, elements: Seq<Value>) -> Result<Value, AllocError>
+pub(crate) fn set_of(alloc: Global, elements: Seq<Value>) -> Result<Value, AllocError>
     ensures { IfOk result (λ set. set ≡ spec.set_of elements) }
 {
     let set = make_set(alloc, elements.into_vec())?;

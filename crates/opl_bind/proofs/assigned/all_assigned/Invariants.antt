@@ -1,4 +1,4 @@
-use Rattle.std.proofs.Common.{◌≡◌, ◌++◌, [], ◌∷◌, map, drop}
+use Rattle.std.proofs.Common.{◌≡◌, drop}
 use Rattle.opl_value.specs.Places.{lists}
 use Rattle.opl_bind.specs.Assigned as spec
 use Rattle.opl_bind.proofs.assigned.all_assigned.Given as goal

@@ -1,4 +1,4 @@
-use Rattle.std.proofs.Common.{◌≡◌, ◌++◌, [], ◌∷◌, map, drop}
+use Rattle.std.proofs.Common.{◌≡◌, drop}
 use Rattle.opl_bind.specs.Assigned as spec
 use Rattle.opl_bind.proofs.assigned.is_assigned.Given as goal
 

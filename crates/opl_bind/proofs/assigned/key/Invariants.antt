@@ -1,4 +1,4 @@
-use Rattle.std.proofs.Common.{◌≡◌, ◌++◌, [], ◌∷◌, map, drop}
+use Rattle.std.proofs.Common.{◌≡◌, ◌++◌, map, drop}
 use Rattle.opl_value.specs.declared.value.Value.TheVariants.{Int}
 use Rattle.opl_bind.proofs.assigned.key.Given as goal
 

@@ -1,5 +1,5 @@
-use Rattle.std.proofs.Common.{◌≡◌, ◌++◌, [], ◌∷◌, map, drop}
-use Rattle.opl_bind.specs.Readings.{axis_of, known_of, laid, lent}
+use Rattle.std.proofs.Common.{◌≡◌, [], map, drop}
+use Rattle.opl_bind.specs.Readings.{known_of, lent}
 use Rattle.opl_bind.specs.Values.{all_by_form, value_in}
 use Rattle.opl_bind.proofs.cells.all_in.Given as goal
 

@@ -1,6 +1,6 @@
-use Rattle.std.proofs.Common.{◌≡◌, ◌++◌, [], ◌∷◌, map, drop}
+use Rattle.std.proofs.Common.{◌≡◌, [], drop}
 use Rattle.opl_bind.specs.Arrays as spec
-use Rattle.opl_bind.specs.Readings.{axis_of, known_of, laid, lent}
+use Rattle.opl_bind.specs.Readings.{laid, lent}
 use Rattle.opl_bind.specs.declared.fault.BindFault.TheVariants.{Shape}
 use Rattle.opl_bind.proofs.cells.filled.Given as goal
 

@@ -1,5 +1,5 @@
-use Rattle.std.proofs.Common.{◌≡◌, ◌++◌, [], ◌∷◌, map, drop}
-use Rattle.opl_bind.specs.Readings.{axis_of, known_of, laid, lent}
+use Rattle.std.proofs.Common.{◌≡◌, ◌++◌, drop}
+use Rattle.opl_bind.specs.Readings.{lent}
 use Rattle.opl_bind.proofs.cells.listed.Given as goal
 
 abbrev pub invariant-loop-part : goal.invariant-loop-part

@@ -1,5 +1,5 @@
-use Rattle.std.proofs.Common.{◌≡◌, ◌++◌, [], ◌∷◌, map, drop}
-use Rattle.opl_bind.specs.Readings.{known_of, texts_of}
+use Rattle.std.proofs.Common.{◌≡◌, ◌++◌, map, drop}
+use Rattle.opl_bind.specs.Readings.{texts_of}
 use Rattle.opl_bind.proofs.declare.copies.Given as goal
 
 abbrev pub invariant-loop-text : goal.invariant-loop-text

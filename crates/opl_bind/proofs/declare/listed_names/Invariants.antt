@@ -1,5 +1,5 @@
-use Rattle.std.proofs.Common.{◌≡◌, ◌++◌, [], ◌∷◌, map, drop}
-use Rattle.opl_bind.specs.Readings.{known_of, texts_of}
+use Rattle.std.proofs.Common.{◌≡◌, [], ◌∷◌, drop}
+use Rattle.opl_bind.specs.Readings.{texts_of}
 use Rattle.opl_bind.specs.Forms as spec
 use Rattle.opl_bind.proofs.declare.listed_names.Given as goal
 

@@ -1,5 +1,5 @@
-use Rattle.std.proofs.Common.{◌≡◌, ◌++◌, [], ◌∷◌, map, drop}
-use Rattle.opl_bind.specs.Readings.{known_of, texts_of}
+use Rattle.std.proofs.Common.{◌≡◌, [], drop}
+use Rattle.opl_bind.specs.Readings.{texts_of}
 use Rattle.opl_bind.specs.declared.fault.BindFault.TheVariants.{Shape}
 use Rattle.opl_bind.specs.Enumerations as spec
 use Rattle.opl_bind.proofs.enumeration.different_names.Given as goal

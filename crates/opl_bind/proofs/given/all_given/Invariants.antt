@@ -1,4 +1,4 @@
-use Rattle.std.proofs.Common.{◌≡◌, ◌++◌, [], ◌∷◌, ◌+◌, map, drop}
+use Rattle.std.proofs.Common.{◌≡◌, ◌+◌, drop}
 use Rattle.opl_bind.specs.Given as spec
 use Rattle.opl_bind.specs.Readings.{given_of, texts_of}
 use Rattle.opl_bind.proofs.given.all_given.Given as goal

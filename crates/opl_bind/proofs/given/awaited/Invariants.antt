@@ -1,6 +1,6 @@
-use Rattle.std.proofs.Common.{◌≡◌, ◌++◌, [], ◌∷◌, ◌+◌, map, drop}
+use Rattle.std.proofs.Common.{◌≡◌, [], drop}
 use Rattle.opl_bind.specs.Given as spec
-use Rattle.opl_bind.specs.Readings.{given_of, texts_of}
+use Rattle.opl_bind.specs.Readings.{texts_of}
 use Rattle.opl_bind.proofs.given.awaited.Given as goal
 
 abbrev pub invariant-loop-t : goal.invariant-loop-t

@@ -1,4 +1,4 @@
-use Rattle.std.proofs.Common.{◌≡◌, ◌++◌, [], ◌∷◌, map, drop}
+use Rattle.std.proofs.Common.{◌≡◌, ◌++◌, drop}
 use Rattle.opl_bind.specs.Axes.{names_from}
 use Rattle.opl_bind.proofs.index.name_values.Given as goal
 

@@ -1,4 +1,4 @@
-use Rattle.std.proofs.Common.{◌≡◌, ◌++◌, [], ◌∷◌, map, drop}
+use Rattle.std.proofs.Common.{◌≡◌, [], map, drop}
 use Rattle.opl_bind.specs.Axes as spec
 use Rattle.opl_bind.proofs.learn.+learning.Given as goal
 

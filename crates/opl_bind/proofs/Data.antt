@@ -1,0 +1,43 @@
+-- What one more declaration adds, as the program keeps it.
+use Rattle.std.proofs.Common.{◌≡◌, ℕ, ℤ, Bool, List, []}
+use Rattle.opl_tree.specs.declared.declaration.EnumNamesTree.TheVariants as names
+use Rattle.opl_tree.specs.declared.expression.NameTree.{NameTree}
+use Rattle.opl_value.specs.declared.value.Value.{Value}
+use Rattle.opl_value.specs.declared.value.Value.TheVariants as values
+use Rattle.opl_eval.specs.Evaluation.{Environment, declared}
+use Rattle.opl_bind.specs.Bind.{Data, with_ends, with_known, with_listed, with_names, with_value, with_values}
+use Rattle.opl_bind.specs.Forms.{Known, number_of, with_declaration, with_enumeration, with_range}
+use Rattle.opl_bind.specs.Names.{Text}
+
+abbrev both : Known → Environment → Data
+both known environment = record { known = known; environment = environment }
+
+pub value-kept : (k l : Known) (d e : Environment) (name : Text) (v : Value) →
+    l ≡ with_declaration [] [] k → e ≡ declared name v 0 d → both l e ≡ with_value name v (both k d)
+unfolding with_value
+value-kept k l d e name v p q = λ i. both (p i) (q i)
+
+pub ends-kept : (k l : Known) (d e : Environment) (name : Text) (low high : ℤ) →
+    l ≡ with_range name low high k → e ≡ declared name (values.Range low high) 0 d → both l e ≡ with_ends name low high (both k d)
+unfolding with_ends
+ends-kept k l d e name low high p q = λ i. both (p i) (q i)
+
+pub names-kept : (k l : Known) (d e : Environment) (name : Text) (ns : List Text) →
+    l ≡ with_enumeration name ns k → e ≡ declared name (values.Names ns) (number_of k) d → both l e ≡ with_names name ns (both k d)
+unfolding with_names
+names-kept k l d e name ns p q = λ i. both (p i) (q i)
+
+pub known-kept : (k l : Known) (d : Environment) → both l d ≡ with_known l (both k d)
+unfolding with_known
+known-kept k l d = λ i. both l d
+
+pub listed-kept : (k l : Known) (d e : Environment) (at : ℕ) (first : NameTree) (rest : List NameTree) (ns : List Text) →
+    (l ≡ k) × (e ≡ with_values (number_of k) 0 ns d) → both l e ≡ with_listed (names.Listed at first rest) ns (both k d)
+unfolding with_listed
+listed-kept k l d e at first rest ns p = λ i. both (p.0 i) (p.1 i)
+
+pub unlisted-kept : (k : Known) (d : Environment) (at : ℕ) (is_written : Bool) (ns : List Text) → both k d ≡ with_listed (names.External at is_written) ns (both k d)
+unfolding with_listed
+unlisted-kept k d at is_written ns = λ i. both k d
+
+pub ruleset kept = (value-kept, ends-kept, names-kept, known-kept, listed-kept, unlisted-kept)
