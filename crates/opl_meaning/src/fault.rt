@@ -1,0 +1,36 @@
+//! Why a model has no meaning.
+ghost use Rattle.opl_meaning.specs.declared.fault.MeaningFault.TheVariants.{OutOfMemory};
+ghost use Rattle.std.specs.Prelude.{◌≡◌};
+
+use opl_eval::EvalFault;
+use std::alloc::{AllocError, AllocFailed};
+use thiserror::Error;
+
+/// Why a model with data has no variables or no conditions. A place is the byte offset, from 0, of a first token in the model's file.
+#[derive(Debug, Drop, Error)]
+pub enum MeaningFault {
+    /// An expression without decision variables has no value.
+    #[error("no value")]
+    Eval(EvalFault),
+    /// An end of a declared set is below -2^62 or above 2^62, in the declaration at this place.
+    #[error("an end of a declared set is too far from 0")]
+    TooFar(u32),
+    #[error("out of memory")]
+    OutOfMemory,
+}
+
+impl From<AllocError> for MeaningFault {
+    ghost from_gives = { λ _ e. e ≡ OutOfMemory };
+
+    fn from(_e: AllocError) -> MeaningFault {
+        MeaningFault::OutOfMemory
+    }
+}
+
+impl<T: Drop> From<AllocFailed<T>> for MeaningFault {
+    ghost from_gives = { λ _ e. e ≡ OutOfMemory };
+
+    fn from(_e: AllocFailed<T>) -> MeaningFault {
+        MeaningFault::OutOfMemory
+    }
+}
