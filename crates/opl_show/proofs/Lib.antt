@@ -1,0 +1,4 @@
+pub mod Examples
+pub mod Parts
+pub mod Texts
+pub mod Weights

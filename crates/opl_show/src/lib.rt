@@ -1,0 +1,10 @@
+//! The texts that solutions are printed as.
+#![tactic(auto)]
+
+mod cells;
+mod item;
+mod name;
+mod solution;
+mod value;
+
+pub use solution::{closing, solution_text};

@@ -1,0 +1,9 @@
+pub mod Advance
+pub mod Enumeration
+pub mod FoundLemmas
+pub mod Membership
+pub mod Order
+pub mod PrintingLemmas
+pub mod Showing
+pub mod SolveLemmas
+pub mod StartLemmas
