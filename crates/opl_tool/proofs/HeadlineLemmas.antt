@@ -3,7 +3,7 @@ use Rattle.std.proofs.Common.{◌≡◌, ◌≢◌, ◌⊎◌, ◌<◌, refl, sy
 use Rattle.std.proofs.lemmas.List.{append-nil}
 use Rattle.opl_outside.specs.Becomes.{Becomes}
 use Rattle.opl_outside.specs.Files.{Files}
-use Rattle.opl_plain.specs.declared.model.PlainModel.{PlainModel}
+use Rattle.opl_meaning.specs.Solutions.{solutions}
 use Rattle.opl_tool.specs.declared.answer.Answer.{Answer}
 use Rattle.opl_tool.specs.declared.answer.Answer.TheVariants as answer
 use Rattle.opl_tool.specs.declared.refusal.Refusal.{Refusal}
@@ -13,12 +13,12 @@ use Rattle.opl_tool.specs.Ends.{Call, Solved, Stopped, Ends}
 use Rattle.opl_tool.specs.Headline.{Answers, IsRefused, HasSolution, HasNone, Exactly, Shows}
 use Rattle.opl_tool.specs.Judged.{Judged}
 use Rattle.opl_tool.specs.Lines.{refusal_text, stop_text}
-use Rattle.opl_tool.specs.Meaning.{solutions}
-use Rattle.opl_tool.specs.Printing.{GainsFront}
-use Rattle.opl_tool.specs.Text.{counted, count_from, text_of}
+use Rattle.opl_solve.specs.Printing.{GainsFront}
+use Rattle.opl_solve.specs.Texts.{counted, count_from}
+use Rattle.opl_tool.specs.Subject.{Subject, subject_text}
 use Rattle.opl_tool.specs.Laws.{SameOutcome}
 use Rattle.opl_tool.proofs.JudgedLemmas.{judged_one, ok_no_err}
-use Rattle.opl_tool.proofs.PrintingLemmas.{becomes_same}
+use Rattle.opl_solve.proofs.PrintingLemmas.{becomes_same}
 
 counted_some : (n : ℕ) → 0 < counted n
 counted_some n = omega arith
@@ -58,18 +58,18 @@ module _ (c : Call) (files : Files) where
       memory (inl same) = inl same
       memory (inr stopped) = inr (subst (λ o. IfSome o (Stopped c)) told stopped)
 
-  not_both : (m : PlainModel) (e : Refusal) → Judged c.words files (Ok m) → Judged c.words files (Err e) → ⊥
+  not_both : (m : Subject) (e : Refusal) → Judged c.words files (Ok m) → Judged c.words files (Err e) → ⊥
   not_both m e p q = ok_no_err m e (judged_one c.words files _ _ p q)
 
-  one_model : (m n : PlainModel) → Judged c.words files (Ok m) → Judged c.words files (Ok n) → m ≡ n
+  one_model : (m n : Subject) → Judged c.words files (Ok m) → Judged c.words files (Ok n) → m ≡ n
   one_model m n p q = same_model (judged_one c.words files _ _ p q) where
-    same_model : SameOutcome {A = PlainModel} (Ok m) (Ok n) → m ≡ n
+    same_model : SameOutcome {A = Subject} (Ok m) (Ok n) → m ≡ n
     same_model (inl e) = cc
     same_model (inr x) = absurd x
 
   refused_at : (r : Result ℕ Stop) (a : Answer) → EndsAt r → Answers r a → Exactly answer.Refused (IsRefused c.words files) a
-  refused_at (Ok zero) a s is = record { only = λ e. absurd (cc); always = λ h. absurd (not_both s.model h.0 s.judged h.1) }
-  refused_at (Ok (suc n)) a s is = record { only = λ e. absurd (cc); always = λ h. absurd (not_both s.model h.0 s.judged h.1) }
+  refused_at (Ok zero) a s is = record { only = λ e. absurd (cc); always = λ h. absurd (not_both s.subject h.0 s.judged h.1) }
+  refused_at (Ok (suc n)) a s is = record { only = λ e. absurd (cc); always = λ h. absurd (not_both s.subject h.0 s.judged h.1) }
   refused_at (Err (Refused e)) a s (inl is) = record { only = λ h. (e, s.1); always = λ h. inl is }
   refused_at (Err (Refused e)) a s (inr is) = record { only = λ h. (e, s.1); always = λ h. inr (inl is) }
   refused_at (Err ReadFault) a s (inl is) = record { only = λ e. absurd (cc); always = λ h. inr (inr (inl is)) }
@@ -82,9 +82,9 @@ module _ (c : Call) (files : Files) where
   solved_at : (r : Result ℕ Stop) (a : Answer) → EndsAt r → Answers r a → Exactly answer.Done (HasSolution c.words files) a
   solved_at (Ok zero) a s is = record {
     only = λ e. absurd (cc);
-    always = λ h. absurd (h.2 (subst (λ m. solutions m ≡ []) (one_model s.model h.0 s.judged h.1) (none_counted (solutions s.model) s.count)));
+    always = λ h. absurd (h.2 (subst (λ m. solutions m.model ≡ []) (one_model s.subject h.0 s.judged h.1) (none_counted (solutions s.subject.model) s.count)));
   }
-  solved_at (Ok (suc n)) a s is = record { only = λ e. (s.model, s.judged, some_counted n (solutions s.model) s.count); always = λ h. inl is }
+  solved_at (Ok (suc n)) a s is = record { only = λ e. (s.subject, s.judged, some_counted n (solutions s.subject.model) s.count); always = λ h. inl is }
   solved_at (Err (Refused e)) a s (inl is) = record { only = λ e. absurd (cc); always = λ h. absurd (not_both h.0 e h.1 s.1) }
   solved_at (Err (Refused e)) a s (inr is) = record { only = λ e. absurd (cc); always = λ h. absurd (not_both h.0 e h.1 s.1) }
   solved_at (Err ReadFault) a s (inl is) = record { only = λ e. absurd (cc); always = λ h. inr (inr (inl is)) }
@@ -95,10 +95,10 @@ module _ (c : Call) (files : Files) where
   solved_at (Err OutOfMemory) a s (inr is) = record { only = λ e. absurd (cc); always = λ h. inr (inl is) }
 
   unsolved_at : (r : Result ℕ Stop) (a : Answer) → EndsAt r → Answers r a → Exactly answer.NoSolution (HasNone c.words files) a
-  unsolved_at (Ok zero) a s is = record { only = λ e. (s.model, s.judged, none_counted (solutions s.model) s.count); always = λ h. inl is }
+  unsolved_at (Ok zero) a s is = record { only = λ e. (s.subject, s.judged, none_counted (solutions s.subject.model) s.count); always = λ h. inl is }
   unsolved_at (Ok (suc n)) a s is = record {
     only = λ e. absurd (cc);
-    always = λ h. absurd (some_counted n (solutions s.model) s.count (subst (λ m. solutions m ≡ []) (sym (one_model s.model h.0 s.judged h.1)) h.2));
+    always = λ h. absurd (some_counted n (solutions s.subject.model) s.count (subst (λ m. solutions m.model ≡ []) (sym (one_model s.subject h.0 s.judged h.1)) h.2));
   }
   unsolved_at (Err (Refused e)) a s (inl is) = record { only = λ e. absurd (cc); always = λ h. absurd (not_both h.0 e h.1 s.1) }
   unsolved_at (Err (Refused e)) a s (inr is) = record { only = λ e. absurd (cc); always = λ h. absurd (not_both h.0 e h.1 s.1) }
@@ -110,9 +110,9 @@ module _ (c : Call) (files : Files) where
   unsolved_at (Err OutOfMemory) a s (inr is) = record { only = λ e. absurd (cc); always = λ h. inr (inl is) }
 
   -- what is written where a model's text stands in place of the one it came with
-  same_text : (m n : PlainModel) (P : List ℕ → List ℕ → List ℕ → Type 0) → m ≡ n →
-      Becomes c.old c.new (λ x y. P x y (text_of m)) → Becomes c.old c.new (λ x y. P x y (text_of n))
-  same_text m n P same h = subst (λ t. Becomes c.old c.new (λ x y. P x y (text_of t))) same h
+  same_text : (m n : Subject) (P : List ℕ → List ℕ → List ℕ → Type 0) → m ≡ n →
+      Becomes c.old c.new (λ x y. P x y (subject_text m)) → Becomes c.old c.new (λ x y. P x y (subject_text n))
+  same_text m n P same h = subst (λ t. Becomes c.old c.new (λ x y. P x y (subject_text t))) same h
 
   -- nothing is written
   nothing_shown : (text : List ℕ) → c.new ≡ c.old → Becomes c.old c.new (λ x y. GainsFront x y text)
@@ -126,25 +126,25 @@ module _ (c : Call) (files : Files) where
   as_stopped OutOfMemory a text (inl is) h = rw is h
   as_stopped r a text (inr is) h = rw is h
 
-  stopped_text : (m : PlainModel) → Stopped c files → Judged c.words files (Ok m) → Becomes c.old c.new (λ x y. GainsFront x y (text_of m))
-  stopped_text m s j = same_text s.model m (λ x y t. GainsFront x y t) (one_model s.model m s.judged j) s.written
+  stopped_text : (m : Subject) → Stopped c files → Judged c.words files (Ok m) → Becomes c.old c.new (λ x y. GainsFront x y (subject_text m))
+  stopped_text m s j = same_text s.subject m (λ x y t. GainsFront x y t) (one_model s.subject m s.judged j) s.written
 
-  shown_at : (r : Result ℕ Stop) (a : Answer) → EndsAt r → Answers r a → (m : PlainModel) → Judged c.words files (Ok m) → Shows c.old c.new (text_of m) a
-  shown_at (Ok zero) a s is m j = rw is (same_text s.model m (λ x y t. y ≡ x ++ t) (one_model s.model m s.judged j) s.written)
-  shown_at (Ok (suc n)) a s is m j = rw is (same_text s.model m (λ x y t. y ≡ x ++ t) (one_model s.model m s.judged j) s.written)
+  shown_at : (r : Result ℕ Stop) (a : Answer) → EndsAt r → Answers r a → (m : Subject) → Judged c.words files (Ok m) → Shows c.old c.new (subject_text m) a
+  shown_at (Ok zero) a s is m j = rw is (same_text s.subject m (λ x y t. y ≡ x ++ t) (one_model s.subject m s.judged j) s.written)
+  shown_at (Ok (suc n)) a s is m j = rw is (same_text s.subject m (λ x y t. y ≡ x ++ t) (one_model s.subject m s.judged j) s.written)
   shown_at (Err (Refused e)) a s is m j = absurd (not_both m e j s.1)
-  shown_at (Err ReadFault) a s is m j = as_stopped ReadFault a (text_of m) is (nothing_shown (text_of m) s)
-  shown_at (Err WriteFault) a s is m j = as_stopped WriteFault a (text_of m) is (stopped_text m s j)
-  shown_at (Err OutOfMemory) a (inl s) is m j = as_stopped OutOfMemory a (text_of m) is (nothing_shown (text_of m) s)
-  shown_at (Err OutOfMemory) a (inr s) is m j = as_stopped OutOfMemory a (text_of m) is (stopped_text m s j)
+  shown_at (Err ReadFault) a s is m j = as_stopped ReadFault a (subject_text m) is (nothing_shown (subject_text m) s)
+  shown_at (Err WriteFault) a s is m j = as_stopped WriteFault a (subject_text m) is (stopped_text m s j)
+  shown_at (Err OutOfMemory) a (inl s) is m j = as_stopped OutOfMemory a (subject_text m) is (nothing_shown (subject_text m) s)
+  shown_at (Err OutOfMemory) a (inr s) is m j = as_stopped OutOfMemory a (subject_text m) is (stopped_text m s j)
 
   silent_at : (r : Result ℕ Stop) → EndsAt r → (e : Refusal) → Judged c.words files (Err e) → c.new ≡ c.old
-  silent_at (Ok n) s e j = absurd (not_both s.model e s.judged j)
+  silent_at (Ok n) s e j = absurd (not_both s.subject e s.judged j)
   silent_at (Err (Refused f)) s e j = s.0
   silent_at (Err ReadFault) s e j = s
-  silent_at (Err WriteFault) s e j = absurd (not_both s.model e s.judged j)
+  silent_at (Err WriteFault) s e j = absurd (not_both s.subject e s.judged j)
   silent_at (Err OutOfMemory) (inl s) e j = s
-  silent_at (Err OutOfMemory) (inr s) e j = absurd (not_both s.model e s.judged j)
+  silent_at (Err OutOfMemory) (inr s) e j = absurd (not_both s.subject e s.judged j)
 
   -- a refusal of the call, told by its line
   abbrev Told : List (List ℕ) → (List ℕ → Type 0) → Type 0
@@ -177,7 +177,7 @@ module _ (c : Call) (r : Result ℕ Stop) (a : Answer) (ends : Ends c r) (is : A
   pub unsolved-exactly : IfSome c.files (λ files. Exactly answer.NoSolution (HasNone c.words files) a)
   unsolved-exactly = with_told c.files _ (λ files told. unsolved_at c files r a (told_at c files r told ends) is)
 
-  pub shows-text : IfSome c.files (λ files. (m : PlainModel) → Judged c.words files (Ok m) → Shows c.old c.new (text_of m) a)
+  pub shows-text : IfSome c.files (λ files. (m : Subject) → Judged c.words files (Ok m) → Shows c.old c.new (subject_text m) a)
   shows-text = with_told c.files _ (λ files told. shown_at c files r a (told_at c files r told ends) is)
 
   pub shows-nothing : IfSome c.files (λ files. (e : Refusal) → Judged c.words files (Err e) → c.new ≡ c.old)

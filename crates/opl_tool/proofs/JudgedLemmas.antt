@@ -8,22 +8,23 @@ use Rattle.opl_token.proofs.Unique.{one_scan, no_fault, one_fault}
 use Rattle.opl_token.specs.declared.fault.ScanFault.{ScanFault}
 use Rattle.opl_token.specs.declared.fault.ScanFault.TheVariants as scan
 use Rattle.opl_token.specs.declared.token.Token.{Token}
-use Rattle.opl_plain.specs.declared.model.PlainModel.{PlainModel}
 use Rattle.opl_types.specs.Models.{model}
 use Rattle.opl_types.specs.declared.fault.TypeFault.{TypeFault}
 use Rattle.opl_types.specs.Types.{Sort}
 use Rattle.opl_data.proofs.TreeLaws as of_data
 use Rattle.opl_data.specs.Depth.{depth_file}
 use Rattle.opl_data.specs.declared.tree.DataFile.{DataFile}
-use Rattle.opl_data.specs.declared.tree.DataItem.{DataItem}
 use Rattle.opl_outside.specs.Becomes.{Becomes}
 use Rattle.opl_tool.specs.declared.refusal.Fault.TheVariants.{Syntax, TooDeep, NotYet}
 use Rattle.opl_tool.specs.declared.refusal.Refusal.{Refusal}
-use Rattle.opl_tool.specs.declared.refusal.Refusal.TheVariants.{At, Given}
+use Rattle.opl_tool.specs.declared.refusal.Refusal.TheVariants.{At}
 use Rattle.opl_tool.specs.declared.scanning.Tokens.{Tokens}
 use Rattle.opl_tool.specs.declared.stop.Stop.{Stop}
 use Rattle.opl_tool.specs.declared.stop.Stop.TheVariants.{Refused, ReadFault, WriteFault, OutOfMemory}
-use Rattle.opl_tool.specs.Judged.{Named, Held, refusal_of_scan, Scanned, IsSyntaxFault, Parsed, IsDataFault, DataParsed, HasTypes, refusal_of_type, Plain, NoneGiven, Runs, Understood, Resolved, Read, Loaded, Fetched, Judged}
+use Rattle.opl_tool.specs.Judged.{Named, Held, refusal_of_scan, Scanned, IsSyntaxFault, Parsed, IsDataFault, DataParsed, HasTypes, refusal_of_type, Understood, Read, Loaded, Fetched, Judged}
+use Rattle.opl_tool.specs.Data.{Comes, HasData, HasFormulas, HasVariables, Posed, Prepared, Runs, subject_of}
+use Rattle.opl_meaning.specs.Runs.{not_yet}
+use Rattle.opl_tool.specs.Subject.{Subject}
 use Rattle.opl_tool.specs.Laws.{SameOutcome}
 use Rattle.opl_tool.specs.Stage.{Stage, Then, Only, Each, Gives, GivesRead}
 use Rattle.opl_tool.specs.Words.{is_solve, names_of}
@@ -47,21 +48,35 @@ then-stops P Q ReadFault p = p
 then-stops P Q WriteFault p = p
 then-stops P Q OutOfMemory p = tt
 
--- the model and the data files have trees, and these gave what they gave
-pub understood-gives : (tokens : Tokens) (more : List Tokens) (tree : ModelTree) (files these : List DataFile) (r : Result PlainModel Stop) → these ≡ files →
-    Parsed tokens (Ok tree) → Each DataParsed 1 more (Ok files) → Gives (Then (HasTypes tree) (Runs these)) r → Gives (Understood tokens more) r
-understood-gives tokens more tree files these r same parsed trees h =
-    then-gives (Parsed tokens) (λ t. Then (Each DataParsed 1 more) (λ fs. Then (HasTypes t) (Runs fs))) tree r parsed (then-gives (Each DataParsed 1 more) (λ fs. Then (HasTypes tree) (Runs fs)) files r trees
-    (subst (λ fs. Gives (Then (HasTypes tree) (Runs fs)) r) same h))
+-- behind the model's tree and those of the data files come the types
+abbrev Behind : Tokens → List Tokens → ModelTree → Stage (ModelTree × List DataFile)
+Behind tokens more tree = Then (Each DataParsed 1 more) (λ files. Then (HasTypes tree) (λ t. Only (t, files)))
+
+-- the model and the data files have trees, and typing ended so
+pub understood-typed : (tokens : Tokens) (more : List Tokens) (tree : ModelTree) (files : List DataFile) (r : Result (ModelTree × List DataFile) Stop) →
+    Parsed tokens (Ok tree) → Each DataParsed 1 more (Ok files) → Gives (Then (HasTypes tree) (λ t. Only (t, files))) r → Gives (Understood tokens more) r
+understood-typed tokens more tree files r parsed trees h =
+    then-gives (Parsed tokens) (Behind tokens more) tree r parsed (then-gives (Each DataParsed 1 more) (λ fs. Then (HasTypes tree) (λ t. Only (t, fs))) files r trees h)
 
 -- the model has a tree, and the data files came to an end
 pub understood-stops : (tokens : Tokens) (more : List Tokens) (tree : ModelTree) (stop : Stop) → Parsed tokens (Ok tree) → Gives (Each DataParsed 1 more) (Err stop) →
     Gives (Understood tokens more) (Err stop)
 understood-stops tokens more tree stop parsed h =
-    then-gives (Parsed tokens) (λ t. Then (Each DataParsed 1 more) (λ fs. Then (HasTypes t) (Runs fs))) tree (Err stop) parsed (then-stops (Each DataParsed 1 more) (λ fs. Then (HasTypes tree) (Runs fs)) stop h)
+    then-gives (Parsed tokens) (Behind tokens more) tree (Err stop) parsed (then-stops (Each DataParsed 1 more) (λ fs. Then (HasTypes tree) (λ t. Only (t, fs))) stop h)
+
+-- all have trees, and typing ended
+pub understood-untyped : (tokens : Tokens) (more : List Tokens) (tree : ModelTree) (files : List DataFile) (stop : Stop) → Parsed tokens (Ok tree) →
+    Each DataParsed 1 more (Ok files) → Gives (HasTypes tree) (Err stop) → Gives (Understood tokens more) (Err stop)
+understood-untyped tokens more tree files stop parsed trees h =
+    understood-typed tokens more tree files (Err stop) parsed trees (then-stops (HasTypes tree) (λ t. Only (t, files)) stop h)
+
+-- all have trees, the model's with types
+pub understood-all : (tokens : Tokens) (more : List Tokens) (tree t : ModelTree) (files : List DataFile) → Parsed tokens (Ok tree) →
+    Each DataParsed 1 more (Ok files) → HasTypes tree (Ok t) → Understood tokens more (Ok (t, files))
+understood-all tokens more tree t files parsed trees h = inl (tree, parsed, inl (files, trees, inl (t, h, refl)))
 
 -- the same of their bytes and tokens
-pub read-gives : (bytes : List ℕ) (more : List (List ℕ)) (tokens : Tokens) (others these : List Tokens) (r : Result PlainModel Stop) → these ≡ others →
+pub read-gives : (bytes : List ℕ) (more : List (List ℕ)) (tokens : Tokens) (others these : List Tokens) (r : Result (ModelTree × List DataFile) Stop) → these ≡ others →
     Scanned 0 bytes (Ok tokens) → Each Scanned 1 more (Ok others) → Gives (Understood tokens these) r → Gives (Read bytes more) r
 read-gives bytes more tokens others these r same scanned all h =
     then-gives (Scanned 0 bytes) (λ ts. Then (Each Scanned 1 more) (Understood ts)) tokens r scanned (then-gives (Each Scanned 1 more) (Understood tokens) others r all (subst (λ ts. Gives (Understood tokens ts) r) same h))
@@ -89,7 +104,7 @@ both_told (Some files) None P Q R both same p q = absurd same
 both_told (Some files) (Some others) P Q R both same p q = both files p (subst Q same q)
 
 -- all files were read, and their texts gave a model or an end
-pub loaded-read : (told mid : Option Files) (model bytes text : List ℕ) (more texts others : List (List ℕ)) (r : Result PlainModel Stop) → text ≡ bytes → others ≡ texts →
+pub loaded-read : (told mid : Option Files) (model bytes text : List ℕ) (more texts others : List (List ℕ)) (r : Result (ModelTree × List DataFile) Stop) → text ≡ bytes → others ≡ texts →
     IfSome told (λ files. GivesRead (Held files 0 model) (Ok bytes)) → Becomes told mid (λ before now. now ≡ before) →
     IfSome mid (λ files. GivesRead (Each (Held files) 1 more) (Ok texts)) → Gives (Read text others) r → IfSome told (λ files. GivesRead (Loaded files (model, more)) r)
 loaded-read told mid model bytes text more texts others r same all held stay helds read = both_told told mid _ _ _
@@ -97,7 +112,7 @@ loaded-read told mid model bytes text more texts others r same all held stay hel
     (gives_read (Read bytes texts) r (subst (λ ts. Gives (Read bytes ts) r) all (subst (λ t. Gives (Read t others) r) same read))))) stay held helds
 
 -- the words name these files
-pub fetched-loaded : (told : Option Files) (words : List (List ℕ)) (model : List ℕ) (more : List (List ℕ)) (r : Result PlainModel Stop) → is_solve words ≡ true →
+pub fetched-loaded : (told : Option Files) (words : List (List ℕ)) (model : List ℕ) (more : List (List ℕ)) (r : Result (ModelTree × List DataFile) Stop) → is_solve words ≡ true →
     names_of words ≡ model ∷ more → IfSome told (λ files. GivesRead (Loaded files (model, more)) r) → IfSome told (λ files. GivesRead (Fetched words files) r)
 fetched-loaded told words model more r command names loaded =
     if_some told _ _ (λ files l. then_gives_read (Named words) (Loaded files) (model, more) r (command, names) l) loaded
@@ -232,34 +247,34 @@ typed_one tree (Err e) (Err f) p q =
     let told : Some e ≡ Some f = sym p.1 ∙ (ap refusal_of_type same ∙ q.1) in
     let one : e ≡ f = cc in inl (ap Err one)
 
-plain_one : (tree : ModelTree) → IsOne (Plain tree)
-plain_one tree (Ok m) (Ok n) p q = let e : ◌≡◌ {A = Result PlainModel ℕ} (Ok m) (Ok n) = sym p ∙ q in let same : m ≡ n = cc in inl (ap Ok same)
-plain_one tree (Ok m) (Err e) p q = let no : ◌≡◌ {A = Result PlainModel ℕ} (Ok m) (Err q.0) = sym p ∙ q.2 in absurd (cc)
-plain_one tree (Err e) (Ok n) p q = let no : ◌≡◌ {A = Result PlainModel ℕ} (Ok n) (Err p.0) = sym q ∙ p.2 in absurd (cc)
-plain_one tree (Err e) (Err f) p q =
-    let both : ◌≡◌ {A = Result PlainModel ℕ} (Err p.0) (Err q.0) = sym p.2 ∙ q.2 in
+comes_one : {A E : Type 0} (refusal : E → Option Refusal) (made : Result A E) → IsOne (Comes refusal made)
+comes_one {A} {E} refusal made (Ok a) (Ok b) p q = let e : ◌≡◌ {A = Result A E} (Ok a) (Ok b) = sym p ∙ q in let same : a ≡ b = cc in inl (ap Ok same)
+comes_one {A} {E} refusal made (Ok a) (Err e) p q = let no : ◌≡◌ {A = Result A E} (Ok a) (Err q.0) = sym p ∙ q.2 in absurd (cc)
+comes_one {A} {E} refusal made (Err e) (Ok b) p q = let no : ◌≡◌ {A = Result A E} (Ok b) (Err p.0) = sym q ∙ p.2 in absurd (cc)
+comes_one {A} {E} refusal made (Err e) (Err f) p q =
+    let both : ◌≡◌ {A = Result A E} (Err p.0) (Err q.0) = sym p.2 ∙ q.2 in
+    let same : p.0 ≡ q.0 = cc in
+    let told : Some e ≡ Some f = sym p.1 ∙ (ap refusal same ∙ q.1) in
+    let one : e ≡ f = cc in inl (ap Err one)
+
+runs_one : (tree : ModelTree) → IsOne (Runs tree)
+runs_one tree (Ok u) (Ok v) p q = inl refl
+runs_one tree (Ok u) (Err e) p q = let no : None ≡ Some q.0 = sym p ∙ q.2 in absurd (cc)
+runs_one tree (Err e) (Ok v) p q = let no : None ≡ Some p.0 = sym q ∙ p.2 in absurd (cc)
+runs_one tree (Err e) (Err f) p q =
+    let both : Some p.0 ≡ Some q.0 = sym p.2 ∙ q.2 in
     let same : p.0 ≡ q.0 = cc in inl (ap Err (p.1 ∙ (ap (At NotYet 0) same ∙ sym q.1)))
 
-none_given_one : (files : List DataFile) (model : PlainModel) → IsOne (NoneGiven files model)
-none_given_one files model (Ok m) (Ok n) p q = inl (ap Ok (p.0 ∙ sym q.0))
-none_given_one files model (Ok m) (Err e) p q = let no : None ≡ Some q.0 = sym p.1 ∙ q.2 in absurd (cc)
-none_given_one files model (Err e) (Ok n) p q = let no : None ≡ Some p.0 = sym q.1 ∙ p.2 in absurd (cc)
-none_given_one files model (Err e) (Err f) p q =
-    let both : Some p.0 ≡ Some q.0 = sym p.2 ∙ q.2 in
-    let same : p.0 ≡ q.0 = cc in inl (ap Err (p.1 ∙ (ap (λ (item : DataItem). Given item.name.text) same ∙ sym q.1)))
+posed_one : (s : Subject) → IsOne (Posed s)
+posed_one s = then_one (HasFormulas s.model) _ (comes_one _ _) (λ fs. only_one s)
 
-resolved_one : (model : PlainModel) → IsOne (Resolved model)
-resolved_one model (Ok m) (Ok n) p q = inl (ap Ok (p.0 ∙ sym q.0))
-resolved_one model (Ok m) (Err e) p q = let no : None ≡ Some e = sym p.1 ∙ q in absurd (cc)
-resolved_one model (Err e) (Ok n) p q = let no : None ≡ Some e = sym q.1 ∙ p in absurd (cc)
-resolved_one model (Err e) (Err f) p q = let both : Some e ≡ Some f = sym p ∙ q in let same : e ≡ f = cc in inl (ap Err same)
-
-runs_one : (files : List DataFile) (tree : ModelTree) → IsOne (Runs files tree)
-runs_one files tree = then_one (Plain tree) _ (plain_one tree) (none_given_one files)
+prepared_one : (tree : ModelTree) (files : List DataFile) → IsOne (Prepared tree files)
+prepared_one tree files = then_one (Runs tree) _ (runs_one tree) (λ u.
+    then_one (HasData tree files) _ (comes_one _ _) (λ d. then_one (HasVariables tree d) _ (comes_one _ _) (λ vs. posed_one (subject_of tree d vs))))
 
 understood_one : (tokens : Tokens) (more : List Tokens) → IsOne (Understood tokens more)
 understood_one tokens more = then_one (Parsed tokens) _ (parsed_one tokens) (λ tree.
-    then_one (Each DataParsed 1 more) _ (each_one DataParsed data_parsed_one 1 more) (λ files. then_one (HasTypes tree) _ (typed_one tree) (runs_one files)))
+    then_one (Each DataParsed 1 more) _ (each_one DataParsed data_parsed_one 1 more) (λ files. then_one (HasTypes tree) _ (typed_one tree) (λ t. only_one (t, files))))
 
 read_one : (bytes : List ℕ) (more : List (List ℕ)) → IsOne (Read bytes more)
 read_one bytes more = then_one (Scanned 0 bytes) _ (scanned_one 0 bytes) (λ tokens.
@@ -271,4 +286,4 @@ loaded_one files names = then_one (Held files 0 names.0) _ (held_one files 0 nam
 
 -- words and files come to at most one outcome
 pub judged_one : (words : List (List ℕ)) (files : Files) → IsOne (Judged words files)
-judged_one words files = then_one (Fetched words files) _ (then_one (Named words) _ (named_one words) (loaded_one files)) resolved_one
+judged_one words files = then_one (Fetched words files) _ (then_one (Named words) _ (named_one words) (loaded_one files)) (λ trees. prepared_one trees.0 trees.1)

@@ -1,12 +1,14 @@
--- A line whose `put` failed.
-use Rattle.std.proofs.Common.{◌≡◌, ℕ, List, Option, Err, inr}
+-- Lines that are told in part.
+use Rattle.std.proofs.Common.{◌≡◌, ℕ, List, [], Option, Err, inl, inr, refl, sym}
+use Rattle.std.proofs.lemmas.List.{append-nil}
 use Rattle.opl_outside.specs.Counts.{Counts}
 use Rattle.opl_outside.specs.Written.{Puts}
 use Rattle.opl_outside.specs.declared.error.OutsideError.{OutsideError}
 use Rattle.opl_outside.specs.declared.error.OutsideError.TheVariants.{Failed}
 use Rattle.opl_tool.specs.declared.answer.Answer.{Answer}
+use Rattle.opl_tool.specs.declared.answer.Answer.TheVariants.{OutOfMemory}
 use Rattle.opl_tool.specs.Lines.{Tells}
-use Rattle.opl_tool.proofs.PrintingLemmas.{becomes_so, front_put}
+use Rattle.opl_solve.proofs.PrintingLemmas.{becomes_same, becomes_so, front_put}
 
 failed_tells : (old new : Option (List ℕ)) (before now : ℕ) (line : List ℕ) (answer : Answer) → Puts {A = Unit {0}} old new line (Err Failed) →
     Counts {A = Unit {0}} before now (Err Failed) → Tells old new before now line answer
@@ -15,3 +17,7 @@ failed_tells old new before now line answer p rose = becomes_so old new _ _ (λ 
 pub failed-tells : (old new : Option (List ℕ)) (before now : ℕ) (line : List ℕ) (answer : Answer) (e : OutsideError) → e ≡ Failed →
     Puts {A = Unit {0}} old new line (Err e) → Counts {A = Unit {0}} before now (Err e) → Tells old new before now line answer
 failed-tells old new before now line answer e is p c = failed_tells old new before now line answer (rw is at p) (rw is at c)
+
+-- nothing is told where memory is wanting
+pub nothing-tells : (o : Option (List ℕ)) (f : ℕ) (line : List ℕ) → Tells o o f f line OutOfMemory
+nothing-tells o f line = becomes_same o _ (λ x. inr (inl refl, record { front = []; rest = line; gained = sym (append-nil x); whole = refl }))

@@ -5,13 +5,14 @@ use Rattle.opl_outside.specs.Becomes.{Becomes}
 use Rattle.opl_outside.specs.Files.{Files}
 use Rattle.opl_tool.specs.declared.stop.Stop.{Stop}
 use Rattle.opl_tool.specs.declared.stop.Stop.TheVariants.{Refused, ReadFault, WriteFault, OutOfMemory}
-use Rattle.opl_plain.specs.declared.model.PlainModel.{PlainModel}
+use Rattle.opl_data.specs.declared.tree.DataFile.{DataFile}
+use Rattle.opl_tree.specs.declared.model.ModelTree.{ModelTree}
 use Rattle.opl_tool.specs.Judged.{Held, Loaded, Fetched}
 use Rattle.opl_tool.specs.Words.{is_solve, names_of}
 use Rattle.opl_tool.specs.Stage.{Stage, Each, GivesRead}
 use Rattle.opl_tool.proofs.EachLemmas.{each-none, each-next, each-stops-read, each-ends, each_map}
 use Rattle.opl_tool.proofs.JudgedLemmas.{if_some, both_told, fetched-loaded}
-use Rattle.opl_tool.proofs.PrintingLemmas.{becomes_same, becomes_then}
+use Rattle.opl_solve.proofs.PrintingLemmas.{becomes_same, becomes_then}
 
 -- the bytes of the file that a word names
 abbrev pub HeldBy : Files → ℕ → String Global → Stage (List ℕ)
@@ -67,7 +68,7 @@ rest_whole : (names : List (String Global)) → take (length names - 1) (drop 1 
 rest_whole names = take_all (length names - 1) (drop 1 names) (omega (arith, length-drop 1 names))
 
 -- the files that the words name came to this
-pub fetched-named : (told : Option Files) (words : List (List ℕ)) (items names : List (String Global)) (first : String Global) (text : List ℕ) (r : Result PlainModel Stop) →
+pub fetched-named : (told : Option Files) (words : List (List ℕ)) (items names : List (String Global)) (first : String Global) (text : List ℕ) (r : Result (ModelTree × List DataFile) Stop) →
     names ≡ items → 1 ≤ length names → first ≡ get_or names 0 first → text ≡ string_bytes first → true ≡ is_solve words →
     map (λ name. string_bytes name) items ≡ names_of words →
     IfSome told (λ files. GivesRead (Loaded files (text, map (λ name. string_bytes name) (take (length names - 1) (drop 1 names)))) r) →

@@ -1,17 +1,15 @@
 -- Words and files come to an outcome.
-use Rattle.std.proofs.Common.{◌≡◌, ◌≢◌, ◌⊎◌, ◌<◌, ◌≤◌, ◌+◌, refl, ℕ, Bool, true, false, nat_lt, List, [], ◌∷◌, length, Option, Some, None, Result, Ok, Err, inl, inr, arith}
+use Rattle.std.proofs.Common.{◌≡◌, ◌≢◌, ◌⊎◌, ◌<◌, ◌≤◌, ◌+◌, refl, ap, ◌∙◌, ℕ, Bool, true, false, nat_lt, List, [], ◌∷◌, length, Option, Some, None, Result, Ok, Err, inl, inr, arith}
 use Rattle.std.proofs.lemmas.Bool.Decides.{nat_tests}
 use Rattle.opl_outside.specs.Files.{Files, max_bytes}
 use Rattle.opl_parse.proofs.TreeLaws.{parse_total}
 use Rattle.opl_tree.specs.declared.model.ModelTree.{ModelTree}
 use Rattle.opl_tree.specs.Depth.{depth_model}
-use Rattle.opl_plain.specs.Plain.{plain_of}
 use Rattle.opl_token.proofs.Unique.{total}
 use Rattle.opl_token.specs.declared.fault.ScanFault.{ScanFault}
 use Rattle.opl_token.specs.declared.fault.ScanFault.TheVariants as scan
 use Rattle.opl_token.specs.declared.token.Token.{Token}
 use Rattle.opl_token.specs.Scan.{Scans, Faults}
-use Rattle.opl_plain.specs.declared.model.PlainModel.{PlainModel}
 use Rattle.opl_types.specs.Models.{model}
 use Rattle.opl_types.specs.declared.fault.TypeFault.{TypeFault}
 use Rattle.opl_types.specs.declared.fault.TypeFault.TheVariants as types
@@ -22,16 +20,33 @@ use Rattle.opl_data.proofs.TreeLaws as of_data
 use Rattle.opl_data.specs.Depth.{depth_file}
 use Rattle.opl_data.specs.Reading as data_files
 use Rattle.opl_data.specs.declared.tree.DataFile.{DataFile}
-use Rattle.opl_data.specs.declared.tree.DataItem.{DataItem}
 use Rattle.opl_tool.specs.declared.refusal.Fault.TheVariants.{BadByte, OpenComment, OpenString, NumberTooLarge, Syntax, TooDeep, NotYet, Unknown, Duplicate, NotData, Mismatch}
+use Rattle.opl_tool.specs.declared.refusal.Fault.TheVariants as faults
+use Rattle.opl_tool.specs.declared.refusal.ItemFault.TheVariants as items
 use Rattle.opl_tool.specs.declared.refusal.Refusal.{Refusal}
-use Rattle.opl_tool.specs.declared.refusal.Refusal.TheVariants.{Words, Absent, TooLong, At, Given}
+use Rattle.opl_tool.specs.declared.refusal.Refusal.TheVariants.{Words, Absent, TooLong, At, Item}
 use Rattle.opl_tool.specs.declared.scanning.Tokens.{Tokens}
-use Rattle.opl_tool.specs.Faults.{model_fault}
-use Rattle.opl_tool.specs.Items.{first_item}
-use Rattle.opl_tool.specs.Judged.{Named, Held, Scanned, Parsed, DataParsed, HasTypes, Plain, NoneGiven, Runs, Understood, Read, Loaded, Resolved, Fetched, Judged}
+use Rattle.opl_tool.specs.Judged.{Named, Held, Scanned, Parsed, DataParsed, HasTypes, Understood, Read, Loaded, Fetched, Judged}
+use Rattle.opl_tool.specs.Data.{Comes as Made, HasData, HasFormulas, HasVariables, Posed, Prepared, Runs, formulas_of, positions, refusal_of_data, refusal_of_value, refusal_of_variables, subject_of}
+use Rattle.opl_tool.specs.Subject.{Subject}
+use Rattle.opl_bind.specs.Bind.{Data, bound}
+use Rattle.opl_bind.specs.declared.fault.BindFault.{BindFault}
+use Rattle.opl_bind.specs.declared.fault.BindFault.TheVariants as binding
+use Rattle.opl_eval.specs.declared.fault.EvalFault.{EvalFault}
+use Rattle.opl_eval.specs.declared.fault.EvalFault.TheVariants as evaluation
+use Rattle.opl_bind.proofs.NoMemoryBind.{never_memory as bound_never}
+use Rattle.opl_meaning.proofs.NoMemory.{formulas_never_memory}
+use Rattle.opl_meaning.proofs.NoMemoryVariables.{variables_never_memory, variables_never_memory_evaluating}
+use Rattle.opl_meaning.specs.Solutions.{scope_of}
+use Rattle.opl_meaning.specs.Runs.{not_yet}
+use Rattle.opl_meaning.specs.Variables.{variables_in}
+use Rattle.opl_meaning.specs.declared.fault.MeaningFault.{MeaningFault}
+use Rattle.opl_meaning.specs.declared.fault.MeaningFault.TheVariants as meaning
+use Rattle.opl_meaning.specs.declared.formula.Formula.{Formula}
+use Rattle.opl_meaning.specs.declared.variable.VariableItem.{VariableItem}
+use Rattle.opl_tool.specs.declared.stop.Stop.{Stop}
 use Rattle.opl_tool.specs.Laws.{OneOutcome}
-use Rattle.opl_tool.specs.Stage.{Stage, Then, Each}
+use Rattle.opl_tool.specs.Stage.{Stage, Then, Each, Only}
 use Rattle.opl_tool.specs.Words.{is_solve, names_of}
 use Rattle.opl_tool.proofs.JudgedLemmas.{judged_one}
 
@@ -108,21 +123,60 @@ typed_by tree (Err (types.NotData at)) e = (Err (At NotData 0 at), (types.NotDat
 typed_by tree (Err (types.Mismatch at)) e = (Err (At Mismatch 0 at), (types.Mismatch at, refl, e))
 typed_by tree (Err types.OutOfMemory) e = absurd (never_memory tree e)
 
-plain_by : (tree : ModelTree) (r : Result PlainModel ℕ) → plain_of tree ≡ r → Comes (Plain tree)
-plain_by tree (Ok m) e = (Ok m, e)
-plain_by tree (Err at) e = (Err (At NotYet 0 at), (at, refl, e))
+runs_by : (tree : ModelTree) (o : Option ℕ) → not_yet tree ≡ o → Comes (Runs tree)
+runs_by tree None e = (Ok tt, e)
+runs_by tree (Some at) e = (Err (At NotYet 0 at), (at, refl, e))
 
-none_given_by : (files : List DataFile) (model : PlainModel) (o : Option DataItem) → first_item files ≡ o → Comes (NoneGiven files model)
-none_given_by files model None e = (Ok model, (refl, e))
-none_given_by files model (Some item) e = (Err (Given item.name.text), (item, refl, e))
+-- a fault that is told
+abbrev IsTold : {E : Type 0} → (E → Option Refusal) → E → Type 0
+IsTold refusal fault = (e : Refusal) × (refusal fault ≡ Some e)
 
-runs_comes : (files : List DataFile) (tree : ModelTree) → Comes (Runs files tree)
-runs_comes files tree = then_comes (Plain tree) _ (plain_by tree (plain_of tree) refl) (λ m. none_given_by files m (first_item files) refl)
+made_comes : {A E : Type 0} (refusal : E → Option Refusal) (made r : Result A E) → made ≡ r → ((fault : E) → made ≡ Err fault → IsTold refusal fault) → Comes (Made refusal made)
+made_comes refusal made (Ok a) e told = (Ok a, e)
+made_comes refusal made (Err fault) e told = let it = told fault e in (Err it.0, (fault, it.1, e))
+
+value_told : (fault : EvalFault) → fault ≢ evaluation.OutOfMemory → IsTold refusal_of_value fault
+value_told (evaluation.DivByZero at) some = (At faults.DivByZero 0 at, refl)
+value_told (evaluation.OutOfIndex at) some = (At faults.OutOfIndex 0 at, refl)
+value_told (evaluation.TooLarge at) some = (At faults.TooLarge 0 at, refl)
+value_told (evaluation.EmptyMinMax at) some = (At faults.EmptyMinMax 0 at, refl)
+value_told evaluation.OutOfMemory some = absurd (some refl)
+
+data_told : (fault : BindFault) → fault ≢ binding.OutOfMemory → fault ≢ binding.Eval evaluation.OutOfMemory → IsTold refusal_of_data fault
+data_told (binding.Given name) some other = (Item items.Given name, refl)
+data_told (binding.Twice name) some other = (Item items.Twice name, refl)
+data_told (binding.Missing name) some other = (Item items.Missing name, refl)
+data_told (binding.Shape file at) some other = (At faults.Shape file at, refl)
+data_told (binding.Outside file at) some other = (At faults.Outside file at, refl)
+data_told (binding.Override name) some other = (Item items.Override name, refl)
+data_told (binding.Eval fault) some other = value_told fault (λ e. other (ap binding.Eval e))
+data_told binding.OutOfMemory some other = absurd (some refl)
+
+variables_told : (fault : MeaningFault) → fault ≢ meaning.OutOfMemory → fault ≢ meaning.Eval evaluation.OutOfMemory → IsTold refusal_of_variables fault
+variables_told (meaning.Eval fault) some other = value_told fault (λ e. other (ap meaning.Eval e))
+variables_told (meaning.TooFar at) some other = (At faults.LimitValue 0 at, refl)
+variables_told meaning.OutOfMemory some other = absurd (some refl)
+
+data_comes : (tree : ModelTree) (files : List DataFile) → Comes (HasData tree files)
+data_comes tree files = made_comes refusal_of_data _ (bound (positions tree) tree.decls files []) refl (λ fault e.
+    data_told fault (λ is. (bound_never (positions tree) tree.decls files []).0 (e ∙ ap Err is)) (λ is. (bound_never (positions tree) tree.decls files []).1 (e ∙ ap Err is)))
+
+variables_come : (tree : ModelTree) (d : Data) → Comes (HasVariables tree d)
+variables_come tree d = made_comes refusal_of_variables _ (variables_in d.environment [] tree.decls) refl (λ fault e.
+    variables_told fault (λ is. variables_never_memory d.environment [] tree.decls (e ∙ ap Err is)) (λ is. variables_never_memory_evaluating d.environment [] tree.decls (e ∙ ap Err is)))
+
+posed_comes : (s : Subject) → Comes (Posed s)
+posed_comes s = then_comes (HasFormulas s.model) _
+    (made_comes refusal_of_value _ (formulas_of s.model) refl (λ fault e. value_told fault (λ is. formulas_never_memory (scope_of s.model.variables) s.model.conditions s.model.environment (e ∙ ap Err is)))) (λ fs. (Ok s, refl))
+
+prepared_comes : (tree : ModelTree) (files : List DataFile) → Comes (Prepared tree files)
+prepared_comes tree files = then_comes (Runs tree) _ (runs_by tree (not_yet tree) refl) (λ u.
+    then_comes (HasData tree files) _ (data_comes tree files) (λ d. then_comes (HasVariables tree d) _ (variables_come tree d) (λ vs. posed_comes (subject_of tree d vs))))
 
 understood_comes : (tokens : Tokens) (more : List Tokens) → Comes (Understood tokens more)
 understood_comes tokens more = then_comes (Parsed tokens) _ (parsed_by tokens (parse_total tokens.list tokens.end)) (λ tree.
     then_comes (Each DataParsed 1 more) _ (each_comes DataParsed data_parsed_comes 1 more) (λ files.
-    then_comes (HasTypes tree) _ (typed_by tree (model tree) refl) (runs_comes files)))
+    then_comes (HasTypes tree) _ (typed_by tree (model tree) refl) (λ t. (Ok (t, files), refl))))
 
 read_comes : (bytes : List ℕ) (more : List (List ℕ)) → Comes (Read bytes more)
 read_comes bytes more = then_comes (Scanned 0 bytes) _ (scanned_comes 0 bytes) (λ tokens.
@@ -135,13 +189,9 @@ loaded_comes : (files : Files) (names : List ℕ × List (List ℕ)) → Comes (
 loaded_comes files names = then_comes (Held files 0 names.0) _ (held_comes files 0 names.0) (λ bytes.
     then_comes (Each (Held files) 1 names.1) _ (each_comes (Held files) (held_comes files) 1 names.1) (read_comes bytes))
 
-resolved_by : (model : PlainModel) (o : Option Refusal) → model_fault model ≡ o → Comes (Resolved model)
-resolved_by model None e = (Ok model, (refl, e))
-resolved_by model (Some refusal) e = (Err refusal, e)
-
 judged_comes : (words : List (List ℕ)) (files : Files) → Comes (Judged words files)
-judged_comes words files = then_comes (Fetched words files) Resolved (then_comes (Named words) (Loaded files) (named_comes words) (loaded_comes files))
-    (λ m. resolved_by m (model_fault m) refl)
+judged_comes words files = then_comes (Fetched words files) _ (then_comes (Named words) (Loaded files) (named_comes words) (loaded_comes files))
+    (λ trees. prepared_comes trees.0 trees.1)
 
 pub one_outcome : OneOutcome
 one_outcome words files =

@@ -3,13 +3,14 @@ use Rattle.std.specs.Prelude.{◌≡◌, ◌⊎◌, ℕ, List, ◌++◌, Option,
 use Rattle.opl_outside.specs.Becomes.{Becomes}
 use Rattle.opl_outside.specs.Counts.{Rose}
 use Rattle.opl_outside.specs.Files.{Files}
-use Rattle.opl_plain.specs.declared.model.PlainModel.{PlainModel}
+use Rattle.opl_tool.specs.Subject.{Subject}
 use Rattle.opl_tool.specs.declared.stop.Stop.{Stop}
 use Rattle.opl_tool.specs.declared.stop.Stop.TheVariants.{Refused, ReadFault, WriteFault, OutOfMemory}
 use Rattle.opl_tool.specs.Judged.{Judged}
-use Rattle.opl_tool.specs.Meaning.{solutions}
-use Rattle.opl_tool.specs.Printing.{GainsFront}
-use Rattle.opl_tool.specs.Text.{count_from, text_of}
+use Rattle.opl_meaning.specs.Solutions.{solutions}
+use Rattle.opl_solve.specs.Printing.{GainsFront}
+use Rattle.opl_solve.specs.Texts.{count_from}
+use Rattle.opl_tool.specs.Subject.{subject_text}
 
 -- what is seen of a call: its words, the files that are told, what is written before and after it, and the counts of faults
 pub record Call : Type 0 where
@@ -24,16 +25,16 @@ pub record Call : Type 0 where
 
 -- the model's whole text is written, with so many solutions
 pub record Solved (c : Call) (shown : ℕ) (files : Files) : Type 0 where
-  pub model : PlainModel
-  pub judged : Judged c.words files (Ok model)
-  pub count : shown ≡ count_from 0 (solutions model)
-  pub written : Becomes c.old c.new (λ before now. now ≡ before ++ text_of model)
+  pub subject : Subject
+  pub judged : Judged c.words files (Ok subject)
+  pub count : shown ≡ count_from 0 (solutions subject.model)
+  pub written : Becomes c.old c.new (λ before now. now ≡ before ++ subject_text subject)
 
 -- a front of the model's text is written
 pub record Stopped (c : Call) (files : Files) : Type 0 where
-  pub model : PlainModel
-  pub judged : Judged c.words files (Ok model)
-  pub written : Becomes c.old c.new (λ before now. GainsFront before now (text_of model))
+  pub subject : Subject
+  pub judged : Judged c.words files (Ok subject)
+  pub written : Becomes c.old c.new (λ before now. GainsFront before now (subject_text subject))
 
 -- how the work of a call ends
 abbrev pub Ends : Call → Result ℕ Stop → Type 0

@@ -2,15 +2,15 @@
 use Rattle.std.specs.Prelude.{◌≡◌, ◌≢◌, ◌⊎◌, ℕ, zero, suc, List, [], ◌++◌, Option, Result, Ok, Err}
 use Rattle.opl_outside.specs.Becomes.{Becomes}
 use Rattle.opl_outside.specs.Files.{Files}
-use Rattle.opl_plain.specs.declared.model.PlainModel.{PlainModel}
+use Rattle.opl_tool.specs.Subject.{Subject}
 use Rattle.opl_tool.specs.declared.answer.Answer.{Answer}
 use Rattle.opl_tool.specs.declared.answer.Answer.TheVariants.{Done, NoSolution, Refused, Spent, ReadFault, WriteFault, OutOfMemory, Rejected}
 use Rattle.opl_tool.specs.declared.refusal.Refusal.{Refusal}
 use Rattle.opl_tool.specs.declared.stop.Stop.{Stop}
 use Rattle.opl_tool.specs.Judged.{Judged}
 use Rattle.opl_tool.specs.Lines.{stop_text, answer_of}
-use Rattle.opl_tool.specs.Meaning.{solutions}
-use Rattle.opl_tool.specs.Printing.{GainsFront}
+use Rattle.opl_meaning.specs.Solutions.{solutions}
+use Rattle.opl_solve.specs.Printing.{GainsFront}
 
 -- the answer of a call whose work ended so
 abbrev pub Answers : Result ℕ Stop → Answer → Type 0
@@ -24,11 +24,11 @@ IsRefused words files = (refusal : Refusal) × Judged words files (Err refusal)
 
 -- the model is accepted and has a solution
 abbrev pub HasSolution : List (List ℕ) → Files → Type 0
-HasSolution words files = (model : PlainModel) × Judged words files (Ok model) × (solutions model ≢ [])
+HasSolution words files = (subject : Subject) × Judged words files (Ok subject) × (solutions subject.model ≢ [])
 
 -- the model is accepted and has no solution
 abbrev pub HasNone : List (List ℕ) → Files → Type 0
-HasNone words files = (model : PlainModel) × Judged words files (Ok model) × (solutions model ≡ [])
+HasNone words files = (subject : Subject) × Judged words files (Ok subject) × (solutions subject.model ≡ [])
 
 -- the answers whose causes are counts of faults, and want of memory
 abbrev pub IsFree : Answer → Type 0

@@ -4,28 +4,26 @@ use Rattle.opl_outside.specs.Files.{Files, max_bytes}
 use Rattle.opl_token.specs.declared.fault.ScanFault.{ScanFault}
 use Rattle.opl_token.specs.declared.fault.ScanFault.TheVariants as scan
 use Rattle.opl_token.specs.Scan.{Scans, Faults}
-use Rattle.opl_plain.specs.declared.model.PlainModel.{PlainModel}
 use Rattle.opl_tree.specs.declared.model.ModelTree.{ModelTree}
 use Rattle.opl_tree.specs.Depth.{depth_model}
 use Rattle.opl_tree.specs.Reading.{IsTreeOf, StopsAt, OpensAt}
 use Rattle.opl_data.specs.declared.tree.DataFile.{DataFile}
-use Rattle.opl_data.specs.declared.tree.DataItem.{DataItem}
 use Rattle.opl_data.specs.Depth.{depth_file}
 use Rattle.opl_data.specs.Reading as of_data
-use Rattle.opl_plain.specs.Plain.{plain_of}
 use Rattle.opl_types.specs.Models.{model}
 use Rattle.opl_types.specs.declared.fault.TypeFault.{TypeFault}
 use Rattle.opl_types.specs.declared.fault.TypeFault.TheVariants as types
 use Rattle.opl_types.specs.Types.{Sort}
+use Rattle.opl_tool.specs.declared.front.Front.{Front}
 use Rattle.opl_types.specs.declared.typed.Typed.{Typed}
-use Rattle.opl_tool.specs.declared.refusal.Fault.TheVariants.{BadByte, OpenComment, OpenString, NumberTooLarge, Syntax, TooDeep, Unknown, Duplicate, NotData, Mismatch, NotYet}
+use Rattle.opl_tool.specs.declared.refusal.Fault.TheVariants.{BadByte, OpenComment, OpenString, NumberTooLarge, Syntax, TooDeep, Unknown, Duplicate, NotData, Mismatch}
 use Rattle.opl_tool.specs.declared.refusal.Refusal.{Refusal}
-use Rattle.opl_tool.specs.declared.refusal.Refusal.TheVariants.{Words, Absent, TooLong, At, Given}
+use Rattle.opl_tool.specs.declared.refusal.Refusal.TheVariants.{Words, Absent, TooLong, At}
 use Rattle.opl_tool.specs.declared.scanning.Tokens.{Tokens}
 use Rattle.opl_tool.specs.declared.stop.Stop.{Stop}
-use Rattle.opl_tool.specs.Faults.{model_fault}
-use Rattle.opl_tool.specs.Items.{first_item}
-use Rattle.opl_tool.specs.Stage.{Stage, Then, Each}
+use Rattle.opl_tool.specs.Data.{Runs, Prepared}
+use Rattle.opl_tool.specs.Subject.{Subject}
+use Rattle.opl_tool.specs.Stage.{Stage, Then, Each, Only}
 use Rattle.opl_tool.specs.Words.{is_solve, names_of}
 
 -- the name of the model's file, and those of the data files
@@ -92,41 +90,27 @@ abbrev pub tree_of : Result Typed Stop → Result ModelTree Stop
 tree_of (Ok typed) = Ok typed.tree
 tree_of (Err stop) = Err stop
 
--- the plain form of the tree, where all of it runs today
-abbrev pub Plain : ModelTree → Stage PlainModel
-Plain tree (Ok m) = plain_of tree ≡ Ok m
-Plain tree (Err e) = (at : ℕ) × (e ≡ At NotYet 0 at) × (plain_of tree ≡ Err at)
+-- the trees of the files of a call, the model's with the types of its expressions
+abbrev pub front_of : Result Front Stop → Result (ModelTree × List DataFile) Stop
+front_of (Ok front) = Ok (front.typed.tree, front.files)
+front_of (Err stop) = Err stop
 
--- the model itself, where the data files give nothing: a model that runs today asks for nothing
-abbrev pub NoneGiven : List DataFile → PlainModel → Stage PlainModel
-NoneGiven files model (Ok m) = (m ≡ model) × (first_item files ≡ None)
-NoneGiven files model (Err e) = (item : DataItem) × (e ≡ Given item.name.text) × (first_item files ≡ Some item)
+-- the tree of the model's tokens, whose expressions have types, and those of the data files: the syntax of each comes first
+abbrev pub Understood : Tokens → List Tokens → Stage (ModelTree × List DataFile)
+Understood tokens more = Then (Parsed tokens) (λ tree. Then (Each DataParsed 1 more) (λ files. Then (HasTypes tree) (λ t. Only (t, files))))
 
--- the model itself, where nothing in it is refused
-abbrev pub Resolved : PlainModel → Stage PlainModel
-Resolved model (Ok m) = (m ≡ model) × (model_fault model ≡ None)
-Resolved model (Err e) = model_fault model ≡ Some e
-
--- the model of a typed tree: what does not run yet comes first, then the data
-abbrev pub Runs : List DataFile → ModelTree → Stage PlainModel
-Runs files tree = Then (Plain tree) (NoneGiven files)
-
--- the model of the tokens of its file and of the data files: the syntax of each comes first, then the types
-abbrev pub Understood : Tokens → List Tokens → Stage PlainModel
-Understood tokens more = Then (Parsed tokens) (λ tree. Then (Each DataParsed 1 more) (λ files. Then (HasTypes tree) (Runs files)))
-
--- the model of the bytes of its file and of the data files: the scan of each comes first
-abbrev pub Read : List ℕ → List (List ℕ) → Stage PlainModel
+-- the trees of the bytes of the model's file and of the data files: the scan of each comes first
+abbrev pub Read : List ℕ → List (List ℕ) → Stage (ModelTree × List DataFile)
 Read bytes more = Then (Scanned 0 bytes) (λ tokens. Then (Each Scanned 1 more) (Understood tokens))
 
--- the model of the files of these names: the reading of each comes first
-abbrev pub Loaded : Files → List ℕ × List (List ℕ) → Stage PlainModel
+-- the trees of the files of these names: the reading of each comes first
+abbrev pub Loaded : Files → List ℕ × List (List ℕ) → Stage (ModelTree × List DataFile)
 Loaded files names = Then (Held files 0 names.0) (λ bytes. Then (Each (Held files) 1 names.1) (Read bytes))
 
--- the model of the words and the files: the words come first
-abbrev pub Fetched : List (List ℕ) → Files → Stage PlainModel
+-- the trees of the files that the words name: the words come first
+abbrev pub Fetched : List (List ℕ) → Files → Stage (ModelTree × List DataFile)
 Fetched words files = Then (Named words) (Loaded files)
 
--- the model of a call
-abbrev pub Judged : List (List ℕ) → Files → Stage PlainModel
-Judged words files = Then (Fetched words files) Resolved
+-- what a call solves: what does not run yet comes behind the types, and then the data
+abbrev pub Judged : List (List ℕ) → Files → Stage Subject
+Judged words files = Then (Fetched words files) (λ trees. Prepared trees.0 trees.1)

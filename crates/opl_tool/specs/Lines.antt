@@ -5,12 +5,14 @@ use Rattle.opl_outside.specs.Counts.{Rose}
 use Rattle.opl_tool.specs.declared.answer.Answer.{Answer}
 use Rattle.opl_tool.specs.declared.answer.Answer.TheVariants as answer
 use Rattle.opl_tool.specs.declared.refusal.Fault.{Fault}
-use Rattle.opl_tool.specs.declared.refusal.Fault.TheVariants.{BadByte, OpenComment, OpenString, NumberTooLarge, Syntax, TooDeep, Unknown, Duplicate, NotData, Mismatch, NotYet}
+use Rattle.opl_tool.specs.declared.refusal.Fault.TheVariants.{BadByte, OpenComment, OpenString, NumberTooLarge, Syntax, TooDeep, Unknown, Duplicate, NotData, Mismatch, NotYet, Shape, Outside, DivByZero, OutOfIndex, TooLarge, EmptyMinMax, LimitValue}
+use Rattle.opl_tool.specs.declared.refusal.ItemFault.{ItemFault}
+use Rattle.opl_tool.specs.declared.refusal.ItemFault.TheVariants as items
 use Rattle.opl_tool.specs.declared.refusal.Refusal.{Refusal}
-use Rattle.opl_tool.specs.declared.refusal.Refusal.TheVariants.{Words, Absent, TooLong, At, Given}
+use Rattle.opl_tool.specs.declared.refusal.Refusal.TheVariants.{Words, Absent, TooLong, At, Item}
 use Rattle.opl_tool.specs.declared.stop.Stop.{Stop}
 use Rattle.opl_tool.specs.declared.stop.Stop.TheVariants.{Refused, ReadFault, WriteFault, OutOfMemory}
-use Rattle.opl_tool.specs.Printing.{GainsFront}
+use Rattle.opl_solve.specs.Printing.{GainsFront}
 use Rattle.opl_tool.specs.Words.{file_in}
 
 -- refused: KIND NAME
@@ -34,6 +36,20 @@ word_of Duplicate = codes "Duplicate"
 word_of NotData = codes "NotData"
 word_of Mismatch = codes "Mismatch"
 word_of NotYet = codes "NotYet"
+word_of Shape = codes "Shape"
+word_of Outside = codes "Outside"
+word_of DivByZero = codes "DivByZero"
+word_of OutOfIndex = codes "OutOfIndex"
+word_of TooLarge = codes "TooLarge"
+word_of EmptyMinMax = codes "EmptyMinMax"
+word_of LimitValue = codes "Limit Value"
+
+-- the word for what is wrong with an item
+abbrev pub word_of_item : ItemFault → List ℕ
+word_of_item items.Given = codes "Given"
+word_of_item items.Twice = codes "Twice"
+word_of_item items.Missing = codes "Missing"
+word_of_item items.Override = codes "Override"
 
 -- the line of a refusal of a call with these words, which names a file as they do, and an item of data by its name
 abbrev pub refusal_text : Refusal → (words : List (List ℕ)) → List ℕ
@@ -41,7 +57,7 @@ refusal_text Words words = codes "refused: Words\n"
 refusal_text (Absent file) words = named_text (codes "Absent") (file_in words file)
 refusal_text (TooLong file) words = named_text (codes "TooLong") (file_in words file)
 refusal_text (At fault file at) words = placed_text (word_of fault) (file_in words file) at
-refusal_text (Given name) words = named_text (codes "Given") name
+refusal_text (Item fault name) words = named_text (word_of_item fault) name
 
 -- the line of a call that ends before its whole text is printed
 abbrev pub stop_text : Stop → (words : List (List ℕ)) → List ℕ

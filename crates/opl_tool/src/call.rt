@@ -5,8 +5,7 @@ ghost use Rattle.opl_outside.specs.Counts.{Rose};
 ghost use Rattle.opl_tool.specs.Headline.{Answers, IsRefused, HasSolution, HasNone, Exactly, Shows, GainsLineFront};
 ghost use Rattle.opl_tool.specs.Judged.{Judged};
 ghost use Rattle.opl_tool.specs.Lines.{refusal_text, stop_text, Tells};
-ghost use Rattle.opl_tool.specs.Text.{text_of};
-ghost use Rattle.opl_plain.specs.declared.model.PlainModel.{PlainModel};
+ghost use Rattle.opl_tool.specs.Subject.{Subject, subject_text};
 ghost use Rattle.opl_tool.specs.declared.refusal.Refusal.{Refusal};
 
 use crate::answer::Answer;
@@ -53,8 +52,8 @@ pub fn run<F: Shelf, O: Sink, E: Sink>(
 
     // What is printed.
     ensures shown { let given = map (λ word. string_bytes word) words.now in
-        IfSome (F.files shelf.old) (λ files. (model : PlainModel) → Judged given files (Ok model) →
-        Shows (O.written out.old) (O.written out.new) (text_of model) result) }
+        IfSome (F.files shelf.old) (λ files. (subject : Subject) → Judged given files (Ok subject) →
+        Shows (O.written out.old) (O.written out.new) (subject_text subject) result) }
     ensures silent { let given = map (λ word. string_bytes word) words.now in
         IfSome (F.files shelf.old) (λ files. (refusal : Refusal) → Judged given files (Err refusal) →
         O.written out.new ≡ O.written out.old) }

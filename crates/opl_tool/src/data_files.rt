@@ -1,16 +1,12 @@
-//! Data files: their trees, and the items that they give.
-ghost use Rattle.std.specs.Prelude.{◌≡◌};
-ghost use Rattle.std.specs.Option.{option_copied};
-ghost use Rattle.opl_tool.specs.Items.{first_item as the_first_item};
-ghost use Rattle.opl_tool.specs.Judged.{DataParsed, NoneGiven};
+//! The trees of data files.
+ghost use Rattle.opl_tool.specs.Judged.{DataParsed};
 ghost use Rattle.opl_tool.specs.Stage.{Each, Gives};
 
-use crate::refusal::{Fault, Refusal};
+use crate::refusal::Fault;
 use crate::scanning::Tokens;
 use crate::stop::{Stop, refused};
-use opl_data::{DataFile, DataItem, parse_data};
+use opl_data::{DataFile, parse_data};
 use opl_list::Seq;
-use opl_plain::PlainModel;
 use opl_tree::SyntaxFault;
 use std::alloc::Global;
 
@@ -35,29 +31,4 @@ pub fn data_trees(alloc: Global, texts: &[Tokens]) -> Result<Seq<DataFile>, Stop
         found.push(data_tree(alloc, x + 1, tokens)?)?;
     }
     Ok(found)
-}
-
-/// The first item of data files, in their order.
-fn first_item(files: &[DataFile]) -> Option<&DataItem>
-    ensures { option_copied result ≡ the_first_item files.now }
-{
-    for file in files {
-        if let Some(item) = file.items.get(0) {
-            return Some(item);
-        }
-    }
-    None
-}
-
-/// The model, where the data files give nothing.
-pub fn none_given(alloc: Global, files: &[DataFile], model: PlainModel) -> Result<PlainModel, Stop>
-    ensures { Gives (NoneGiven files.now model) result }
-{
-    match first_item(files) {
-        Some(item) => {
-            let name = Seq::from_slice(alloc, item.name.text.as_slice())?;
-            Err(Stop::Refused(Refusal::Given(name)))
-        }
-        None => Ok(model),
-    }
 }

@@ -1,9 +1,9 @@
 //! The line that a call puts on the sink of errors.
 ghost use Rattle.std.specs.Prelude.{◌≡◌, ◌⊎◌, [], get_or, map, string_bytes, IfOk};
-ghost use Rattle.opl_tool.specs.Lines.{named_text, placed_text, word_of as the_word, refusal_text, stop_text, answer_of as the_answer_of, Tells};
+ghost use Rattle.opl_tool.specs.Lines.{named_text, placed_text, word_of as the_word, word_of_item as the_item_word, refusal_text, stop_text, answer_of as the_answer_of, Tells};
 
 use crate::answer::Answer;
-use crate::refusal::{Fault, Refusal};
+use crate::refusal::{Fault, ItemFault, Refusal};
 use crate::stop::Stop;
 use crate::words::names_of;
 use itoa::Buffer;
@@ -62,6 +62,25 @@ fn word_of(fault: Fault) -> &'static str
         Fault::NotData => "NotData",
         Fault::Mismatch => "Mismatch",
         Fault::NotYet => "NotYet",
+        Fault::Shape => "Shape",
+        Fault::Outside => "Outside",
+        Fault::DivByZero => "DivByZero",
+        Fault::OutOfIndex => "OutOfIndex",
+        Fault::TooLarge => "TooLarge",
+        Fault::EmptyMinMax => "EmptyMinMax",
+        Fault::LimitValue => "Limit Value",
+    }
+}
+
+/// The word for what is wrong with an item.
+fn word_of_item(fault: ItemFault) -> &'static str
+    ensures { result.now ≡ the_item_word fault }
+{
+    match fault {
+        ItemFault::Given => "Given",
+        ItemFault::Twice => "Twice",
+        ItemFault::Missing => "Missing",
+        ItemFault::Override => "Override",
     }
 }
 
@@ -78,7 +97,7 @@ fn refusal_line(alloc: Global, refusal: &Refusal, words: &[String]) -> Result<Ve
             let name = name_at(names.as_slice(), *file);
             placed_line(alloc, word_of(*fault), name, *at)
         }
-        Refusal::Given(name) => named_line(alloc, "Given", name.as_slice()),
+        Refusal::Item(fault, name) => named_line(alloc, word_of_item(*fault), name.as_slice()),
     }
 }
 

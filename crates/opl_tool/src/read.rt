@@ -1,19 +1,16 @@
-//! Reading a model: from the texts of its file and of the data files to its plain form.
-ghost use Rattle.std.specs.Prelude.{◌≡◌, ◌≤◌, All, length, IfOk};
+//! Reading the files of a call: from their texts to their trees.
+ghost use Rattle.std.specs.Prelude.{◌≡◌, ◌≤◌, All, length};
 ghost use Rattle.opl_outside.specs.Files.{max_bytes};
-ghost use Rattle.opl_plain.specs.Plain.{AreNear, plain_of};
-ghost use Rattle.opl_plain.specs.Sides.{place_of};
-ghost use Rattle.opl_tool.specs.Judged.{Parsed, HasTypes, tree_of, Plain, Runs, Understood, Read};
-ghost use Rattle.opl_tool.specs.Stage.{Gives, Then};
+ghost use Rattle.opl_tool.specs.Judged.{Parsed, HasTypes, front_of, tree_of, Understood, Read};
+ghost use Rattle.opl_tool.specs.Stage.{Gives};
 
-use crate::data_files::{data_trees, none_given};
+use crate::data_files::data_trees;
+use crate::front::Front;
 use crate::refusal::Fault;
 use crate::scanning::{Tokens, tokens_of, tokens_of_data};
 use crate::stop::{Stop, refused};
-use opl_data::DataFile;
 use opl_list::Seq;
 use opl_parse::parse_model;
-use opl_plain::{PlainFault, PlainModel, plain_model};
 use opl_tree::{ModelTree, SyntaxFault};
 use opl_types::{TypeFault, Typed, check};
 use std::alloc::Global;
@@ -44,63 +41,21 @@ fn typed(alloc: Global, tree: ModelTree) -> Result<Typed, Stop>
     }
 }
 
-/// The place of the first form, in the order of the text, that does not run today; None exactly where all of the model runs.
-/// It takes no memory.
-pub fn not_yet(model: &Typed) -> Option<u32>
-    ensures { result ≡ place_of (plain_of model.now.tree) }
-{
-    opl_plain::not_yet(&model.tree)
-}
-
-/// The plain form of a typed model.
-fn plain(alloc: Global, typed: &Typed) -> Result<PlainModel, Stop>
-    ensures gives { Gives (Plain typed.now.tree) result }
-    ensures near { IfOk result (λ model. All AreNear model.variables) }
-{
-    if let Some(at) = not_yet(typed) {
-        return Err(refused(Fault::NotYet, 0, at));
-    }
-    match plain_model(alloc, &typed.tree) {
-        Ok(model) => Ok(model),
-        Err(PlainFault::NotYet(at)) => Err(refused(Fault::NotYet, 0, at)),
-        Err(PlainFault::OutOfMemory) => Err(Stop::OutOfMemory),
-    }
-}
-
-/// The plain form of a typed model, where the data files give nothing.
-fn runs(alloc: Global, typed: &Typed, files: &[DataFile]) -> Result<PlainModel, Stop>
-    ensures gives { Gives (Runs files.now typed.now.tree) result }
-    ensures near { IfOk result (λ model. All AreNear model.variables) }
-{
-    let model = plain(alloc, typed)?;
-    none_given(alloc, files, model)
-}
-
-/// The model of a tree, in its plain form, once its expressions have types.
-fn model(alloc: Global, tree: ModelTree, files: &[DataFile]) -> Result<PlainModel, Stop>
-    ensures gives { Gives (Then (HasTypes tree) (Runs files.now)) result }
-    ensures near { IfOk result (λ model. All AreNear model.variables) }
-{
-    let typed = typed(alloc, tree)?;
-    runs(alloc, &typed, files)
-}
-
-/// The model of the tokens of its file and of the data files, in its plain form.
-fn understand(alloc: Global, tokens: &Tokens, others: &[Tokens]) -> Result<PlainModel, Stop>
-    ensures gives { Gives (Understood tokens.now others.now) result }
-    ensures near { IfOk result (λ model. All AreNear model.variables) }
+/// The trees of the tokens of the model's file and of the data files.
+fn understand(alloc: Global, tokens: &Tokens, others: &[Tokens]) -> Result<Front, Stop>
+    ensures { Gives (Understood tokens.now others.now) (front_of result) }
 {
     let tree = tree(alloc, tokens)?;
     let files = data_trees(alloc, others)?;
-    model(alloc, tree, files.as_slice())
+    let typed = typed(alloc, tree)?;
+    Ok(Front { typed, files })
 }
 
-/// The model of the bytes of its file and of the data files, in its plain form.
-pub fn read(alloc: Global, bytes: &[u8], others: &[Seq<u8>]) -> Result<PlainModel, Stop>
+/// The trees of the bytes of the model's file and of the data files.
+pub fn read(alloc: Global, bytes: &[u8], others: &[Seq<u8>]) -> Result<Front, Stop>
     requires short { length bytes.now ≤ max_bytes }
     requires all_short { All (λ bytes. length bytes ≤ max_bytes) others.now }
-    ensures gives { Gives (Read bytes.now others.now) result }
-    ensures near { IfOk result (λ model. All AreNear model.variables) }
+    ensures { Gives (Read bytes.now others.now) (front_of result) }
 {
     let tokens = tokens_of(alloc, 0, bytes)?;
     let others_tokens = tokens_of_data(alloc, others)?;

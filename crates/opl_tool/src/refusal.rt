@@ -26,6 +26,33 @@ pub enum Fault {
     Mismatch,
     /// A form that does not run today.
     NotYet,
+    /// A value that has not the form, the number of elements or the keys of its type.
+    Shape,
+    /// A number outside its range type.
+    Outside,
+    /// A division by 0.
+    DivByZero,
+    /// A subscript that is in no index set.
+    OutOfIndex,
+    /// A number whose absolute value is too large.
+    TooLarge,
+    /// A least or a greatest of no numbers.
+    EmptyMinMax,
+    /// An end of a declared set that is too far from 0.
+    LimitValue,
+}
+
+/// What is wrong with an item of a model's data.
+#[derive(Clone, Copy)]
+pub enum ItemFault {
+    /// Data files give a value to what does not await one.
+    Given,
+    /// Data files give a second value.
+    Twice,
+    /// No data file gives a value.
+    Missing,
+    /// A value that is assigned does not fit.
+    Override,
 }
 
 /// Why a call is refused. Files are numbered: the model's is 0, the data files follow. A place is the byte offset of a
@@ -40,6 +67,6 @@ pub enum Refusal {
     TooLong(usize),
     /// What is wrong, in which file, and at which place.
     At(Fault, usize, u32),
-    /// Data files give an item of this name, for which the model does not ask.
-    Given(Seq<u8>),
+    /// What is wrong with the item of this name.
+    Item(ItemFault, Seq<u8>),
 }

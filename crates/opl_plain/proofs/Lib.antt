@@ -1,4 +1,0 @@
-pub mod Added
-pub mod Items
-pub mod Readings
-pub mod FirstForms
