@@ -1,0 +1,1 @@
+var int x[i in 2..1] in 1 div 0..i; var int y[{4}, 2..1] in 1..2; solve { };

@@ -1,0 +1,1 @@
+range R 1..2; var int x[i in R, j in 2..3] in i*j..i*j; solve { };

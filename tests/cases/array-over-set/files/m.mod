@@ -1,0 +1,1 @@
+struct P { int a; {int} b; }; {P} S = {<1,{2,3}>, <-4,{}>}; var int x[S] in 7..7; solve { };

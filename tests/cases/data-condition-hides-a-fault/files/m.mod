@@ -1,0 +1,1 @@
+var int x in 0..12; solve { x = sum(i in 0..3 : i <> 0) 6 div i; };

@@ -1,0 +1,1 @@
+int k = 8 - 3 - 2; var int x in k..3; solve { };

@@ -1,0 +1,1 @@
+range R -2..3; R a = ...; R b = ...; var int x in a..b; solve { x = a \/ x = b };

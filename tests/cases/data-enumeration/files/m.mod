@@ -1,0 +1,1 @@
+enum E ...; var int x[E] in 1..1; solve { };

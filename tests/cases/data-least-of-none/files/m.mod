@@ -1,0 +1,2 @@
+int n = min(i in 1..0) i;
+solve { };

@@ -1,0 +1,3 @@
+int n = ...;
+int k = ...;
+solve { };

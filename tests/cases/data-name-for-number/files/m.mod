@@ -1,0 +1,1 @@
+enum E {a,b}; int n[E] = ...; solve { };

@@ -1,0 +1,1 @@
+range R 1..2; enum E {p,q}; int m[R,E] = ...; var int x in m[1,q]..m[2,p]; solve { };

@@ -1,0 +1,1 @@
+range R 1..2; int a[R] = ...; solve { };

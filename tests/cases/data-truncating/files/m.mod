@@ -1,0 +1,1 @@
+int a = -7 div 2; int b = -7 mod 2; int c = 7 mod -2; int d = 7 div -2; var int x in -9..9; solve { x = a * 1000 + b * 100 + c * 10 + d + 3000 + 90 };

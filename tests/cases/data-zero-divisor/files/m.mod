@@ -1,0 +1,3 @@
+int n = ...;
+var int x in 0..6 div n;
+solve { };

@@ -1,0 +1,1 @@
+enum Colour {red, green, blue}; var Colour c; solve { c <> green; c < blue };

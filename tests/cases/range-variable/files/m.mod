@@ -1,0 +1,1 @@
+int n = ...; range R 1..n; var R x; solve { x > 1 };
