@@ -94,7 +94,7 @@ scale_twice a o =
     (made (smaller (neg_ℤ a.low +ℤ neg_ℤ a.low) (neg_ℤ a.high +ℤ neg_ℤ a.high)) (larger (neg_ℤ a.low +ℤ neg_ℤ a.low) (neg_ℤ a.high +ℤ neg_ℤ a.high)) (neg_ℤ a.high +ℤ neg_ℤ a.high) (neg_ℤ a.low +ℤ neg_ℤ a.low)
     (smaller_back (neg_ℤ a.low +ℤ neg_ℤ a.low) (neg_ℤ a.high +ℤ neg_ℤ a.high) (omega (arith, ints, o))) (larger_back (neg_ℤ a.low +ℤ neg_ℤ a.low) (neg_ℤ a.high +ℤ neg_ℤ a.high) (omega (arith, ints, o))))
 
-add_zero : (a : Span) → span_add a (point (pos 0)) ≡ a
+pub add_zero : (a : Span) → span_add a (point (pos 0)) ≡ a
 unfolding span_add
 add_zero a = span_ext (record { low = a.low +ℤ pos 0; high = a.high +ℤ pos 0 }) a (omega (arith, ints)) (omega (arith, ints))
 

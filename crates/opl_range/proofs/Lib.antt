@@ -8,5 +8,6 @@ pub mod Minus
 pub mod Compare
 pub mod Tables
 pub mod Demands
+pub mod Answers
 pub mod Arms
 pub mod Pairs
