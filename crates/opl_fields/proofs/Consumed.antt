@@ -1,10 +1,10 @@
 -- How many types a walk takes.
 use Rattle.std.proofs.Common.{◌≡◌, ℕ, Bool, List, [], ◌∷◌, ◌++◌, map, Option, Ok, refl, ap, subst, ◌∙◌}
 use Rattle.opl_tree.specs.declared.declaration.DeclTree.{DeclTree}
-use Rattle.opl_types.specs.Types.{Sort}
-use Rattle.opl_types.specs.Scope.{Scope, and_then}
-use Rattle.opl_types.specs.Forms.{Form}
-use Rattle.opl_types.specs.Expressions.{Need, kinds, used, typing}
+use Rattle.opl_type_rules.specs.Types.{Sort}
+use Rattle.opl_type_rules.specs.Scope.{Scope, and_then}
+use Rattle.opl_type_rules.specs.Forms.{Form}
+use Rattle.opl_type_rules.specs.Expressions.{Need, kinds, used, typing}
 use Rattle.opl_fields.specs.declared.place.FieldPlace.{FieldPlace}
 use Rattle.opl_fields.specs.Walk.{State, Pass, one}
 use Rattle.opl_fields.specs.Fields.{record_of}

@@ -10,12 +10,12 @@ use Rattle.opl_tree.specs.declared.declaration.FieldTree.{FieldTree}
 use Rattle.opl_tree.specs.declared.declaration.ScheduleEnd.{ScheduleEnd}
 use Rattle.opl_tree.specs.declared.declaration.ScheduleEnd.TheVariants as ends
 use Rattle.opl_tree.specs.declared.expression.NameTree.{NameTree}
-use Rattle.opl_types.specs.declared.fault.TypeFault.TheVariants.{Duplicate, Mismatch}
-use Rattle.opl_types.specs.Types.{Sort}
-use Rattle.opl_types.specs.Types.Sort.{anything}
-use Rattle.opl_types.specs.Scope.{Scope, Thing, Field, Entry, declared, fresh, all_fresh, empty_scope, fields_or, fields_among, fields, field_sort}
-use Rattle.opl_types.specs.Scope.Thing.{enum_type, enum_name, struct_type, value}
-use Rattle.opl_types.specs.Expressions.{Opened}
+use Rattle.opl_type_rules.specs.declared.fault.TypeFault.TheVariants.{Duplicate, Mismatch}
+use Rattle.opl_type_rules.specs.Types.{Sort}
+use Rattle.opl_type_rules.specs.Types.Sort.{anything}
+use Rattle.opl_type_rules.specs.Scope.{Scope, Thing, Field, Entry, declared, fresh, all_fresh, empty_scope, fields_or, fields_among, fields, field_sort}
+use Rattle.opl_type_rules.specs.Scope.Thing.{enum_type, enum_name, struct_type, value}
+use Rattle.opl_type_rules.specs.Expressions.{Opened}
 use Rattle.opl_types.specs.Declarations.{shape, written_type, cell_indices, initial_kinds, number_kinds, maybe_number, bounds_kinds, variable_type, is_decidable, field_list, enum_names, with_names, is_given, given, decl, next, all_decls}
 use Rattle.opl_fields.specs.Structs.{field_name, names_of, field_names, position_from, position}
 use Rattle.opl_fields.specs.Laws.{FieldsHavePositions}

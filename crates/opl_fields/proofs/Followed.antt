@@ -44,14 +44,14 @@ use Rattle.opl_term.specs.declared.term.Term.{Term}
 use Rattle.opl_term.specs.declared.term.Term.TheVariants as terms
 use Rattle.opl_term.specs.Terms.{compare_term, mul_term, neg_term, open_term, prim_term, sign_term, suffix_of, add_step_of, add_term, and_term, expr_term, group_step_term, group_term, imp_term, keyed_pair, last_step_of, mul_step_of, or_term, params_term, post_term, set_term, subscripts_terms, text_of, pattern_of}
 use Rattle.opl_term.specs.Terms as says
-use Rattle.opl_types.specs.Forms.{Form, Group, Params, SetForm, forms_of, groups_of, pairs_of, form_compare, form_mul, form_neg, form_open, form_prim, form_sign, form_suffix, form_add_step, form_add, form_and, form_expr, form_group_step, form_group, form_imp, form_keyed, form_last_step, form_mul_step, form_or, form_params, form_post, form_set, form_subscripts}
-use Rattle.opl_types.specs.Forms as forms
-use Rattle.opl_types.specs.Forms.Form.{connected, arithmetic}
-use Rattle.opl_types.specs.Forms.Suffix.{subscripts, field_of}
-use Rattle.opl_types.specs.Expressions.{kinds, kinds_in}
+use Rattle.opl_type_rules.specs.Forms.{Form, Group, Params, SetForm, forms_of, groups_of, pairs_of, form_compare, form_mul, form_neg, form_open, form_prim, form_sign, form_suffix, form_add_step, form_add, form_and, form_expr, form_group_step, form_group, form_imp, form_keyed, form_last_step, form_mul_step, form_or, form_params, form_post, form_set, form_subscripts}
+use Rattle.opl_type_rules.specs.Forms as forms
+use Rattle.opl_type_rules.specs.Forms.Form.{connected, arithmetic}
+use Rattle.opl_type_rules.specs.Forms.Suffix.{subscripts, field_of}
+use Rattle.opl_type_rules.specs.Expressions.{kinds, kinds_in}
 use Rattle.opl_fields.specs.Typed.{form_fields, set_fields}
 use Rattle.opl_term.proofs.Layers as term_is
-use Rattle.opl_types.proofs.Forms as form_is
+use Rattle.opl_type_rules.proofs.Forms as form_is
 use Rattle.opl_fields.specs.Walk.{State, Pass, one, each, if_written, walk, walk_step, walk_set, walk_group}
 use Rattle.opl_fields.proofs.Walks.{walk-Chain, walk-Equivalent, walk-Implied, walk-Or, walk-And, walk-Not, walk-Number, walk_step-Plus, walk_step-Minus, walk_step-Times, walk_step-Quotient, walk_step-Remainder, walk_group-Unordered, walk_group-Ordered}
 use Rattle.opl_tree.specs.declared.expression.AddOp.{AddOp}

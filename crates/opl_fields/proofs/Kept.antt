@@ -5,16 +5,16 @@ use Rattle.std.specs.List.{flat_map}
 use Rattle.opl_tree.specs.declared.expression.NameTree.{NameTree}
 use Rattle.opl_tree.specs.declared.expression.PatternTree.{PatternTree}
 use Rattle.opl_tree.specs.declared.expression.PatternTree.TheVariants as patterns
-use Rattle.opl_types.specs.declared.fault.TypeFault.TheVariants.{Mismatch}
-use Rattle.opl_types.specs.Types.{Sort, Sorts, sort_list, is_set, is_truth}
-use Rattle.opl_types.specs.Types.Sort.{anything}
-use Rattle.opl_types.specs.Scope.{Scope, and_then, declared, with_values, all_fresh, fields, field_sort, parts_in}
-use Rattle.opl_types.specs.Scope.Thing.{value}
-use Rattle.opl_types.specs.Forms.{Groups, Params}
-use Rattle.opl_types.specs.Forms.Groups.{no_groups, more_groups}
-use Rattle.opl_types.specs.Forms.Params.{all_of, those_of}
-use Rattle.opl_types.specs.Expressions.{Node, Need, Opened, part, used, known_field, field_node, pattern_names, bind_parts, bind_record, bind_pattern, bind_patterns, or_anything, typing, typed_set, open_groups, open_params}
-use Rattle.opl_types.specs.Expressions.Need.{data_alone}
+use Rattle.opl_type_rules.specs.declared.fault.TypeFault.TheVariants.{Mismatch}
+use Rattle.opl_type_rules.specs.Types.{Sort, Sorts, sort_list, is_set, is_truth}
+use Rattle.opl_type_rules.specs.Types.Sort.{anything}
+use Rattle.opl_type_rules.specs.Scope.{Scope, and_then, declared, with_values, all_fresh, fields, field_sort, parts_in}
+use Rattle.opl_type_rules.specs.Scope.Thing.{value}
+use Rattle.opl_type_rules.specs.Forms.{Groups, Params}
+use Rattle.opl_type_rules.specs.Forms.Groups.{no_groups, more_groups}
+use Rattle.opl_type_rules.specs.Forms.Params.{all_of, those_of}
+use Rattle.opl_type_rules.specs.Expressions.{Node, Need, Opened, part, used, known_field, field_node, pattern_names, bind_parts, bind_record, bind_pattern, bind_patterns, or_anything, typing, typed_set, open_groups, open_params}
+use Rattle.opl_type_rules.specs.Expressions.Need.{data_alone}
 use Rattle.opl_fields.specs.Fields.{record_of}
 use Rattle.opl_fields.specs.Typed.{placed, field_of_record, field_of, form_fields}
 use Rattle.opl_fields.specs.Laws.{FieldsAreTold, ParametersKeepPositions}

@@ -28,12 +28,12 @@ use Rattle.opl_tree.specs.declared.search.StatementTree.TheFolds.{ind-SearchBloc
 use Rattle.opl_tree.specs.declared.search.StatementTree.TheOpen.{StatementTree-F, StatementsTree-F, SearchBlockTree-F}
 use Rattle.opl_tree.specs.declared.search.StatementsTree.{StatementsTree}
 use Rattle.opl_term.specs.Terms.{subscripts_terms}
-use Rattle.opl_types.specs.declared.fault.TypeFault.TheVariants.{Duplicate, Mismatch}
-use Rattle.opl_types.specs.Types.{Sort, is_number, is_set, is_truth, is_activity}
-use Rattle.opl_types.specs.Scope.{Scope, and_then, fresh, all_fresh, empty_scope, lookup}
-use Rattle.opl_types.specs.Forms.{form_expr, form_add, form_post, form_set, form_subscripts, form_params}
-use Rattle.opl_types.specs.Expressions.{Node, Need, Opened, kinds, kinds_in, used, part, or_anything, typing, typed_set, open_params}
-use Rattle.opl_types.specs.Expressions.Need.{nothing, data_alone, data_or_questions}
+use Rattle.opl_type_rules.specs.declared.fault.TypeFault.TheVariants.{Duplicate, Mismatch}
+use Rattle.opl_type_rules.specs.Types.{Sort, is_number, is_set, is_truth, is_activity}
+use Rattle.opl_type_rules.specs.Scope.{Scope, and_then, fresh, all_fresh, empty_scope, lookup}
+use Rattle.opl_type_rules.specs.Forms.{form_expr, form_add, form_post, form_set, form_subscripts, form_params}
+use Rattle.opl_type_rules.specs.Expressions.{Node, Need, Opened, kinds, kinds_in, used, part, or_anything, typing, typed_set, open_params}
+use Rattle.opl_type_rules.specs.Expressions.Need.{nothing, data_alone, data_or_questions}
 use Rattle.opl_types.specs.Declarations.{Dimensions, Shape, no_dimensions, with_dimension, fresh_in, dimensions, shape, written_type, cell_indices, initial_kinds, number_kinds, maybe_number, bounds_kinds, variable_type, is_decidable, is_given, field_list, decl, next, all_decls}
 use Rattle.opl_types.specs.Models as typing_of
 use Rattle.opl_types.specs.Models.{Looked, within, condition, precedes, known, subscript_nodes, is_resource, is_labelled, requires, item, items, block, label, order, statement, statements, search_block, search, instr, model}

@@ -39,17 +39,17 @@ use Rattle.opl_term.specs.declared.term.Term.{Term}
 use Rattle.opl_term.specs.declared.term.Term.TheVariants as terms
 use Rattle.opl_term.specs.Terms.{add_term, mul_term, open_term, sign_term, post_term, prim_term, keyed_pair, add_step_of, mul_step_of, last_step_of, suffix_of}
 use Rattle.opl_term.specs.Terms as says
-use Rattle.opl_types.specs.Types.{Sort}
-use Rattle.opl_types.specs.Scope.{Scope, and_then, fits_in}
-use Rattle.opl_types.specs.Forms.{Form, forms_of, pairs_of, call, form_add, form_mul, form_open, form_sign, form_post, form_prim, form_keyed, form_add_step, form_mul_step, form_last_step, form_suffix}
-use Rattle.opl_types.specs.Forms as forms
-use Rattle.opl_types.specs.Forms.Form.{number, named, bracket, negative, arithmetic, aggregate, all_different, tuple, listed, described, cells, keyed_cells, question}
-use Rattle.opl_types.specs.Forms.Suffix.{subscripts, field_of}
-use Rattle.opl_types.specs.Expressions.{kinds, used, typing}
-use Rattle.opl_types.specs.Expressions.Need.{data_alone}
+use Rattle.opl_type_rules.specs.Types.{Sort}
+use Rattle.opl_type_rules.specs.Scope.{Scope, and_then, fits_in}
+use Rattle.opl_type_rules.specs.Forms.{Form, forms_of, pairs_of, call, form_add, form_mul, form_open, form_sign, form_post, form_prim, form_keyed, form_add_step, form_mul_step, form_last_step, form_suffix}
+use Rattle.opl_type_rules.specs.Forms as forms
+use Rattle.opl_type_rules.specs.Forms.Form.{number, named, bracket, negative, arithmetic, aggregate, all_different, tuple, listed, described, cells, keyed_cells, question}
+use Rattle.opl_type_rules.specs.Forms.Suffix.{subscripts, field_of}
+use Rattle.opl_type_rules.specs.Expressions.{kinds, used, typing}
+use Rattle.opl_type_rules.specs.Expressions.Need.{data_alone}
 use Rattle.opl_types.specs.Declarations.{shaped, initial, initial_cells, initial_pairs, initial_kinds}
 use Rattle.opl_term.proofs.Layers as term_is
-use Rattle.opl_types.proofs.Forms as form_is
+use Rattle.opl_type_rules.proofs.Forms as form_is
 use Rattle.opl_fields.specs.Walk.{Pass, one, each, in_turn, walk}
 use Rattle.opl_fields.specs.Trees.{walk_initial}
 use Rattle.opl_fields.proofs.Walks.{walk-Array, walk-KeyedArray}

@@ -14,17 +14,17 @@ use Rattle.opl_term.specs.declared.term.SetTerm.{SetTerm}
 use Rattle.opl_term.specs.declared.term.SetTerm.TheVariants as sets_of
 use Rattle.opl_term.specs.declared.term.Term.{Term}
 use Rattle.opl_term.specs.declared.term.Term.TheVariants as terms
-use Rattle.opl_types.specs.declared.fault.TypeFault.{TypeFault}
-use Rattle.opl_types.specs.declared.fault.TypeFault.TheVariants.{Unknown, Mismatch, NotData}
-use Rattle.opl_types.specs.Types.{Sort, is_number, is_truth, is_set}
-use Rattle.opl_types.specs.Types.Sort.{array, structure, activity}
-use Rattle.opl_types.specs.Scope.{Checked, Scope, Thing, and_then, unless, field_sort, fields, lookup, all_fresh}
-use Rattle.opl_types.specs.Forms.{Form, Pair, SetForm, Group, Params, forms_of, pairs_of, groups_of, call}
-use Rattle.opl_types.specs.Forms.Form.{number, named, bracket, negative, arithmetic, related, member, connected, aggregate, all_different, subscripted, field, tuple, listed, described, cells, keyed_cells, question}
-use Rattle.opl_types.specs.Forms.Params.{all_of, those_of}
-use Rattle.opl_types.specs.Forms.SetForm.{whole, between}
-use Rattle.opl_types.specs.Expressions.{Node, Need, Range, Opened, kinds, kinds_in, settled, used, part, any_type, data_number, name_node, element_node, field_node, known_field, is_time, bind_patterns, or_anything, scope_within, typing, typed_parts, typed_pairs, typed_set, open_groups, open_params}
-use Rattle.opl_types.specs.Expressions.Need.{nothing, data_alone}
+use Rattle.opl_type_rules.specs.declared.fault.TypeFault.{TypeFault}
+use Rattle.opl_type_rules.specs.declared.fault.TypeFault.TheVariants.{Unknown, Mismatch, NotData}
+use Rattle.opl_type_rules.specs.Types.{Sort, is_number, is_truth, is_set}
+use Rattle.opl_type_rules.specs.Types.Sort.{array, structure, activity}
+use Rattle.opl_type_rules.specs.Scope.{Checked, Scope, Thing, and_then, unless, field_sort, fields, lookup, all_fresh}
+use Rattle.opl_type_rules.specs.Forms.{Form, Pair, SetForm, Group, Params, forms_of, pairs_of, groups_of, call}
+use Rattle.opl_type_rules.specs.Forms.Form.{number, named, bracket, negative, arithmetic, related, member, connected, aggregate, all_different, subscripted, field, tuple, listed, described, cells, keyed_cells, question}
+use Rattle.opl_type_rules.specs.Forms.Params.{all_of, those_of}
+use Rattle.opl_type_rules.specs.Forms.SetForm.{whole, between}
+use Rattle.opl_type_rules.specs.Expressions.{Node, Need, Range, Opened, kinds, kinds_in, settled, used, part, any_type, data_number, name_node, element_node, field_node, known_field, is_time, bind_patterns, or_anything, scope_within, typing, typed_parts, typed_pairs, typed_set, open_groups, open_params}
+use Rattle.opl_type_rules.specs.Expressions.Need.{nothing, data_alone}
 use Rattle.opl_fields.specs.declared.place.FieldPlace.{FieldPlace}
 use Rattle.opl_fields.specs.Structs.{position}
 use Rattle.opl_fields.specs.Walk.{State, Pass, one, each, if_written, in_turn, noted, note, walk, walk_set, walk_group}

@@ -1,8 +1,8 @@
 -- The positions of the fields that a model names, by the types of its expressions.
 use Rattle.std.specs.Prelude.{ℕ, List, map, Option, Some, None}
 use Rattle.opl_tree.specs.declared.model.ModelTree.{ModelTree}
-use Rattle.opl_types.specs.Types.{Sort}
-use Rattle.opl_types.specs.Types.Sort.{structure}
+use Rattle.opl_type_rules.specs.Types.{Sort}
+use Rattle.opl_type_rules.specs.Types.Sort.{structure}
 use Rattle.opl_fields.specs.declared.place.FieldPlace.{FieldPlace}
 use Rattle.opl_fields.specs.Walk.{before}
 use Rattle.opl_fields.specs.Trees.{walk_model}

@@ -6,12 +6,12 @@ use Rattle.opl_tree.specs.declared.expression.ExprTree.{ExprTree}
 use Rattle.opl_tree.specs.declared.expression.NameTree.{NameTree}
 use Rattle.opl_tree.specs.declared.model.ModelTree.{ModelTree}
 use Rattle.opl_term.specs.Terms.{expr_term}
-use Rattle.opl_types.specs.Types.{Sort}
-use Rattle.opl_types.specs.Types.Sort.{structure}
-use Rattle.opl_types.specs.Scope.{Scope, empty_scope, field_sort, fields}
-use Rattle.opl_types.specs.Forms.{Form, Params, form_expr}
-use Rattle.opl_types.specs.Forms.Form.{field}
-use Rattle.opl_types.specs.Expressions.{Node, Need, Opened, kinds, typing, open_params}
+use Rattle.opl_type_rules.specs.Types.{Sort}
+use Rattle.opl_type_rules.specs.Types.Sort.{structure}
+use Rattle.opl_type_rules.specs.Scope.{Scope, empty_scope, field_sort, fields}
+use Rattle.opl_type_rules.specs.Forms.{Form, Params, form_expr}
+use Rattle.opl_type_rules.specs.Forms.Form.{field}
+use Rattle.opl_type_rules.specs.Expressions.{Node, Need, Opened, kinds, typing, open_params}
 use Rattle.opl_types.specs.Declarations.{all_decls}
 use Rattle.opl_types.specs.Models.{model}
 use Rattle.opl_fields.specs.declared.place.FieldPlace.{FieldPlace}

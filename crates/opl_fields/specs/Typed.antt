@@ -3,17 +3,17 @@ use Rattle.std.specs.Prelude.{ℕ, List, [], ◌∷◌, ◌++◌, Option, Some, 
 use Rattle.opl_tree.specs.declared.declaration.DeclTree.{DeclTree}
 use Rattle.opl_tree.specs.declared.expression.NameTree.{NameTree}
 use Rattle.opl_tree.specs.declared.expression.PatternTree.{PatternTree}
-use Rattle.opl_types.specs.Types.{is_set}
-use Rattle.opl_types.specs.Scope.{Checked, Scope}
-use Rattle.opl_types.specs.Forms.{Form, Forms, Pairs, SetForm, Groups, Params}
-use Rattle.opl_types.specs.Forms.Form.{number, named, bracket, negative, arithmetic, absolute, related, member, connected, aggregate, cardinality, all_different, subscripted, field, tuple, listed, described, cells, keyed_cells, question}
-use Rattle.opl_types.specs.Forms.Forms.{no_forms, more_forms}
-use Rattle.opl_types.specs.Forms.Pairs.{no_pairs, more_pairs}
-use Rattle.opl_types.specs.Forms.SetForm.{whole, between}
-use Rattle.opl_types.specs.Forms.Groups.{no_groups, more_groups}
-use Rattle.opl_types.specs.Forms.Params.{all_of, those_of}
-use Rattle.opl_types.specs.Expressions.{Node, Range, Opened, bind_patterns, or_anything, typing, typed_set, open_groups, open_params}
-use Rattle.opl_types.specs.Expressions.Need.{data_alone}
+use Rattle.opl_type_rules.specs.Types.{is_set}
+use Rattle.opl_type_rules.specs.Scope.{Checked, Scope}
+use Rattle.opl_type_rules.specs.Forms.{Form, Forms, Pairs, SetForm, Groups, Params}
+use Rattle.opl_type_rules.specs.Forms.Form.{number, named, bracket, negative, arithmetic, absolute, related, member, connected, aggregate, cardinality, all_different, subscripted, field, tuple, listed, described, cells, keyed_cells, question}
+use Rattle.opl_type_rules.specs.Forms.Forms.{no_forms, more_forms}
+use Rattle.opl_type_rules.specs.Forms.Pairs.{no_pairs, more_pairs}
+use Rattle.opl_type_rules.specs.Forms.SetForm.{whole, between}
+use Rattle.opl_type_rules.specs.Forms.Groups.{no_groups, more_groups}
+use Rattle.opl_type_rules.specs.Forms.Params.{all_of, those_of}
+use Rattle.opl_type_rules.specs.Expressions.{Node, Range, Opened, bind_patterns, or_anything, typing, typed_set, open_groups, open_params}
+use Rattle.opl_type_rules.specs.Expressions.Need.{data_alone}
 use Rattle.opl_fields.specs.declared.place.FieldPlace.{FieldPlace}
 use Rattle.opl_fields.specs.Structs.{position}
 use Rattle.opl_fields.specs.Fields.{record_of}

@@ -3,7 +3,7 @@ ghost use Rattle.std.specs.Prelude.{◌≡◌, map, IfOk};
 ghost use Rattle.opl_fields.specs.Fields as spec;
 ghost use Rattle.opl_fields.specs.Trees as trees;
 ghost use Rattle.opl_fields.specs.Walk as walk;
-ghost use Rattle.opl_types.specs.Types.{sort};
+ghost use Rattle.opl_type_rules.specs.Types.{sort};
 
 use crate::place::FieldPlace;
 use crate::walk::Walk;

@@ -10,12 +10,12 @@ use Rattle.opl_tree.specs.declared.declaration.ScheduleEnd.TheVariants as ends
 use Rattle.opl_tree.specs.declared.expression.NameTree.{NameTree}
 use Rattle.opl_tree.specs.declared.model.ModelTree.{ModelTree}
 use Rattle.opl_meaning.specs.Runs.{Text, name_of}
-use Rattle.opl_types.specs.declared.fault.TypeFault.TheVariants.{Duplicate, Mismatch}
-use Rattle.opl_types.specs.Types.{Sort}
-use Rattle.opl_types.specs.Types.Sort.{activity, unary, discrete}
-use Rattle.opl_types.specs.Scope.{Checked, and_then, unless, Scope, Thing, empty_scope, declared, fresh, all_fresh}
-use Rattle.opl_types.specs.Scope.Thing.{range, value, enum_type, enum_name, struct_type, variable, activities, resource}
-use Rattle.opl_types.specs.Expressions.{Opened}
+use Rattle.opl_type_rules.specs.declared.fault.TypeFault.TheVariants.{Duplicate, Mismatch}
+use Rattle.opl_type_rules.specs.Types.{Sort}
+use Rattle.opl_type_rules.specs.Types.Sort.{activity, unary, discrete}
+use Rattle.opl_type_rules.specs.Scope.{Checked, and_then, unless, Scope, Thing, empty_scope, declared, fresh, all_fresh}
+use Rattle.opl_type_rules.specs.Scope.Thing.{range, value, enum_type, enum_name, struct_type, variable, activities, resource}
+use Rattle.opl_type_rules.specs.Expressions.{Opened}
 use Rattle.opl_types.specs.Declarations.{shape, shaped, written_type, initial_kinds, cell_indices, number_kinds, maybe_number, makes, enum_names, with_names, field_list, variable_type, bounds_kinds, is_decidable, is_given, given, next, decl, all_decls}
 use Rattle.opl_types.specs.Models.{model}
 use Rattle.opl_types.proofs.DeclsOnce.{decl-once}

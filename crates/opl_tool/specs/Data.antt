@@ -19,8 +19,8 @@ use Rattle.opl_meaning.specs.declared.formula.Formula.{Formula}
 use Rattle.opl_meaning.specs.declared.variable.VariableItem.{VariableItem}
 use Rattle.opl_tree.specs.declared.model.ModelTree.{ModelTree}
 use Rattle.opl_types.specs.Models.{model}
-use Rattle.opl_types.specs.Types.{Sort}
-use Rattle.opl_types.specs.declared.fault.TypeFault.{TypeFault}
+use Rattle.opl_type_rules.specs.Types.{Sort}
+use Rattle.opl_type_rules.specs.declared.fault.TypeFault.{TypeFault}
 use Rattle.opl_tool.specs.declared.refusal.Fault.TheVariants as faults
 use Rattle.opl_tool.specs.declared.refusal.ItemFault.TheVariants as items
 use Rattle.opl_tool.specs.declared.refusal.Refusal.{Refusal}

@@ -27,26 +27,27 @@ use Rattle.opl_tree.specs.declared.expression.AddTree.{AddTree}
 use Rattle.opl_tree.specs.declared.expression.CompareTree.TheViews.{out-KeyedTree}
 use Rattle.opl_tree.specs.declared.expression.KeyedTree.{KeyedTree}
 use Rattle.opl_tree.specs.declared.expression.NameTree.{NameTree}
-use Rattle.opl_types.specs.declared.fault.TypeFault.TheVariants.{Duplicate, Mismatch}
-use Rattle.opl_types.specs.declared.kind.Ty.{Ty}
-use Rattle.opl_types.specs.declared.names.Entry.{Entry}
-use Rattle.opl_types.specs.declared.names.Local.{Local}
-use Rattle.opl_types.specs.declared.names.Names.{Names}
-use Rattle.opl_types.specs.Types.{Sort, fits, is_set, sort, sorts_of}
-use Rattle.opl_types.specs.Types.Sort.{int, set, array, activity, unary, discrete, anything}
-use Rattle.opl_types.specs.Scope.{Checked, ◌>>=◌, ◌>>◌, and_then, unless, Text, Thing, Scope, Field, lookup, is_visible, declared, empty_scope, fresh, all_fresh, field_sort, field_sorts, fields, fits_in, with_values}
-use Rattle.opl_types.specs.Scope.Thing.{range, enum_type, enum_name, struct_type, value, variable, activities, resource}
-use Rattle.opl_types.specs.Forms.{Form, Forms, Pair, Pairs, form_add, form_keyed, form_set, pairs_of}
-use Rattle.opl_types.specs.Forms.Form.{number, named, bracket, negative, arithmetic, absolute, related, member, connected, aggregate, cardinality, all_different, subscripted, field, tuple, listed, described, cells, keyed_cells, question}
-use Rattle.opl_types.specs.Forms.Forms.{no_forms, more_forms}
-use Rattle.opl_types.specs.Forms.Pairs.{no_pairs, more_pairs}
-use Rattle.opl_types.specs.Expressions.{Opened, Node, Range, kinds, kinds_in, typed_set, typing, used, or_anything}
-use Rattle.opl_types.specs.Expressions.Need.{data_alone}
+use Rattle.opl_type_rules.specs.declared.fault.TypeFault.TheVariants.{Duplicate, Mismatch}
+use Rattle.opl_type_rules.specs.declared.kind.Ty.{Ty}
+use Rattle.opl_type_rules.specs.declared.names.Entry.{Entry}
+use Rattle.opl_type_rules.specs.declared.names.Local.{Local}
+use Rattle.opl_type_rules.specs.declared.names.Names.{Names}
+use Rattle.opl_type_rules.specs.Types.{Sort, fits, is_set, sort, sorts_of}
+use Rattle.opl_type_rules.specs.Types.Sort.{int, set, array, activity, unary, discrete, anything}
+use Rattle.opl_type_rules.specs.Scope.{Checked, ◌>>=◌, ◌>>◌, and_then, unless, Text, Thing, Scope, Field, lookup, is_visible, declared, empty_scope, fresh, all_fresh, field_sort, field_sorts, fields, fits_in, with_values}
+use Rattle.opl_type_rules.specs.Scope.Thing.{range, enum_type, enum_name, struct_type, value, variable, activities, resource}
+use Rattle.opl_type_rules.specs.Forms.{Form, Forms, Pair, Pairs, form_add, form_keyed, form_set, pairs_of}
+use Rattle.opl_type_rules.specs.Forms.Form.{number, named, bracket, negative, arithmetic, absolute, related, member, connected, aggregate, cardinality, all_different, subscripted, field, tuple, listed, described, cells, keyed_cells, question}
+use Rattle.opl_type_rules.specs.Forms.Forms.{no_forms, more_forms}
+use Rattle.opl_type_rules.specs.Forms.Pairs.{no_pairs, more_pairs}
+use Rattle.opl_type_rules.specs.Expressions.{Opened, Node, Range, kinds, kinds_in, typed_set, typing, used, or_anything}
+use Rattle.opl_type_rules.specs.Expressions.Need.{data_alone}
 use Rattle.opl_types.specs.Declarations.{Dimensions, Shape, no_dimensions, dimensions, with_dimension, fresh_in, all_dims, cell_indices, cells_left, enum_names, with_names, enum_decl, field_list, struct_decl, initial, initial_cells, initial_kinds, initial_pairs, is_decidable, is_given, given, makes, maybe_number, named_type, number_kinds, bounds_kinds, shape, shaped, variable_type, written_type, data_decl, range_decl, variable_decl, activity_decl, unary_decl, discrete_decl, schedule_decl, decl, all_decls, next}
-use Rattle.opl_types.specs.Steps.{front, behind}
-use Rattle.opl_types.specs.DeclarationSteps.{Seen, fresh_name, seen_more, see_each, nothing_seen, seen, cells_seen, is_any, front_number, front_bounds, front_initial, data_behind, range_behind, variable_behind, activity_behind, unary_behind, discrete_behind, schedule_behind, name_each, enum_steps, field_each, struct_steps, Held, held, initial_by, plain_value, cells_behind, pair_behind, pairs_behind, decls_behind}
-use Rattle.opl_types.proofs.Forms.{form_keyed-is}
-use Rattle.opl_types.specs.Values.{scope_of, within, with_entries, with_locals, thing_of}
+use Rattle.opl_type_rules.specs.Steps.{front, behind}
+use Rattle.opl_types.specs.DeclarationSteps.{Seen, fresh_name, seen_more, see_each, nothing_seen, seen, cells_seen, is_any, front_number, front_bounds, front_initial, data_behind, range_behind, variable_behind, activity_behind, unary_behind, discrete_behind, schedule_behind, name_each, enum_steps, field_each, struct_steps, initial_by, plain_value, cells_behind, pair_behind, pairs_behind, decls_behind}
+use Rattle.opl_expression_types.specs.Cells.{Held, held}
+use Rattle.opl_type_rules.proofs.Forms.{form_keyed-is}
+use Rattle.opl_type_rules.specs.Values.{scope_of, within, with_entries, with_locals, thing_of}
 
 -- ---- one check behind another
 

@@ -7,14 +7,14 @@ use Rattle.opl_tree.specs.declared.declaration.DimsTree.{DimsTree}
 use Rattle.opl_tree.specs.declared.declaration.ScheduleEnd.{ScheduleEnd}
 use Rattle.opl_tree.specs.declared.declaration.ScheduleEnd.TheVariants as ends
 use Rattle.opl_tree.specs.declared.expression.NameTree.{NameTree}
-use Rattle.opl_types.specs.declared.fault.TypeFault.TheVariants.{Duplicate, Mismatch}
-use Rattle.opl_types.specs.Types.{Sort, is_set}
-use Rattle.opl_types.specs.Types.Sort.{anything, activity, unary, discrete}
-use Rattle.opl_types.specs.Scope.{Checked, and_then, unless, Scope, Thing, empty_scope, declared, fresh, all_fresh, with_values}
-use Rattle.opl_types.specs.Scope.Thing.{range, value, enum_type, enum_name, struct_type, variable, activities, resource}
-use Rattle.opl_types.specs.Forms.{form_set}
-use Rattle.opl_types.specs.Expressions.{Opened, kinds_in, or_anything, typed_set}
-use Rattle.opl_types.specs.Expressions.Need.{data_alone}
+use Rattle.opl_type_rules.specs.declared.fault.TypeFault.TheVariants.{Duplicate, Mismatch}
+use Rattle.opl_type_rules.specs.Types.{Sort, is_set}
+use Rattle.opl_type_rules.specs.Types.Sort.{anything, activity, unary, discrete}
+use Rattle.opl_type_rules.specs.Scope.{Checked, and_then, unless, Scope, Thing, empty_scope, declared, fresh, all_fresh, with_values}
+use Rattle.opl_type_rules.specs.Scope.Thing.{range, value, enum_type, enum_name, struct_type, variable, activities, resource}
+use Rattle.opl_type_rules.specs.Forms.{form_set}
+use Rattle.opl_type_rules.specs.Expressions.{Opened, kinds_in, or_anything, typed_set}
+use Rattle.opl_type_rules.specs.Expressions.Need.{data_alone}
 use Rattle.opl_types.specs.Declarations.{Dimensions, no_dimensions, fresh_in, with_dimension, dimensions, all_dims, Shape, shape, shaped, written_type, initial_kinds, cell_indices, number_kinds, maybe_number, makes, enum_names, with_names, field_list, variable_type, bounds_kinds, is_decidable, is_given, given, next, decl, all_decls}
 use Rattle.opl_types.specs.Laws.{IsDeclaredOnce, DeclsDeclareOnce, DimsDeclareOnce}
 use Rattle.opl_types.proofs.Once.{Once, names_of, pushed, names-declared, names-values, fresh-once, all_fresh-once, unit-ok, went, same_scope, same_opened, declared_once, once_declared}

@@ -3,17 +3,17 @@ use Rattle.std.proofs.Common.{◌≡◌, Bool, List, Ok, sym, subst}
 use Rattle.std.specs.Prelude.{IsOkAnd}
 use Rattle.std.specs.List.{flat_map}
 use Rattle.opl_tree.specs.declared.expression.PatternTree.{PatternTree}
-use Rattle.opl_types.specs.Types.{Sort, is_set, is_truth}
-use Rattle.opl_types.specs.Scope.{Checked, and_then, Scope, all_fresh}
-use Rattle.opl_types.specs.Forms.{Form, Forms, Pairs, SetForm, Groups, Params}
-use Rattle.opl_types.specs.Forms.Form.{number, named, bracket, negative, arithmetic, absolute, related, member, connected, aggregate, cardinality, all_different, subscripted, field, tuple, listed, described, cells, keyed_cells, question}
-use Rattle.opl_types.specs.Forms.Forms.{no_forms, more_forms}
-use Rattle.opl_types.specs.Forms.Pairs.{no_pairs, more_pairs}
-use Rattle.opl_types.specs.Forms.SetForm.{whole, between}
-use Rattle.opl_types.specs.Forms.Groups.{no_groups, more_groups}
-use Rattle.opl_types.specs.Forms.Params.{all_of, those_of}
-use Rattle.opl_types.specs.Expressions.{Node, Need, Opened, Range, used, part, data_number, any_type, or_anything, pattern_names, bind_patterns, typing, typed_parts, typed_pairs, typed_set, open_groups, open_params, scope_within}
-use Rattle.opl_types.specs.Expressions.Need.{nothing, data_alone}
+use Rattle.opl_type_rules.specs.Types.{Sort, is_set, is_truth}
+use Rattle.opl_type_rules.specs.Scope.{Checked, and_then, Scope, all_fresh}
+use Rattle.opl_type_rules.specs.Forms.{Form, Forms, Pairs, SetForm, Groups, Params}
+use Rattle.opl_type_rules.specs.Forms.Form.{number, named, bracket, negative, arithmetic, absolute, related, member, connected, aggregate, cardinality, all_different, subscripted, field, tuple, listed, described, cells, keyed_cells, question}
+use Rattle.opl_type_rules.specs.Forms.Forms.{no_forms, more_forms}
+use Rattle.opl_type_rules.specs.Forms.Pairs.{no_pairs, more_pairs}
+use Rattle.opl_type_rules.specs.Forms.SetForm.{whole, between}
+use Rattle.opl_type_rules.specs.Forms.Groups.{no_groups, more_groups}
+use Rattle.opl_type_rules.specs.Forms.Params.{all_of, those_of}
+use Rattle.opl_type_rules.specs.Expressions.{Node, Need, Opened, Range, used, part, data_number, any_type, or_anything, pattern_names, bind_patterns, typing, typed_parts, typed_pairs, typed_set, open_groups, open_params, scope_within}
+use Rattle.opl_type_rules.specs.Expressions.Need.{nothing, data_alone}
 use Rattle.opl_types.specs.Laws.{IsDeclaredOnce, EachDeclared, AllDeclared, PairsDeclared, SetDeclared, GroupsDeclared, ParamsDeclared, TypedIsDeclared}
 use Rattle.opl_types.proofs.Once.{Once, all_fresh-once, unit-ok, went, ok-and, declared_once, once_declared, names_are_declared}
 use Rattle.opl_types.proofs.ParamsOnce.{groups-once, params-once, patterns-bind}

@@ -26,18 +26,18 @@ use Rattle.opl_tree.specs.declared.search.StatementTree.TheVariants as statement
 use Rattle.opl_tree.specs.declared.search.StatementsTree.TheVariants as statement_lists
 use Rattle.opl_tree.specs.declared.search.StatementTree.TheViews.{out-SearchBlockTree, roll-SearchBlockTree, roll-out-SearchBlockTree}
 use Rattle.opl_tree.specs.declared.search.StatementTree.TheFolds.{fold-roll-StatementTree, fold-roll-StatementsTree, fold-roll-SearchBlockTree}
-use Rattle.opl_types.specs.declared.names.Names.{Names}
-use Rattle.opl_types.specs.declared.fault.TypeFault.{TypeFault}
-use Rattle.opl_types.specs.declared.kind.Ty.{Ty}
+use Rattle.opl_type_rules.specs.declared.names.Names.{Names}
+use Rattle.opl_type_rules.specs.declared.fault.TypeFault.{TypeFault}
+use Rattle.opl_type_rules.specs.declared.kind.Ty.{Ty}
 use Rattle.opl_types.specs.Resources.{objective}
-use Rattle.opl_types.specs.Types.{Sort, sort, is_number}
-use Rattle.opl_types.specs.Scope.{Checked, and_then, Scope}
-use Rattle.opl_types.specs.Forms.{form_expr, form_params}
-use Rattle.opl_types.specs.Expressions.{Node, Need, Opened, kinds, used, typing, open_params}
-use Rattle.opl_types.specs.Expressions.Need.{nothing, data_alone, data_or_questions}
+use Rattle.opl_type_rules.specs.Types.{Sort, sort, is_number}
+use Rattle.opl_type_rules.specs.Scope.{Checked, and_then, Scope}
+use Rattle.opl_type_rules.specs.Forms.{form_expr, form_params}
+use Rattle.opl_type_rules.specs.Expressions.{Node, Need, Opened, kinds, used, typing, open_params}
+use Rattle.opl_type_rules.specs.Expressions.Need.{nothing, data_alone, data_or_questions}
 use Rattle.opl_types.specs.Models.{Looked, each, if_written, within, condition, precedes, requires, label, order, item, items, block, instr, statement, statements, search_block}
-use Rattle.opl_types.specs.Steps.{front}
-use Rattle.opl_types.specs.Values.{Gives, scope_of, within as scope_within}
+use Rattle.opl_type_rules.specs.Steps.{front}
+use Rattle.opl_type_rules.specs.Values.{Gives, scope_of, within as scope_within}
 
 -- ---- one after the other
 

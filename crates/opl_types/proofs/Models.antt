@@ -2,17 +2,17 @@
 use Rattle.std.proofs.Common.{◌≡◌, ℕ, Bool, true, List, [], ◌∷◌, ◌++◌, map, subst, Option, None, Some, Result, Ok, Err, refl, ap, ◌∙◌, sym, append_assoc}
 use Rattle.opl_tree.specs.declared.declaration.DeclTree.{DeclTree}
 use Rattle.opl_tree.specs.declared.model.ModelTree.{ModelTree}
-use Rattle.opl_types.specs.declared.fault.TypeFault.{TypeFault}
-use Rattle.opl_types.specs.declared.names.Entry.{Entry}
-use Rattle.opl_types.specs.declared.names.Names.{Names}
-use Rattle.opl_types.specs.declared.fault.TypeFault.TheVariants.{Unknown, Duplicate, Mismatch, NotData, OutOfMemory}
-use Rattle.opl_types.specs.Types.{Sort, sort}
-use Rattle.opl_types.specs.Scope.{Checked, and_then, Scope, empty_scope, declared}
-use Rattle.opl_types.specs.Expressions.{Opened}
+use Rattle.opl_type_rules.specs.declared.fault.TypeFault.{TypeFault}
+use Rattle.opl_type_rules.specs.declared.names.Entry.{Entry}
+use Rattle.opl_type_rules.specs.declared.names.Names.{Names}
+use Rattle.opl_type_rules.specs.declared.fault.TypeFault.TheVariants.{Unknown, Duplicate, Mismatch, NotData, OutOfMemory}
+use Rattle.opl_type_rules.specs.Types.{Sort, sort}
+use Rattle.opl_type_rules.specs.Scope.{Checked, and_then, Scope, empty_scope, declared}
+use Rattle.opl_type_rules.specs.Expressions.{Opened}
 use Rattle.opl_types.specs.Declarations.{all_decls}
 use Rattle.opl_types.specs.Models.{Looked, instr, search, model}
-use Rattle.opl_types.specs.Steps.{front, behind}
-use Rattle.opl_types.specs.Values.{Gives, scope_of, thing_of, with_entries}
+use Rattle.opl_type_rules.specs.Steps.{front, behind}
+use Rattle.opl_type_rules.specs.Values.{Gives, scope_of, thing_of, with_entries}
 
 -- ---- the search section
 

@@ -43,17 +43,17 @@ use Rattle.opl_tree.specs.declared.search.StatementTree.TheFolds.{fold-roll-Stat
 use Rattle.opl_tree.specs.declared.search.StatementTree.TheVariants as statement_trees
 use Rattle.opl_tree.specs.declared.search.StatementTree.TheViews.{roll-SearchBlockTree}
 use Rattle.opl_tree.specs.declared.search.StatementsTree.TheVariants as statement_lists
-use Rattle.opl_types.specs.declared.fault.TypeFault.TheVariants.{Duplicate}
-use Rattle.opl_types.specs.Types.Sort.{int, bool, index}
-use Rattle.opl_types.specs.Scope.{Checked, ◌>>=◌, Text, Entry, Thing, Scope, empty_scope, declared, lookup, fresh, all_fresh}
-use Rattle.opl_types.specs.Scope.Thing.{range, value}
-use Rattle.opl_types.specs.Forms.{Group, Params, SetForm, groups_of, form_add, form_and, form_expr, form_group, form_imp, form_mul, form_neg, form_or, form_params, form_post, form_prim, form_set}
-use Rattle.opl_types.specs.Forms.Form.{named, related}
-use Rattle.opl_types.specs.Forms.Groups.{no_groups, more_groups}
-use Rattle.opl_types.specs.Forms.Params.{all_of}
-use Rattle.opl_types.specs.Forms.SetForm.{whole}
-use Rattle.opl_types.specs.Expressions.{Opened, settled, typing, typed_set, open_groups, open_params}
-use Rattle.opl_types.specs.Expressions.Need.{data_alone}
+use Rattle.opl_type_rules.specs.declared.fault.TypeFault.TheVariants.{Duplicate}
+use Rattle.opl_type_rules.specs.Types.Sort.{int, bool, index}
+use Rattle.opl_type_rules.specs.Scope.{Checked, ◌>>=◌, Text, Entry, Thing, Scope, empty_scope, declared, lookup, fresh, all_fresh}
+use Rattle.opl_type_rules.specs.Scope.Thing.{range, value}
+use Rattle.opl_type_rules.specs.Forms.{Group, Params, SetForm, groups_of, form_add, form_and, form_expr, form_group, form_imp, form_mul, form_neg, form_or, form_params, form_post, form_prim, form_set}
+use Rattle.opl_type_rules.specs.Forms.Form.{named, related}
+use Rattle.opl_type_rules.specs.Forms.Groups.{no_groups, more_groups}
+use Rattle.opl_type_rules.specs.Forms.Params.{all_of}
+use Rattle.opl_type_rules.specs.Forms.SetForm.{whole}
+use Rattle.opl_type_rules.specs.Expressions.{Opened, settled, typing, typed_set, open_groups, open_params}
+use Rattle.opl_type_rules.specs.Expressions.Need.{data_alone}
 use Rattle.opl_types.specs.Declarations.{decl, all_decls}
 use Rattle.opl_types.specs.Models.{each, item, items, block, model}
 use Rattle.opl_types.specs.Uses.{requires_uses, item_uses, items_uses, block_uses, statement_uses, statements_uses, search_uses}
@@ -62,7 +62,7 @@ use Rattle.opl_types.specs.Laws.{Declared, EachDeclared, HasKinds, DeclsDeclared
 use Rattle.opl_types.proofs.NamesInModels.{model_is_declared}
 use Rattle.opl_types.proofs.Declared.{written_type-Int}
 use Rattle.opl_types.proofs.Items.{item-ForAll, item-Constraint, items-Several}
-use Rattle.opl_types.proofs.Forms.{form_mul-Product, form_sign-Postfix, form_prim-Named, form_neg-Compare, form_compare-Related}
+use Rattle.opl_type_rules.proofs.Forms.{form_mul-Product, form_sign-Postfix, form_prim-Named, form_neg-Compare, form_compare-Related}
 
 abbrev the : Text → NameTree
 the text = record { at = 0; text = text }

@@ -16,16 +16,16 @@ use Rattle.opl_tree.specs.declared.declaration.VariableTypeTree.{VariableTypeTre
 use Rattle.opl_tree.specs.declared.declaration.VariableTypeTree.TheVariants as types
 use Rattle.opl_tree.specs.declared.expression.AddTree.{AddTree}
 use Rattle.opl_tree.specs.declared.expression.NameTree.{NameTree}
-use Rattle.opl_types.specs.Types.{Sort, is_set}
-use Rattle.opl_types.specs.Types.Sort.{anything}
-use Rattle.opl_types.specs.Scope.{Checked, and_then, Scope, Thing, Field, found, lookup, type_of, declared, fresh, empty_scope}
-use Rattle.opl_types.specs.Scope.Thing.{value}
-use Rattle.opl_types.specs.Forms.{Form, Forms, Pairs, form_add, form_set}
-use Rattle.opl_types.specs.Forms.Form.{cells, keyed_cells}
-use Rattle.opl_types.specs.Forms.Forms.{no_forms, more_forms}
-use Rattle.opl_types.specs.Forms.Pairs.{no_pairs, more_pairs}
-use Rattle.opl_types.specs.Expressions.{Node, Opened, data_number, used, typing, typed_set}
-use Rattle.opl_types.specs.Expressions.Need.{data_alone}
+use Rattle.opl_type_rules.specs.Types.{Sort, is_set}
+use Rattle.opl_type_rules.specs.Types.Sort.{anything}
+use Rattle.opl_type_rules.specs.Scope.{Checked, and_then, Scope, Thing, Field, found, lookup, type_of, declared, fresh, empty_scope}
+use Rattle.opl_type_rules.specs.Scope.Thing.{value}
+use Rattle.opl_type_rules.specs.Forms.{Form, Forms, Pairs, form_add, form_set}
+use Rattle.opl_type_rules.specs.Forms.Form.{cells, keyed_cells}
+use Rattle.opl_type_rules.specs.Forms.Forms.{no_forms, more_forms}
+use Rattle.opl_type_rules.specs.Forms.Pairs.{no_pairs, more_pairs}
+use Rattle.opl_type_rules.specs.Expressions.{Node, Opened, data_number, used, typing, typed_set}
+use Rattle.opl_type_rules.specs.Expressions.Need.{data_alone}
 use Rattle.opl_types.specs.Declarations.{known_type, named_type, type_layer, written_type, Dimensions, fresh_in, dimensions, all_dims, Shape, shape, initial, initial_cells, initial_pairs, initial_kinds, cell_indices, number_kinds, maybe_number, bounds_kinds, variable_type, field_list, next, decl, all_decls}
 use Rattle.opl_types.specs.Laws.{IsDeclaredOnce, EachDeclared, AllDeclared, PairsDeclared, IsTypeName, type_name_layer, type_name, TypeDeclared, VariableTypeDeclared, FieldsDeclared, DimsDeclared, BehindDims, NumberDeclared, MaybeDeclared, BoundsDeclared, InitialDeclared, DeclDeclared, DeclsDeclared}
 use Rattle.opl_types.proofs.Once.{went, ok-and, found-declared}

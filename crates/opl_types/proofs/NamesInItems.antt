@@ -13,11 +13,11 @@ use Rattle.opl_tree.specs.declared.instruction.ItemTree.TheOpen.{ItemTree-F, Ite
 use Rattle.opl_tree.specs.declared.instruction.ItemTree.TheViews.{roll-ItemTree, roll-ItemsTree, roll-BlockTree}
 use Rattle.opl_tree.specs.declared.instruction.ItemsTree.{ItemsTree}
 use Rattle.opl_tree.specs.declared.instruction.RequiresTree.{RequiresTree}
-use Rattle.opl_types.specs.Types.{Sort, is_truth}
-use Rattle.opl_types.specs.Scope.{and_then, Scope, Thing, found, lookup}
-use Rattle.opl_types.specs.Forms.{form_expr, form_post, form_subscripts, form_params, forms_of}
-use Rattle.opl_types.specs.Expressions.{Node, Need, used, part, typing, open_params}
-use Rattle.opl_types.specs.Expressions.Need.{nothing, data_alone}
+use Rattle.opl_type_rules.specs.Types.{Sort, is_truth}
+use Rattle.opl_type_rules.specs.Scope.{and_then, Scope, Thing, found, lookup}
+use Rattle.opl_type_rules.specs.Forms.{form_expr, form_post, form_subscripts, form_params, forms_of}
+use Rattle.opl_type_rules.specs.Expressions.{Node, Need, used, part, typing, open_params}
+use Rattle.opl_type_rules.specs.Expressions.Need.{nothing, data_alone}
 use Rattle.opl_types.specs.Declarations.{maybe_number}
 use Rattle.opl_types.specs.Models.{Looked, each, if_written, within, condition, precedes, known, subscript_nodes, requires, item, items, block}
 use Rattle.opl_types.specs.Uses.{Uses, together, demand_uses, subscript_uses, requires_uses, item_uses_layer, items_uses_layer, block_uses_layer, item_uses, items_uses, block_uses}

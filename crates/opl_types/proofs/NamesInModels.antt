@@ -3,11 +3,11 @@ use Rattle.std.proofs.Common.{◌≡◌, true, List, Option, None, Some, Ok}
 use Rattle.opl_tree.specs.declared.instruction.InstrTree.{InstrTree}
 use Rattle.opl_tree.specs.declared.instruction.InstrTree.TheVariants as instrs
 use Rattle.opl_tree.specs.declared.search.SearchTree.{SearchTree}
-use Rattle.opl_types.specs.Types.{Sort, is_number}
-use Rattle.opl_types.specs.Scope.{and_then, Scope, empty_scope}
-use Rattle.opl_types.specs.Forms.{form_expr}
-use Rattle.opl_types.specs.Expressions.{used, typing}
-use Rattle.opl_types.specs.Expressions.Need.{nothing}
+use Rattle.opl_type_rules.specs.Types.{Sort, is_number}
+use Rattle.opl_type_rules.specs.Scope.{and_then, Scope, empty_scope}
+use Rattle.opl_type_rules.specs.Forms.{form_expr}
+use Rattle.opl_type_rules.specs.Expressions.{used, typing}
+use Rattle.opl_type_rules.specs.Expressions.Need.{nothing}
 use Rattle.opl_types.specs.Declarations.{all_decls}
 use Rattle.opl_types.specs.Models.{block, search, instr, model}
 use Rattle.opl_types.specs.Laws.{IsDeclaredOnce, InstrDeclared, SearchDeclared, ModelIsDeclared}

@@ -9,10 +9,10 @@ use Rattle.opl_tree.specs.declared.search.StatementTree.TheFolds.{fold-roll-Stat
 use Rattle.opl_tree.specs.declared.search.StatementTree.TheOpen.{StatementTree-F, StatementsTree-F, SearchBlockTree-F}
 use Rattle.opl_tree.specs.declared.search.StatementTree.TheViews.{roll-StatementTree, roll-StatementsTree, roll-SearchBlockTree}
 use Rattle.opl_tree.specs.declared.search.StatementsTree.{StatementsTree}
-use Rattle.opl_types.specs.Types.{is_number}
-use Rattle.opl_types.specs.Forms.{form_add, form_expr, form_post}
-use Rattle.opl_types.specs.Expressions.{used, part}
-use Rattle.opl_types.specs.Expressions.Need.{nothing, data_or_questions}
+use Rattle.opl_type_rules.specs.Types.{is_number}
+use Rattle.opl_type_rules.specs.Forms.{form_add, form_expr, form_post}
+use Rattle.opl_type_rules.specs.Expressions.{used, part}
+use Rattle.opl_type_rules.specs.Expressions.Need.{nothing, data_or_questions}
 use Rattle.opl_types.specs.Models.{each, if_written, condition, label, order, statement, statements, search_block}
 use Rattle.opl_types.specs.Uses.{Uses, order_uses, statement_uses_layer, statements_uses_layer, search_uses_layer, statement_uses, statements_uses, search_uses}
 use Rattle.opl_types.specs.Uses.Uses.{no_uses, expression, both}

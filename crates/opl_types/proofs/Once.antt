@@ -4,13 +4,13 @@ use Rattle.std.specs.Prelude.{IsOkAnd}
 use Rattle.std.specs.Str.{bytes_eq}
 use Rattle.std.proofs.lemmas.Slice.Eq.{bytes_eq-Decides}
 use Rattle.opl_tree.specs.declared.expression.NameTree.{NameTree}
-use Rattle.opl_types.specs.declared.fault.TypeFault.{TypeFault}
-use Rattle.opl_types.specs.Types.{Sort}
-use Rattle.opl_types.specs.Scope.{Checked, and_then, unless, Text, Scope, Entry, Thing, found, lookup, declared, is_visible, fresh, all_fresh, with_values, sort_of}
-use Rattle.opl_types.specs.Scope.Thing.{value}
-use Rattle.opl_types.specs.Types.Sort.{anything}
-use Rattle.opl_types.specs.Forms.Form.{named}
-use Rattle.opl_types.specs.Expressions.{Node, Opened, typing, name_node}
+use Rattle.opl_type_rules.specs.declared.fault.TypeFault.{TypeFault}
+use Rattle.opl_type_rules.specs.Types.{Sort}
+use Rattle.opl_type_rules.specs.Scope.{Checked, and_then, unless, Text, Scope, Entry, Thing, found, lookup, declared, is_visible, fresh, all_fresh, with_values, sort_of}
+use Rattle.opl_type_rules.specs.Scope.Thing.{value}
+use Rattle.opl_type_rules.specs.Types.Sort.{anything}
+use Rattle.opl_type_rules.specs.Forms.Form.{named}
+use Rattle.opl_type_rules.specs.Expressions.{Node, Opened, typing, name_node}
 use Rattle.opl_types.specs.Laws.{entry_at, Declared, IsDeclaredOnce, IsUsed, NamesAreDeclared}
 
 -- ---- texts

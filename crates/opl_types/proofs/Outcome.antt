@@ -1,8 +1,8 @@
 -- A model has one list of types or one first fault.
 use Rattle.std.proofs.Common.{◌≡◌, List, Ok, Err}
-use Rattle.opl_types.specs.declared.fault.TypeFault.{TypeFault}
-use Rattle.opl_types.specs.Types.{Sort}
-use Rattle.opl_types.specs.Scope.{Checked}
+use Rattle.opl_type_rules.specs.declared.fault.TypeFault.{TypeFault}
+use Rattle.opl_type_rules.specs.Types.{Sort}
+use Rattle.opl_type_rules.specs.Scope.{Checked}
 use Rattle.opl_types.specs.Models.{model}
 use Rattle.opl_types.specs.Laws.{OneList, NoFault, OneFault}
 

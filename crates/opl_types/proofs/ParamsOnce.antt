@@ -6,16 +6,16 @@ use Rattle.std.proofs.lemmas.Bool.{eqb-true}
 use Rattle.opl_tree.specs.declared.expression.NameTree.{NameTree}
 use Rattle.opl_tree.specs.declared.expression.PatternTree.{PatternTree}
 use Rattle.opl_tree.specs.declared.expression.PatternTree.TheVariants as patterns
-use Rattle.opl_types.specs.declared.fault.TypeFault.TheVariants.{Mismatch}
-use Rattle.opl_types.specs.Types.{Sort, Sorts, sort_list, is_set, is_truth}
-use Rattle.opl_types.specs.Types.Sort.{anything}
-use Rattle.opl_types.specs.Scope.{Checked, and_then, unless, Scope, declared, all_fresh, with_values, parts_in}
-use Rattle.opl_types.specs.Scope.Thing.{value}
-use Rattle.opl_types.specs.Forms.{SetForm, Groups, Params}
-use Rattle.opl_types.specs.Forms.Groups.{no_groups, more_groups}
-use Rattle.opl_types.specs.Forms.Params.{all_of, those_of}
-use Rattle.opl_types.specs.Expressions.{Need, Opened, kinds, kinds_in, used, or_anything, pattern_names, bind_parts, bind_record, bind_pattern, bind_patterns, typing, typed_set, open_groups, open_params}
-use Rattle.opl_types.specs.Expressions.Need.{data_alone}
+use Rattle.opl_type_rules.specs.declared.fault.TypeFault.TheVariants.{Mismatch}
+use Rattle.opl_type_rules.specs.Types.{Sort, Sorts, sort_list, is_set, is_truth}
+use Rattle.opl_type_rules.specs.Types.Sort.{anything}
+use Rattle.opl_type_rules.specs.Scope.{Checked, and_then, unless, Scope, declared, all_fresh, with_values, parts_in}
+use Rattle.opl_type_rules.specs.Scope.Thing.{value}
+use Rattle.opl_type_rules.specs.Forms.{SetForm, Groups, Params}
+use Rattle.opl_type_rules.specs.Forms.Groups.{no_groups, more_groups}
+use Rattle.opl_type_rules.specs.Forms.Params.{all_of, those_of}
+use Rattle.opl_type_rules.specs.Expressions.{Need, Opened, kinds, kinds_in, used, or_anything, pattern_names, bind_parts, bind_record, bind_pattern, bind_patterns, typing, typed_set, open_groups, open_params}
+use Rattle.opl_type_rules.specs.Expressions.Need.{data_alone}
 use Rattle.opl_types.specs.Laws.{ParamsDeclareOnce}
 use Rattle.opl_types.proofs.Once.{Once, names_of, pushed, pushed-more, names-declared, names-values, all_fresh-once, unless-ok, unit-ok, went, same_scope, same_opened, declared_once, once_declared}
 

@@ -25,19 +25,19 @@ use Rattle.opl_tree.specs.declared.declaration.VariableTypeTree.{VariableTypeTre
 use Rattle.opl_tree.specs.declared.declaration.VariableTypeTree.TheVariants as types
 use Rattle.opl_tree.specs.declared.expression.AddTree.{AddTree}
 use Rattle.opl_tree.specs.declared.expression.NameTree.{NameTree}
-use Rattle.opl_types.specs.declared.fault.TypeFault.TheVariants.{Unknown, Duplicate, Mismatch}
-use Rattle.opl_types.specs.Types.{Sort, is_number, is_set}
-use Rattle.opl_types.specs.Types.Sort.{int}
-use Rattle.opl_types.specs.Scope.{Checked, Scope, empty_scope, lookup, declared, fits_in, type_of}
-use Rattle.opl_types.specs.Scope.Thing.{value}
-use Rattle.opl_types.specs.Types.Sort.{anything}
-use Rattle.opl_types.specs.Forms.{Form, Forms, Pairs, form_add, form_set}
-use Rattle.opl_types.specs.Forms.Form.{cells, keyed_cells}
-use Rattle.opl_types.specs.Forms.Forms.{no_forms, more_forms}
-use Rattle.opl_types.specs.Forms.Pairs.{no_pairs, more_pairs}
-use Rattle.opl_types.specs.Expressions.Need.{data_alone}
+use Rattle.opl_type_rules.specs.declared.fault.TypeFault.TheVariants.{Unknown, Duplicate, Mismatch}
+use Rattle.opl_type_rules.specs.Types.{Sort, is_number, is_set}
+use Rattle.opl_type_rules.specs.Types.Sort.{int}
+use Rattle.opl_type_rules.specs.Scope.{Checked, Scope, empty_scope, lookup, declared, fits_in, type_of}
+use Rattle.opl_type_rules.specs.Scope.Thing.{value}
+use Rattle.opl_type_rules.specs.Types.Sort.{anything}
+use Rattle.opl_type_rules.specs.Forms.{Form, Forms, Pairs, form_add, form_set}
+use Rattle.opl_type_rules.specs.Forms.Form.{cells, keyed_cells}
+use Rattle.opl_type_rules.specs.Forms.Forms.{no_forms, more_forms}
+use Rattle.opl_type_rules.specs.Forms.Pairs.{no_pairs, more_pairs}
+use Rattle.opl_type_rules.specs.Expressions.Need.{data_alone}
 use Rattle.opl_types.specs.Declarations.{known_type, named_type, type_layer, written_type, fresh_in, dimensions, all_dims, shaped, initial, initial_cells, initial_pairs, initial_kinds, cell_indices, number_kinds, maybe_number, shape, data_decl, range_decl, enum_names, enum_decl, field_list, struct_decl, variable_type, bounds_kinds, is_decidable, variable_decl, activity_decl, unary_decl, discrete_decl, is_given, schedule_decl, decl, next, all_decls}
-use Rattle.opl_types.proofs.Pure.{Real, real_ok, real_err, real_then, real_unless, real_fresh, real_all_fresh, real_used, real_typing, real_typed_set}
+use Rattle.opl_expression_types.proofs.Pure.{Real, real_ok, real_err, real_then, real_unless, real_fresh, real_all_fresh, real_used, real_typing, real_typed_set}
 
 -- ---- types
 

@@ -24,15 +24,15 @@ use Rattle.opl_tree.specs.declared.search.StatementTree.TheFolds.{fold-roll-Stat
 use Rattle.opl_tree.specs.declared.search.StatementTree.TheOpen.{StatementTree-F, StatementsTree-F, SearchBlockTree-F}
 use Rattle.opl_tree.specs.declared.search.StatementTree.TheViews.{roll-StatementTree, roll-StatementsTree, roll-SearchBlockTree}
 use Rattle.opl_tree.specs.declared.search.StatementsTree.{StatementsTree}
-use Rattle.opl_types.specs.declared.fault.TypeFault.TheVariants.{Unknown, Mismatch}
-use Rattle.opl_types.specs.Types.{is_number, is_truth, is_activity}
-use Rattle.opl_types.specs.Scope.{Scope, Thing, empty_scope, lookup}
-use Rattle.opl_types.specs.Forms.{form_expr, form_add, form_post, form_subscripts, form_params, forms_of}
-use Rattle.opl_types.specs.Expressions.{Need}
-use Rattle.opl_types.specs.Expressions.Need.{nothing, data_alone, data_or_questions}
+use Rattle.opl_type_rules.specs.declared.fault.TypeFault.TheVariants.{Unknown, Mismatch}
+use Rattle.opl_type_rules.specs.Types.{is_number, is_truth, is_activity}
+use Rattle.opl_type_rules.specs.Scope.{Scope, Thing, empty_scope, lookup}
+use Rattle.opl_type_rules.specs.Forms.{form_expr, form_add, form_post, form_subscripts, form_params, forms_of}
+use Rattle.opl_type_rules.specs.Expressions.{Need}
+use Rattle.opl_type_rules.specs.Expressions.Need.{nothing, data_alone, data_or_questions}
 use Rattle.opl_types.specs.Models.{Looked, each, if_written, within, condition, precedes, known, subscript_nodes, is_resource, requires, item_layer, items_layer, block_layer, item, items, block, is_labelled, label, order, statement_layer, statements_layer, search_block_layer, statement, statements, search_block, search, instr, model}
 use Rattle.opl_types.specs.Laws.{NeverMemory}
-use Rattle.opl_types.proofs.Pure.{Real, real_ok, real_err, real_never, real_then, real_unless, real_used, real_part, real_typing, real_typed_parts, real_open_params}
+use Rattle.opl_expression_types.proofs.Pure.{Real, real_ok, real_err, real_never, real_then, real_unless, real_used, real_part, real_typing, real_typed_parts, real_open_params}
 use Rattle.opl_types.proofs.PureDecls.{real_maybe_number, real_all_decls}
 
 -- in each scope, no want of memory

@@ -6,19 +6,19 @@ use Rattle.opl_tree.specs.declared.expression.AddTree.{AddTree}
 use Rattle.opl_tree.specs.declared.expression.NameTree.{NameTree}
 use Rattle.opl_tree.specs.declared.expression.SubscriptsTree.{SubscriptsTree}
 use Rattle.opl_tree.specs.declared.instruction.RequiresTree.{RequiresTree}
-use Rattle.opl_types.specs.declared.kind.Ty.{Ty}
-use Rattle.opl_types.specs.declared.names.Local.{Local}
-use Rattle.opl_types.specs.declared.names.Names.{Names}
-use Rattle.opl_types.specs.Types.{Sort, Sorts, sort, fits}
-use Rattle.opl_types.specs.Types.Sort.{int, bool, enumeration, structure, row, set, empty_set, array, activity, unary, discrete, index, struct_name, anything}
-use Rattle.opl_types.specs.Types.Sorts.{no_sorts, more_sorts}
-use Rattle.opl_types.specs.Scope.{Text, Thing, Scope, lookup, declared, fields, field_sorts}
-use Rattle.opl_types.specs.Scope.Thing.{range, enum_type, enum_name, struct_type, value, variable, activities, resource}
-use Rattle.opl_types.specs.Expressions.{Node, is_data, subscripts_fit}
+use Rattle.opl_type_rules.specs.declared.kind.Ty.{Ty}
+use Rattle.opl_type_rules.specs.declared.names.Local.{Local}
+use Rattle.opl_type_rules.specs.declared.names.Names.{Names}
+use Rattle.opl_type_rules.specs.Types.{Sort, Sorts, sort, fits}
+use Rattle.opl_type_rules.specs.Types.Sort.{int, bool, enumeration, structure, row, set, empty_set, array, activity, unary, discrete, index, struct_name, anything}
+use Rattle.opl_type_rules.specs.Types.Sorts.{no_sorts, more_sorts}
+use Rattle.opl_type_rules.specs.Scope.{Text, Thing, Scope, lookup, declared, fields, field_sorts}
+use Rattle.opl_type_rules.specs.Scope.Thing.{range, enum_type, enum_name, struct_type, value, variable, activities, resource}
+use Rattle.opl_type_rules.specs.Expressions.{Node, is_data, subscripts_fit}
 use Rattle.opl_types.specs.Models.{known, is_demanded, is_resource, is_resource_of}
 use Rattle.opl_types.specs.Resources.{or_range}
-use Rattle.opl_types.specs.Values.{with_locals, scope_of, within, local_or}
-use Rattle.opl_types.proofs.Lookup.{visible-within, outside-within}
+use Rattle.opl_type_rules.specs.Values.{with_locals, scope_of, within, local_or}
+use Rattle.opl_type_rules.proofs.Lookup.{visible-within, outside-within}
 
 -- ---- parameters add no struct
 

@@ -19,50 +19,24 @@ use Rattle.opl_tree.specs.declared.declaration.VariableTree.{VariableTree}
 use Rattle.opl_tree.specs.declared.expression.AddTree.{AddTree}
 use Rattle.opl_tree.specs.declared.expression.NameTree.{NameTree}
 use Rattle.opl_types.specs.declared.declaration.Dimensions as dims
-use Rattle.opl_types.specs.declared.fault.TypeFault.TheVariants.{Duplicate, Mismatch}
-use Rattle.opl_types.specs.declared.names.Local.{Local}
-use Rattle.opl_types.specs.declared.names.Names.{Names}
-use Rattle.opl_types.specs.declared.plain.Cells as found
-use Rattle.opl_types.specs.Types.{Sort, is_set, sort}
-use Rattle.opl_types.specs.Types.Sort.{activity, unary, discrete}
-use Rattle.opl_types.specs.Scope.{Checked, ◌>>=◌, ◌>>◌, unless, Scope, Field, declared, fresh, fits_in, field_sort}
-use Rattle.opl_types.specs.Scope.Thing.{range, enum_type, enum_name, struct_type, value, variable, activities, resource}
-use Rattle.opl_types.specs.Forms.{Form, Forms, Pair, Pairs, forms_of, pairs_of, form_add, form_keyed, form_set}
-use Rattle.opl_types.specs.Forms.Form.{cells, keyed_cells}
-use Rattle.opl_types.specs.Forms.Forms.{no_forms, more_forms}
-use Rattle.opl_types.specs.Expressions.{Opened, kinds, kinds_in, used, typing, typed_set, or_anything}
-use Rattle.opl_types.specs.Expressions.Need.{data_alone}
+use Rattle.opl_type_rules.specs.declared.fault.TypeFault.TheVariants.{Duplicate, Mismatch}
+use Rattle.opl_type_rules.specs.declared.names.Local.{Local}
+use Rattle.opl_type_rules.specs.declared.names.Names.{Names}
+use Rattle.opl_type_rules.specs.Types.{Sort, is_set, sort}
+use Rattle.opl_type_rules.specs.Types.Sort.{activity, unary, discrete}
+use Rattle.opl_type_rules.specs.Scope.{Checked, ◌>>=◌, ◌>>◌, unless, Scope, Field, declared, fresh, fits_in, field_sort}
+use Rattle.opl_type_rules.specs.Scope.Thing.{range, enum_type, enum_name, struct_type, value, variable, activities, resource}
+use Rattle.opl_type_rules.specs.Forms.{Form, Forms, Pair, form_add, form_set}
+use Rattle.opl_type_rules.specs.Forms.Forms.{no_forms, more_forms}
+use Rattle.opl_type_rules.specs.Expressions.{Opened, kinds, kinds_in, used, typing, typed_set, or_anything}
+use Rattle.opl_type_rules.specs.Expressions.Need.{data_alone}
 use Rattle.opl_types.specs.Declarations.{all_dims, decl, enum_names, initial, initial_cells, initial_pairs, is_decidable, is_given, given, makes, next, number_kinds, shaped, variable_type, written_type}
-use Rattle.opl_types.specs.Steps.{front, behind}
-use Rattle.opl_types.specs.Values.{within}
+use Rattle.opl_type_rules.specs.Steps.{front, behind}
+use Rattle.opl_expression_types.specs.Cells.{Held}
+use Rattle.opl_expression_types.specs.Cells.Held.{listed, keyed, other}
+use Rattle.opl_type_rules.specs.Values.{within}
 
 -- ---- initial values
-
--- what an expression is: the cells of an array, or something else
-pub data Held : Type 0 where
-  listed : Forms → Held
-  keyed : Pairs → Held
-  other : Held
-
-abbrev pub held : Form → Held
-held (cells at fs) = listed fs
-held (keyed_cells at ps) = keyed ps
-held f = other
-
--- what an operand is with others behind it, or with none
-abbrev pub alone : {A : Type 0} → Form → List A → Held
-alone f [] = held f
-alone f (x ∷ xs) = other
-
-abbrev pub alone_or : {A B : Type 0} → Form → List A → Option B → Held
-alone_or f [] None = held f
-alone_or f [] (Some b) = other
-alone_or f (x ∷ xs) last = other
-
-abbrev pub held_in : found.Cells → Held
-held_in (found.TheVariants.Listed ts) = listed (forms_of (map form_add ts.now))
-held_in (found.TheVariants.Keyed ts) = keyed (pairs_of (map form_keyed ts.now))
-held_in found.TheVariants.Other = other
 
 -- a value that is no array of cells
 abbrev pub plain_value : Scope → Sort → List Sort → Form → Checked (List Sort)

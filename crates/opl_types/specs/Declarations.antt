@@ -28,17 +28,17 @@ use Rattle.opl_tree.specs.declared.declaration.VariableTypeTree.{VariableTypeTre
 use Rattle.opl_tree.specs.declared.declaration.VariableTypeTree.TheVariants as types
 use Rattle.opl_tree.specs.declared.expression.AddTree.{AddTree}
 use Rattle.opl_tree.specs.declared.expression.NameTree.{NameTree}
-use Rattle.opl_types.specs.declared.fault.TypeFault.TheVariants.{Unknown, Duplicate, Mismatch}
-use Rattle.opl_types.specs.Types.{Sort, is_single, is_set, sorts_of}
-use Rattle.opl_types.specs.Types.Sort.{int, set, array, activity, unary, discrete, anything}
-use Rattle.opl_types.specs.Scope.{Checked, ◌>>=◌, ◌>>◌, unless, Scope, Thing, Field, empty_scope, lookup, declared, fresh, all_fresh, with_values, fits_in, type_of}
-use Rattle.opl_types.specs.Scope.Thing.{range, enum_type, enum_name, struct_type, value, variable, activities, resource}
-use Rattle.opl_types.specs.Forms.{Form, Forms, Pairs, form_add, form_set}
-use Rattle.opl_types.specs.Forms.Form.{cells, keyed_cells}
-use Rattle.opl_types.specs.Forms.Forms.{no_forms, more_forms}
-use Rattle.opl_types.specs.Forms.Pairs.{no_pairs, more_pairs}
-use Rattle.opl_types.specs.Expressions.{Opened, kinds, kinds_in, used, data_number, typing, typed_set, or_anything}
-use Rattle.opl_types.specs.Expressions.Need.{data_alone}
+use Rattle.opl_type_rules.specs.declared.fault.TypeFault.TheVariants.{Unknown, Duplicate, Mismatch}
+use Rattle.opl_type_rules.specs.Types.{Sort, is_single, is_set, sorts_of}
+use Rattle.opl_type_rules.specs.Types.Sort.{int, set, array, activity, unary, discrete, anything}
+use Rattle.opl_type_rules.specs.Scope.{Checked, ◌>>=◌, ◌>>◌, unless, Scope, Thing, Field, empty_scope, lookup, declared, fresh, all_fresh, with_values, fits_in, type_of}
+use Rattle.opl_type_rules.specs.Scope.Thing.{range, enum_type, enum_name, struct_type, value, variable, activities, resource}
+use Rattle.opl_type_rules.specs.Forms.{Form, Forms, Pairs, form_add, form_set}
+use Rattle.opl_type_rules.specs.Forms.Form.{cells, keyed_cells}
+use Rattle.opl_type_rules.specs.Forms.Forms.{no_forms, more_forms}
+use Rattle.opl_type_rules.specs.Forms.Pairs.{no_pairs, more_pairs}
+use Rattle.opl_type_rules.specs.Expressions.{Opened, kinds, kinds_in, used, data_number, typing, typed_set, or_anything}
+use Rattle.opl_type_rules.specs.Expressions.Need.{data_alone}
 
 -- ---- types
 

@@ -20,19 +20,19 @@ use Rattle.opl_tree.specs.declared.instruction.InstrTree.{InstrTree}
 use Rattle.opl_tree.specs.declared.instruction.InstrTree.TheVariants as instrs
 use Rattle.opl_tree.specs.declared.model.ModelTree.{ModelTree}
 use Rattle.opl_tree.specs.declared.search.SearchTree.{SearchTree}
-use Rattle.opl_types.specs.declared.fault.TypeFault.{TypeFault}
-use Rattle.opl_types.specs.declared.fault.TypeFault.TheVariants.{OutOfMemory}
-use Rattle.opl_types.specs.Types.{Sort, is_set}
-use Rattle.opl_types.specs.Scope.{Scope, Entry, Text, empty_scope, sort_of, type_of}
-use Rattle.opl_types.specs.Forms.{Form, Forms, Pairs, SetForm, Groups, Params, form_expr, form_add, form_set}
-use Rattle.opl_types.specs.Forms.Form.{number, named, bracket, negative, arithmetic, absolute, related, member, connected, aggregate, cardinality, all_different, subscripted, field, tuple, listed, described, cells, keyed_cells, question}
-use Rattle.opl_types.specs.Forms.Forms.{no_forms, more_forms}
-use Rattle.opl_types.specs.Forms.Pairs.{no_pairs, more_pairs}
-use Rattle.opl_types.specs.Forms.SetForm.{whole, between}
-use Rattle.opl_types.specs.Forms.Groups.{no_groups, more_groups}
-use Rattle.opl_types.specs.Forms.Params.{all_of, those_of}
-use Rattle.opl_types.specs.Expressions.{Node, Need, Opened, or_anything, bind_patterns, typing, typed_set, open_groups, open_params}
-use Rattle.opl_types.specs.Expressions.Need.{data_alone}
+use Rattle.opl_type_rules.specs.declared.fault.TypeFault.{TypeFault}
+use Rattle.opl_type_rules.specs.declared.fault.TypeFault.TheVariants.{OutOfMemory}
+use Rattle.opl_type_rules.specs.Types.{Sort, is_set}
+use Rattle.opl_type_rules.specs.Scope.{Scope, Entry, Text, empty_scope, sort_of, type_of}
+use Rattle.opl_type_rules.specs.Forms.{Form, Forms, Pairs, SetForm, Groups, Params, form_expr, form_add, form_set}
+use Rattle.opl_type_rules.specs.Forms.Form.{number, named, bracket, negative, arithmetic, absolute, related, member, connected, aggregate, cardinality, all_different, subscripted, field, tuple, listed, described, cells, keyed_cells, question}
+use Rattle.opl_type_rules.specs.Forms.Forms.{no_forms, more_forms}
+use Rattle.opl_type_rules.specs.Forms.Pairs.{no_pairs, more_pairs}
+use Rattle.opl_type_rules.specs.Forms.SetForm.{whole, between}
+use Rattle.opl_type_rules.specs.Forms.Groups.{no_groups, more_groups}
+use Rattle.opl_type_rules.specs.Forms.Params.{all_of, those_of}
+use Rattle.opl_type_rules.specs.Expressions.{Node, Need, Opened, or_anything, bind_patterns, typing, typed_set, open_groups, open_params}
+use Rattle.opl_type_rules.specs.Expressions.Need.{data_alone}
 use Rattle.opl_types.specs.Declarations.{Shape, shape, all_dims, decl, next, all_decls}
 use Rattle.opl_types.specs.Models.{model}
 use Rattle.opl_types.specs.Uses.{Uses, block_uses, search_uses}

@@ -1,14 +1,6 @@
-pub mod Apart
 pub mod DeclarationSteps
 pub mod Declarations
-pub mod Expressions
-pub mod Forms
 pub mod Laws
 pub mod Models
-pub mod Places
 pub mod Resources
-pub mod Scope
-pub mod Steps
-pub mod Types
 pub mod Uses
-pub mod Values

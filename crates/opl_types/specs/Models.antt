@@ -25,14 +25,14 @@ use Rattle.opl_tree.specs.declared.search.StatementTree.{StatementTree}
 use Rattle.opl_tree.specs.declared.search.StatementTree.TheOpen.{StatementTree-F, StatementsTree-F, SearchBlockTree-F}
 use Rattle.opl_tree.specs.declared.search.StatementTree.TheFolds.{fold-StatementTree, fold-StatementsTree, fold-SearchBlockTree}
 use Rattle.opl_tree.specs.declared.search.StatementsTree.{StatementsTree}
-use Rattle.opl_types.specs.declared.fault.TypeFault.TheVariants.{Unknown, Mismatch}
-use Rattle.opl_types.specs.Types.{Sort, is_number, is_truth, is_activity, is_unary, is_discrete}
-use Rattle.opl_types.specs.Types.Sort.{array}
-use Rattle.opl_types.specs.Scope.{Checked, ◌>>=◌, ◌>>◌, unless, Scope, Thing, empty_scope, lookup}
-use Rattle.opl_types.specs.Scope.Thing.{resource}
-use Rattle.opl_types.specs.Forms.{form_expr, form_add, form_post, form_subscripts, form_params, forms_of}
-use Rattle.opl_types.specs.Expressions.{Node, Need, used, part, kinds, kinds_in, is_data, subscripts_fit, typing, typed_parts, open_params}
-use Rattle.opl_types.specs.Expressions.Need.{nothing, data_alone, data_or_questions}
+use Rattle.opl_type_rules.specs.declared.fault.TypeFault.TheVariants.{Unknown, Mismatch}
+use Rattle.opl_type_rules.specs.Types.{Sort, is_number, is_truth, is_activity, is_unary, is_discrete}
+use Rattle.opl_type_rules.specs.Types.Sort.{array}
+use Rattle.opl_type_rules.specs.Scope.{Checked, ◌>>=◌, ◌>>◌, unless, Scope, Thing, empty_scope, lookup}
+use Rattle.opl_type_rules.specs.Scope.Thing.{resource}
+use Rattle.opl_type_rules.specs.Forms.{form_expr, form_add, form_post, form_subscripts, form_params, forms_of}
+use Rattle.opl_type_rules.specs.Expressions.{Node, Need, used, part, kinds, kinds_in, is_data, subscripts_fit, typing, typed_parts, open_params}
+use Rattle.opl_type_rules.specs.Expressions.Need.{nothing, data_alone, data_or_questions}
 use Rattle.opl_types.specs.Declarations.{all_decls, maybe_number}
 
 -- the types of the expressions in what is looked at, or its first fault

@@ -1,12 +1,12 @@
 -- The rules of the instruction as the program goes through them: what stands for the resource of a `requires`, and the objective.
 use Rattle.std.specs.Prelude.{List, Option, Some, None, Ok}
 use Rattle.opl_tree.specs.declared.expression.ExprTree.{ExprTree}
-use Rattle.opl_types.specs.Types.{Sort, is_number}
-use Rattle.opl_types.specs.Scope.{Checked, ◌>>=◌, Scope, Thing}
-use Rattle.opl_types.specs.Scope.Thing.{range}
-use Rattle.opl_types.specs.Forms.{form_expr}
-use Rattle.opl_types.specs.Expressions.{kinds, used, typing}
-use Rattle.opl_types.specs.Expressions.Need.{nothing}
+use Rattle.opl_type_rules.specs.Types.{Sort, is_number}
+use Rattle.opl_type_rules.specs.Scope.{Checked, ◌>>=◌, Scope, Thing}
+use Rattle.opl_type_rules.specs.Scope.Thing.{range}
+use Rattle.opl_type_rules.specs.Forms.{form_expr}
+use Rattle.opl_type_rules.specs.Expressions.{kinds, used, typing}
+use Rattle.opl_type_rules.specs.Expressions.Need.{nothing}
 
 -- what is found, else what is no resource
 abbrev pub or_range : Option Thing → Thing

@@ -14,10 +14,10 @@ use Rattle.opl_tree.specs.declared.search.StatementTree.{StatementTree}
 use Rattle.opl_tree.specs.declared.search.StatementTree.TheOpen.{StatementTree-F, StatementsTree-F, SearchBlockTree-F}
 use Rattle.opl_tree.specs.declared.search.StatementTree.TheFolds.{fold-StatementTree, fold-StatementsTree, fold-SearchBlockTree}
 use Rattle.opl_tree.specs.declared.search.StatementsTree.{StatementsTree}
-use Rattle.opl_types.specs.Forms.{Form, Forms, Params, form_expr, form_add, form_post, form_subscripts, form_params, forms_of}
-use Rattle.opl_types.specs.Forms.Form.{named}
-use Rattle.opl_types.specs.Expressions.{Need}
-use Rattle.opl_types.specs.Expressions.Need.{data_alone, data_or_questions}
+use Rattle.opl_type_rules.specs.Forms.{Form, Forms, Params, form_expr, form_add, form_post, form_subscripts, form_params, forms_of}
+use Rattle.opl_type_rules.specs.Forms.Form.{named}
+use Rattle.opl_type_rules.specs.Expressions.{Need}
+use Rattle.opl_type_rules.specs.Expressions.Need.{data_alone, data_or_questions}
 
 -- nothing, expressions, one after the other, or what stands behind parameters whose condition meets the need
 pub data Uses : Type 0 where

@@ -3,27 +3,26 @@ ghost use Rattle.std.specs.Option.{option_map};
 ghost use Rattle.std.specs.Prelude.{◌≡◌, ◌++◌, ◌∷◌, [], Ok, is_some, map};
 ghost use Rattle.opl_types.specs.Declarations as spec;
 ghost use Rattle.opl_types.specs.DeclarationSteps as step;
-ghost use Rattle.opl_types.specs.Expressions as expressions;
-ghost use Rattle.opl_types.specs.Forms.{form_add, form_keyed, forms_of};
-ghost use Rattle.opl_types.specs.Scope as scope;
-ghost use Rattle.opl_types.specs.Steps.{front, behind};
-ghost use Rattle.opl_types.specs.Types.{sort};
-ghost use Rattle.opl_types.specs.Values.{Does, Gives, field_of, scope_of, within};
+ghost use Rattle.opl_type_rules.specs.Expressions as expressions;
+ghost use Rattle.opl_type_rules.specs.Forms.{form_add, form_keyed, forms_of};
+ghost use Rattle.opl_type_rules.specs.Scope as scope;
+ghost use Rattle.opl_type_rules.specs.Steps.{front, behind};
+ghost use Rattle.opl_type_rules.specs.Types.{sort};
+ghost use Rattle.opl_type_rules.specs.Values.{Does, Gives, field_of, scope_of, within};
 
-use crate::expression::{add, set};
-use crate::fault::TypeFault;
-use crate::fit::fits;
-use crate::kind::{Ty, copies};
-use crate::names::{Entry, Field, Local, Names, Thing, add_local, fresh};
-use crate::node::{Need, Node};
-use crate::plain::{Cells, cells_of};
-use crate::rules::{Range, add_kinds, append, kinds_in};
+use opl_expression_types::{Cells, add, cells_of, set};
 use opl_list::{Boxed, Seq};
 use opl_tree::{
     ActivityTree, AddTree, BoundsTree, DataTree, DeclTree, DimTree, DimsTree, DiscreteTree,
     EnumNamesTree, EnumTree, FieldTree, InitialTree, KeyedTree, NameTree, RangeTree, ScheduleEnd,
     ScheduleTree, StructTree, TypeTree, UnaryTree, VariableTree, VariableTypeTree,
 };
+use opl_type_rules::fault::TypeFault;
+use opl_type_rules::fit::fits;
+use opl_type_rules::kind::{Ty, copies};
+use opl_type_rules::names::{Field, Local, Names, Thing, add_local, fresh};
+use opl_type_rules::node::{Need, Node};
+use opl_type_rules::rules::{Range, add_kinds, append, kinds_in};
 use std::alloc::Global;
 
 /// The type that a name stands for.
@@ -41,7 +40,7 @@ fn named_type(model: &Names<'_>, name: &NameTree) -> Result<Ty, TypeFault>
 }
 
 /// The type that is written.
-#[tactic(auto, using(crate::proofs::Declared::written, crate::proofs::Sorts::sorts))]
+#[tactic(auto, using(crate::proofs::Declared::written, opl_type_rules::proofs::Sorts::sorts))]
 #[cycle(types)]
 fn written_type(alloc: Global, model: &Names<'_>, t: &TypeTree) -> Result<Ty, TypeFault>
     ensures { Gives sort (spec.written_type t.now (scope_of model.now)) result }
@@ -76,7 +75,7 @@ fn fresh_name(model: &Names<'_>, locals: &[Local], name: &Option<NameTree>) -> R
 }
 
 /// The type of the elements of a set; what ranges over nothing may be anything.
-#[tactic(auto, using(crate::proofs::Sorts::sorts))]
+#[tactic(auto, using(opl_type_rules::proofs::Sorts::sorts))]
 fn or_anything(element: Option<Ty>) -> Ty
     ensures { sort result ≡ expressions.or_anything (option_map sort element) }
 {
@@ -186,7 +185,7 @@ fn cell_indices<'a>(names: &[Local], indices: &'a [Ty]) -> &'a [Ty]
 }
 
 /// An item, or an array of such with these indices.
-#[tactic(auto, using(crate::proofs::Declared::shapes, crate::proofs::Sorts::sorts))]
+#[tactic(auto, using(crate::proofs::Declared::shapes, opl_type_rules::proofs::Sorts::sorts))]
 fn shaped(alloc: Global, indices: &[Ty], element: &Ty) -> Result<Ty, TypeFault>
     ensures { Gives sort (Ok (spec.shaped (map sort indices.now) (sort element.now))) result }
 {
@@ -568,7 +567,7 @@ fn structure<'a>(
 }
 
 /// The type of a variable.
-#[tactic(auto, using(crate::proofs::Sorts::sorts))]
+#[tactic(auto, using(opl_type_rules::proofs::Sorts::sorts))]
 fn variable_type(model: &Names<'_>, t: &VariableTypeTree) -> Result<Ty, TypeFault>
     ensures { Gives sort (spec.variable_type (scope_of model.now) t.now) result }
 {
@@ -616,7 +615,7 @@ fn variable<'a>(
 }
 
 /// `Activity NAME [DIMS] (ADD..ADD);`
-#[tactic(auto, using(crate::proofs::Declared::names_within, crate::proofs::Sorts::sorts))]
+#[tactic(auto, using(crate::proofs::Declared::names_within, opl_type_rules::proofs::Sorts::sorts))]
 fn activity<'a>(
     alloc: Global,
     model: &mut Names<'a>,
@@ -640,7 +639,7 @@ fn activity<'a>(
 }
 
 /// `UnaryResource NAME [DIMS];`
-#[tactic(auto, using(crate::proofs::Declared::names_within, crate::proofs::Sorts::sorts))]
+#[tactic(auto, using(crate::proofs::Declared::names_within, opl_type_rules::proofs::Sorts::sorts))]
 fn unary<'a>(
     alloc: Global,
     model: &mut Names<'a>,
@@ -662,7 +661,7 @@ fn unary<'a>(
 }
 
 /// `DiscreteResource NAME [DIMS] (ADD);`
-#[tactic(auto, using(crate::proofs::Declared::names_within, crate::proofs::Sorts::sorts))]
+#[tactic(auto, using(crate::proofs::Declared::names_within, opl_type_rules::proofs::Sorts::sorts))]
 fn discrete<'a>(
     alloc: Global,
     model: &mut Names<'a>,

@@ -5,23 +5,23 @@ ghost use Rattle.opl_types.specs.Declarations.{maybe_number};
 ghost use Rattle.opl_types.specs.Models as spec;
 ghost use Rattle.opl_types.specs.Resources.{or_range};
 ghost use Rattle.opl_types.specs.Resources as step;
-ghost use Rattle.opl_types.specs.Scope.{lookup};
-ghost use Rattle.opl_types.specs.Steps.{front};
-ghost use Rattle.opl_types.specs.Types.{sort};
-ghost use Rattle.opl_types.specs.Values.{Gives, need_of, node_of, scope_of, thing_of, within};
+ghost use Rattle.opl_type_rules.specs.Scope.{lookup};
+ghost use Rattle.opl_type_rules.specs.Steps.{front};
+ghost use Rattle.opl_type_rules.specs.Types.{sort};
+ghost use Rattle.opl_type_rules.specs.Values.{Gives, need_of, node_of, scope_of, thing_of, within};
 
-use crate::expression::{add, expr, open_params, post, subscripts};
-use crate::fault::TypeFault;
-use crate::fit::fits_subscripts;
-use crate::kind::Ty;
-use crate::names::{Local, Names, Thing, local_type};
-use crate::node::{Need, Node};
-use crate::rules::{add_kinds, all_data, append, kinds_in};
+use opl_expression_types::{add, expr, open_params, post, subscripts};
 use opl_list::Seq;
 use opl_tree::{
     AddTree, BlockTree, ExprTree, InstrTree, ItemTree, ItemsTree, NameTree, PostTree, RequiresTree,
     SubscriptsTree,
 };
+use opl_type_rules::fault::TypeFault;
+use opl_type_rules::fit::fits_subscripts;
+use opl_type_rules::kind::Ty;
+use opl_type_rules::names::{Local, Names, Thing, local_type};
+use opl_type_rules::node::{Need, Node};
+use opl_type_rules::rules::{add_kinds, all_data, append, kinds_in};
 use std::alloc::Global;
 
 /// A condition in its place.
@@ -74,7 +74,7 @@ fn is_demanded(demand: &Option<AddTree>, ty: &Ty) -> bool
 }
 
 /// Whether the resource, or its element with these subscripts, may be required.
-#[tactic(auto, using(crate::proofs::Sorts::sorts))]
+#[tactic(auto, using(opl_type_rules::proofs::Sorts::sorts))]
 fn is_resource(model: &Names<'_>, t: &RequiresTree, subscripts: &[Node], thing: &Thing) -> bool
     ensures { result ≡ spec.is_resource (scope_of model.now) t.now (map node_of subscripts.now) (thing_of thing.now) }
 {

@@ -2,22 +2,11 @@
 #![tactic(auto)]
 
 mod declaration;
-mod expression;
-mod fault;
-mod fit;
 mod item;
-mod join;
-mod kind;
 pub mod laws;
-mod names;
-mod node;
-mod pattern;
-mod plain;
-mod rules;
 mod search;
 mod typed;
-mod visible;
 
-pub use fault::TypeFault;
-pub use kind::Ty;
+pub use opl_type_rules::fault::TypeFault;
+pub use opl_type_rules::kind::Ty;
 pub use typed::{Typed, check};

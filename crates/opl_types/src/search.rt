@@ -2,19 +2,19 @@
 ghost use Rattle.std.specs.Prelude.{◌≡◌, ◌∷◌, [], map};
 ghost use Rattle.std.specs.Option.{option_map};
 ghost use Rattle.opl_types.specs.Models as spec;
-ghost use Rattle.opl_types.specs.Steps.{front};
-ghost use Rattle.opl_types.specs.Types.{sort};
-ghost use Rattle.opl_types.specs.Values.{Gives, within};
+ghost use Rattle.opl_type_rules.specs.Steps.{front};
+ghost use Rattle.opl_type_rules.specs.Types.{sort};
+ghost use Rattle.opl_type_rules.specs.Values.{Gives, within};
 
-use crate::expression::{add, open_params, post};
-use crate::fault::TypeFault;
 use crate::item::{condition, precedes};
-use crate::kind::Ty;
-use crate::names::{Local, Names};
-use crate::node::Need;
-use crate::rules::{add_kinds, append};
+use opl_expression_types::{add, open_params, post};
 use opl_list::Seq;
 use opl_tree::{LabelOp, OrderTree, PostTree, SearchBlockTree, StatementTree, StatementsTree};
+use opl_type_rules::fault::TypeFault;
+use opl_type_rules::kind::Ty;
+use opl_type_rules::names::{Local, Names};
+use opl_type_rules::node::Need;
+use opl_type_rules::rules::{add_kinds, append};
 use std::alloc::Global;
 
 /// `generate (POST)` or `rank (POST)`

@@ -1,19 +1,19 @@
 //! Models with the types of their expressions.
 ghost use Rattle.std.specs.Prelude.{◌≡◌, Ok, IfOk, map, true};
-ghost use Rattle.opl_types.specs.Apart.{Checked-set};
+ghost use Rattle.opl_type_rules.specs.Apart.{Checked-set};
 ghost use Rattle.opl_types.specs.Models as spec;
-ghost use Rattle.opl_types.specs.Steps.{front};
-ghost use Rattle.opl_types.specs.Types.{sort};
-ghost use Rattle.opl_types.specs.Values.{Gives, scope_of};
+ghost use Rattle.opl_type_rules.specs.Steps.{front};
+ghost use Rattle.opl_type_rules.specs.Types.{sort};
+ghost use Rattle.opl_type_rules.specs.Values.{Gives, scope_of};
 
 use crate::declaration::all_decls;
-use crate::fault::TypeFault;
 use crate::item::instr;
-use crate::kind::Ty;
-use crate::names::Names;
 use crate::search::search_block;
 use opl_list::Seq;
 use opl_tree::{ModelTree, SearchTree};
+use opl_type_rules::fault::TypeFault;
+use opl_type_rules::kind::Ty;
+use opl_type_rules::names::Names;
 use std::alloc::Global;
 
 /// A model whose expressions fit together, with their types.

@@ -1,5 +1,5 @@
 use Rattle.std.proofs.Common.{◌≡◌, ◌++◌, map, drop}
-use Rattle.opl_types.specs.Types.{sort}
+use Rattle.opl_type_rules.specs.Types.{sort}
 use Rattle.opl_fields.specs.Fields.{record_of}
 use Rattle.opl_fields.proofs.model.records.Given as goal
 

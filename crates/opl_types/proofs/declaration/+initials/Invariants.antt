@@ -1,8 +1,8 @@
 use Rattle.std.proofs.Common.{◌≡◌, ◌+◌, ◌*◌, length, map, drop}
 use Rattle.opl_types.specs.DeclarationSteps.{cells_behind, pairs_behind}
-use Rattle.opl_types.specs.Forms.{form_add, form_keyed, forms_of}
-use Rattle.opl_types.specs.Types.{sort}
-use Rattle.opl_types.specs.Values.{within}
+use Rattle.opl_type_rules.specs.Forms.{form_add, form_keyed, forms_of}
+use Rattle.opl_type_rules.specs.Types.{sort}
+use Rattle.opl_type_rules.specs.Values.{within}
 use Rattle.opl_types.proofs.declaration.+initials.Given as goal
 
 -- an array's cells have one index less

@@ -1,7 +1,7 @@
 use Rattle.std.proofs.Common.{◌≡◌, drop, map}
 use Rattle.opl_types.specs.DeclarationSteps.{decls_behind}
-use Rattle.opl_types.specs.Types.{sort}
-use Rattle.opl_types.specs.Values.{scope_of}
+use Rattle.opl_type_rules.specs.Types.{sort}
+use Rattle.opl_type_rules.specs.Values.{scope_of}
 use Rattle.opl_types.proofs.declaration.add_decls.Given as goal
 
 abbrev pub invariant-loop-t : goal.invariant-loop-t

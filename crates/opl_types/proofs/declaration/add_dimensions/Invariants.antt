@@ -1,6 +1,6 @@
 use Rattle.std.proofs.Common.{◌≡◌, drop}
 use Rattle.opl_types.specs.DeclarationSteps.{see_each, seen_in}
-use Rattle.opl_types.specs.Values.{scope_of}
+use Rattle.opl_type_rules.specs.Values.{scope_of}
 use Rattle.opl_types.proofs.declaration.add_dimensions.Given as goal
 
 abbrev pub invariant-loop-dim : goal.invariant-loop-dim

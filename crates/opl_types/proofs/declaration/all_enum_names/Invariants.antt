@@ -1,6 +1,6 @@
 use Rattle.std.proofs.Common.{◌≡◌, drop}
 use Rattle.opl_types.specs.DeclarationSteps.{name_each}
-use Rattle.opl_types.specs.Values.{scope_of}
+use Rattle.opl_type_rules.specs.Values.{scope_of}
 use Rattle.opl_types.proofs.declaration.all_enum_names.Given as goal
 
 abbrev pub invariant-loop-name : goal.invariant-loop-name

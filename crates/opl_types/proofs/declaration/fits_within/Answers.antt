@@ -1,5 +1,5 @@
 use Rattle.std.proofs.Common.{◌∙◌}
-use Rattle.opl_types.specs.Types.{sort}
+use Rattle.opl_type_rules.specs.Types.{sort}
 use Rattle.opl_types.proofs.Declared.{fits-within}
 use Rattle.opl_types.proofs.declaration.fits_within.Goals as goal
 

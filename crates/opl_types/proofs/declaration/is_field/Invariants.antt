@@ -1,6 +1,6 @@
 use Rattle.std.proofs.Common.{◌≡◌, drop, is_some, map}
-use Rattle.opl_types.specs.Scope.{field_sort}
-use Rattle.opl_types.specs.Values.{field_of}
+use Rattle.opl_type_rules.specs.Scope.{field_sort}
+use Rattle.opl_type_rules.specs.Values.{field_of}
 use Rattle.opl_types.proofs.declaration.is_field.Given as goal
 
 abbrev pub invariant-loop-field : goal.invariant-loop-field

@@ -1,6 +1,7 @@
 use Rattle.std.proofs.Common.{◌≡◌, ◌++◌, map}
-use Rattle.opl_types.specs.Types.{sort}
-use Rattle.opl_types.specs.Values.{opened_in, within}
+use Rattle.opl_type_rules.specs.Types.{sort}
+use Rattle.opl_type_rules.specs.Values.{within}
+use Rattle.opl_expression_types.specs.Values.{opened_in}
 use Rattle.opl_types.proofs.Items.{for_all-adds, if-adds, several-adds, sorts-behind}
 use Rattle.opl_types.proofs.item.+items.Goals as goal
 

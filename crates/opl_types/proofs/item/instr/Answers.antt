@@ -1,6 +1,6 @@
 use Rattle.std.proofs.Common.{map}
-use Rattle.opl_types.specs.Types.{sort}
-use Rattle.opl_types.specs.Values.{scope_of}
+use Rattle.opl_type_rules.specs.Types.{sort}
+use Rattle.opl_type_rules.specs.Values.{scope_of}
 use Rattle.opl_types.proofs.Items.{optimize-adds, within-none}
 use Rattle.opl_types.proofs.item.instr.Goals as goal
 

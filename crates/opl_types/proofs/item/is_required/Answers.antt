@@ -1,5 +1,5 @@
 use Rattle.std.proofs.Common.{map}
-use Rattle.opl_types.specs.Values.{node_of, thing_of}
+use Rattle.opl_type_rules.specs.Values.{node_of, thing_of}
 use Rattle.opl_types.proofs.Resources.{thing-required}
 use Rattle.opl_types.proofs.item.is_required.Goals as goal
 

@@ -1,9 +1,10 @@
 use Rattle.std.proofs.Common.{◌≡◌, [], ◌∷◌, ◌++◌, map, ap}
 use Rattle.std.proofs.lemmas.Result.{err_from_is_err_and}
 use Rattle.opl_types.specs.Models.{each, order, statement}
-use Rattle.opl_types.specs.Steps.{front}
-use Rattle.opl_types.specs.Types.{sort}
-use Rattle.opl_types.specs.Values.{opened_in, within}
+use Rattle.opl_type_rules.specs.Steps.{front}
+use Rattle.opl_type_rules.specs.Types.{sort}
+use Rattle.opl_type_rules.specs.Values.{within}
+use Rattle.opl_expression_types.specs.Values.{opened_in}
 use Rattle.opl_types.proofs.Items.{try-adds, branch-adds, branch-same, err-same, while-adds, statement_if-adds, statements-adds, sorts-behind}
 use Rattle.opl_types.proofs.search.+statements.Goals as goal
 

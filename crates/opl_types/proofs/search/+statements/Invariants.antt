@@ -1,8 +1,8 @@
 use Rattle.std.proofs.Common.{◌≡◌, map, drop}
 use Rattle.opl_types.specs.Models.{each, statement, statements}
-use Rattle.opl_types.specs.Steps.{front}
-use Rattle.opl_types.specs.Types.{sort}
-use Rattle.opl_types.specs.Values.{within}
+use Rattle.opl_type_rules.specs.Steps.{front}
+use Rattle.opl_type_rules.specs.Types.{sort}
+use Rattle.opl_type_rules.specs.Values.{within}
 use Rattle.opl_types.proofs.search.+statements.Given as goal
 
 abbrev pub invariant-alternatives-loop-other : goal.invariant-alternatives-loop-other

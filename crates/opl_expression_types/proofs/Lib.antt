@@ -1,0 +1,9 @@
+pub mod ArrayCells
+pub mod Examples
+pub mod Inside
+pub mod Likeness
+pub mod Loops
+pub mod Opening
+pub mod Patterns
+pub mod Pure
+pub mod Typing

@@ -1,0 +1,371 @@
+use Rattle.std.proofs.Common.{Err, Ok, Some, [], ap, drop, map, refl, rules, subst, sym, ◌++◌, ◌+◌, ◌∙◌, ◌∷◌}
+use Rattle.std.specs.Option.{option_map}
+use Rattle.opl_tree.specs.declared.expression.CompareTree.TheViews.{out-AddTree, out-AndTree, out-ExprTree, out-GroupStep, out-GroupTree, out-KeyedTree, out-LastStep, out-OrTree, out-ParamsTree, out-PostTree, out-SubscriptsTree}
+use Rattle.opl_type_rules.specs.Expressions.{all_sorts, made, open_groups, open_params, typed_parts, typing}
+use Rattle.opl_type_rules.specs.Expressions.Need.{data_alone}
+use Rattle.opl_type_rules.specs.Forms.{form_add, form_add_step, form_and, form_expr, form_group, form_group_step, form_imp, form_keyed, form_last_step, form_mul, form_mul_step, form_neg, form_open, form_or, form_params, form_post, form_prim, form_set, form_sign, form_subscripts, form_suffix, forms_of, groups_of, or_none}
+use Rattle.opl_type_rules.specs.Forms.Form.{arithmetic, connected}
+use Rattle.opl_type_rules.specs.Scope.{and_then}
+use Rattle.opl_type_rules.specs.Steps.{open_each, suffixed}
+use Rattle.opl_type_rules.specs.Types.{is_number, is_truth, sort}
+use Rattle.opl_type_rules.specs.Types.Sort.{bool, int}
+use Rattle.opl_type_rules.specs.Values.{Gives, need_of, node_of, within}
+use Rattle.opl_expression_types.specs.Values.{opened_in}
+use Rattle.opl_type_rules.proofs.Chains.{gives-same}
+use Rattle.opl_type_rules.proofs.Forms.{form_add-is, form_and-is, form_expr-is, form_group-is, form_group_step-is, form_keyed-is, form_last_step-is, form_mul-Product, form_or-is, form_params-is, form_post-is, form_subscripts-is, form_suffix-Field, form_suffix-Subscripts}
+use Rattle.opl_expression_types.proofs.Loops.{back_alone, back_made, back_wrong, cell_fault, cell_wrong, chain_made, chain_wrong, first_fault, first_typed, front_wrong, key_fault, key_wrong, last_added, last_fault, last_wrong, none_left, pair_added, pairs_end, part_added, part_fault, part_wrong, parts_end}
+use Rattle.opl_expression_types.proofs.Opening.{base_wrong, condition_fault, condition_taken, condition_wrong, described_fault, described_made, described_wrong, group_fault, group_here, group_made, group_opened, groups_begin, groups_end, no_condition, params_fault, post_fault, suffix_added, suffix_element, suffix_fault, suffix_field, suffixes_end, wrongly}
+use Rattle.opl_type_rules.proofs.Steps.{typing-suffixes}
+use Rattle.opl_expression_types.proofs.Typing.{typing-arithmetic, typing-connected}
+use Rattle.opl_expression_types.proofs.expression.+expressions.Goals as goal
+
+pub expr-returns-in_err-parts : goal.expr-returns-in_err-parts
+expr-returns-in_err-parts t c =
+    let h = chain_wrong (within c.args.model.now c.args.locals.now) (connected (out-ExprTree c.args.t.now).at) (λ ns. made (out-ExprTree c.args.t.now).at bool ns (all_sorts is_truth ns)) (typing-connected _ (out-ExprTree c.args.t.now).at) (form_expr c.args.t.now) (form_imp (out-ExprTree c.args.t.now).first) (map form_imp (out-ExprTree c.args.t.now).rest) (map form_imp c.as_slice.result.now) (form_expr-is c.args.t.now) (ap (map form_imp) c.as_slice.ensures) (none_left form_imp (out-ExprTree c.args.t.now).rest c.if-is_empty.ensures.1) c.in_ok-first.first c.in_ok-first.ensures c.in_err-parts.field-0.0 c.in_err-parts.ensures in
+    search rules
+
+pub expr-returns : goal.expr-returns
+expr-returns t c =
+    chain_made (within c.args.model.now c.args.locals.now) (connected (out-ExprTree c.args.t.now).at) (λ ns. made (out-ExprTree c.args.t.now).at bool ns (all_sorts is_truth ns)) (typing-connected _ (out-ExprTree c.args.t.now).at) (form_expr c.args.t.now) (form_imp (out-ExprTree c.args.t.now).first) (map form_imp (out-ExprTree c.args.t.now).rest) (map form_imp c.as_slice.result.now) (form_expr-is c.args.t.now) (ap (map form_imp) c.as_slice.ensures) (none_left form_imp (out-ExprTree c.args.t.now).rest c.if-is_empty.ensures.1) c.in_ok-first.first c.in_ok-first.ensures c.in_ok-parts.parts c.in_ok-parts.ensures c.connected.result c.connected.ensures
+
+pub imps-returns-in_err-imp : goal.imps-returns-in_err-imp
+imps-returns-in_err-imp t c =
+    let h = part_fault (within c.args.model.now c.args.locals.now) form_imp _ c.args.rest.now c.loop-t.t-index c.loop-t.found c.loop-t.invariant c.t-item.result c.loop-t-test.true c.t-item.is c.in_err-imp.field-0.0 c.in_err-imp.ensures in
+    search rules
+
+pub imps-returns-in_err-part-2 : goal.imps-returns-in_err-part-2
+imps-returns-in_err-part-2 t c =
+    let h = part_wrong (within c.args.model.now c.args.locals.now) form_imp _ c.args.rest.now c.loop-t.t-index c.loop-t.found c.loop-t.invariant c.t-item.result c.loop-t-test.true c.t-item.is c.in_ok-imp.field-0 c.in_ok-imp.ensures c.in_err-part-2.field-0.0 c.in_err-part-2.ensures in
+    search rules
+
+pub imps-loop-t-preserved : goal.imps-loop-t-preserved
+imps-loop-t-preserved t c =
+    part_added (within c.args.model.now c.args.locals.now) form_imp _ c.args.rest.now c.loop-t.t-index c.loop-t.found c.loop-t.invariant c.t-item.result c.loop-t-test.true c.t-item.is c.in_ok-imp.field-0 c.in_ok-part-2.field-0 c.in_ok-imp.ensures c.in_ok-part-2.ensures c.push-in-loop-t.new.self c.in_ok-push-2.ensures.ok
+
+pub imps-returns : goal.imps-returns
+imps-returns t c =
+    parts_end (within c.args.model.now c.args.locals.now) form_imp _ c.args.rest.now c.loop-t.t-index c.loop-t.found c.loop-t.invariant c.loop-t-test.false
+
+pub or-returns-in_err-parts : goal.or-returns-in_err-parts
+or-returns-in_err-parts t c =
+    let h = chain_wrong (within c.args.model.now c.args.locals.now) (connected (out-OrTree c.args.t.now).at) (λ ns. made (out-OrTree c.args.t.now).at bool ns (all_sorts is_truth ns)) (typing-connected _ (out-OrTree c.args.t.now).at) (form_or c.args.t.now) (form_and (out-OrTree c.args.t.now).first) (map form_and (out-OrTree c.args.t.now).rest) (map form_and c.as_slice.result.now) (form_or-is c.args.t.now) (ap (map form_and) c.as_slice.ensures) (none_left form_and (out-OrTree c.args.t.now).rest c.if-is_empty.ensures.1) c.in_ok-first.first c.in_ok-first.ensures c.in_err-parts.field-0.0 c.in_err-parts.ensures in
+    search rules
+
+pub or-returns : goal.or-returns
+or-returns t c =
+    chain_made (within c.args.model.now c.args.locals.now) (connected (out-OrTree c.args.t.now).at) (λ ns. made (out-OrTree c.args.t.now).at bool ns (all_sorts is_truth ns)) (typing-connected _ (out-OrTree c.args.t.now).at) (form_or c.args.t.now) (form_and (out-OrTree c.args.t.now).first) (map form_and (out-OrTree c.args.t.now).rest) (map form_and c.as_slice.result.now) (form_or-is c.args.t.now) (ap (map form_and) c.as_slice.ensures) (none_left form_and (out-OrTree c.args.t.now).rest c.if-is_empty.ensures.1) c.in_ok-first.first c.in_ok-first.ensures c.in_ok-parts.parts c.in_ok-parts.ensures c.connected.result c.connected.ensures
+
+pub ands-returns-in_err-and : goal.ands-returns-in_err-and
+ands-returns-in_err-and t c =
+    let h = part_fault (within c.args.model.now c.args.locals.now) form_and _ c.args.rest.now c.loop-t.t-index c.loop-t.found c.loop-t.invariant c.t-item.result c.loop-t-test.true c.t-item.is c.in_err-and.field-0.0 c.in_err-and.ensures in
+    search rules
+
+pub ands-returns-in_err-part-2 : goal.ands-returns-in_err-part-2
+ands-returns-in_err-part-2 t c =
+    let h = part_wrong (within c.args.model.now c.args.locals.now) form_and _ c.args.rest.now c.loop-t.t-index c.loop-t.found c.loop-t.invariant c.t-item.result c.loop-t-test.true c.t-item.is c.in_ok-and.field-0 c.in_ok-and.ensures c.in_err-part-2.field-0.0 c.in_err-part-2.ensures in
+    search rules
+
+pub ands-loop-t-preserved : goal.ands-loop-t-preserved
+ands-loop-t-preserved t c =
+    part_added (within c.args.model.now c.args.locals.now) form_and _ c.args.rest.now c.loop-t.t-index c.loop-t.found c.loop-t.invariant c.t-item.result c.loop-t-test.true c.t-item.is c.in_ok-and.field-0 c.in_ok-part-2.field-0 c.in_ok-and.ensures c.in_ok-part-2.ensures c.push-in-loop-t.new.self c.in_ok-push-2.ensures.ok
+
+pub ands-returns : goal.ands-returns
+ands-returns t c =
+    parts_end (within c.args.model.now c.args.locals.now) form_and _ c.args.rest.now c.loop-t.t-index c.loop-t.found c.loop-t.invariant c.loop-t-test.false
+
+pub and-returns-in_err-parts : goal.and-returns-in_err-parts
+and-returns-in_err-parts t c =
+    let h = chain_wrong (within c.args.model.now c.args.locals.now) (connected (out-AndTree c.args.t.now).at) (λ ns. made (out-AndTree c.args.t.now).at bool ns (all_sorts is_truth ns)) (typing-connected _ (out-AndTree c.args.t.now).at) (form_and c.args.t.now) (form_neg (out-AndTree c.args.t.now).first) (map form_neg (out-AndTree c.args.t.now).rest) (map form_neg c.as_slice.result.now) (form_and-is c.args.t.now) (ap (map form_neg) c.as_slice.ensures) (none_left form_neg (out-AndTree c.args.t.now).rest c.if-is_empty.ensures.1) c.in_ok-first.first c.in_ok-first.ensures c.in_err-parts.field-0.0 c.in_err-parts.ensures in
+    search rules
+
+pub and-returns : goal.and-returns
+and-returns t c =
+    chain_made (within c.args.model.now c.args.locals.now) (connected (out-AndTree c.args.t.now).at) (λ ns. made (out-AndTree c.args.t.now).at bool ns (all_sorts is_truth ns)) (typing-connected _ (out-AndTree c.args.t.now).at) (form_and c.args.t.now) (form_neg (out-AndTree c.args.t.now).first) (map form_neg (out-AndTree c.args.t.now).rest) (map form_neg c.as_slice.result.now) (form_and-is c.args.t.now) (ap (map form_neg) c.as_slice.ensures) (none_left form_neg (out-AndTree c.args.t.now).rest c.if-is_empty.ensures.1) c.in_ok-first.first c.in_ok-first.ensures c.in_ok-parts.parts c.in_ok-parts.ensures c.connected.result c.connected.ensures
+
+pub negs-returns-in_err-neg : goal.negs-returns-in_err-neg
+negs-returns-in_err-neg t c =
+    let h = part_fault (within c.args.model.now c.args.locals.now) form_neg _ c.args.rest.now c.loop-t.t-index c.loop-t.found c.loop-t.invariant c.t-item.result c.loop-t-test.true c.t-item.is c.in_err-neg.field-0.0 c.in_err-neg.ensures in
+    search rules
+
+pub negs-returns-in_err-part-2 : goal.negs-returns-in_err-part-2
+negs-returns-in_err-part-2 t c =
+    let h = part_wrong (within c.args.model.now c.args.locals.now) form_neg _ c.args.rest.now c.loop-t.t-index c.loop-t.found c.loop-t.invariant c.t-item.result c.loop-t-test.true c.t-item.is c.in_ok-neg.field-0 c.in_ok-neg.ensures c.in_err-part-2.field-0.0 c.in_err-part-2.ensures in
+    search rules
+
+pub negs-loop-t-preserved : goal.negs-loop-t-preserved
+negs-loop-t-preserved t c =
+    part_added (within c.args.model.now c.args.locals.now) form_neg _ c.args.rest.now c.loop-t.t-index c.loop-t.found c.loop-t.invariant c.t-item.result c.loop-t-test.true c.t-item.is c.in_ok-neg.field-0 c.in_ok-part-2.field-0 c.in_ok-neg.ensures c.in_ok-part-2.ensures c.push-in-loop-t.new.self c.in_ok-push-2.ensures.ok
+
+pub negs-returns : goal.negs-returns
+negs-returns t c =
+    parts_end (within c.args.model.now c.args.locals.now) form_neg _ c.args.rest.now c.loop-t.t-index c.loop-t.found c.loop-t.invariant c.loop-t-test.false
+
+pub add-returns-in_err-parts : goal.add-returns-in_err-parts
+add-returns-in_err-parts t c =
+    let h = chain_wrong (within c.args.model.now c.args.locals.now) (arithmetic (out-AddTree c.args.t.now).at) (λ ns. made (out-AddTree c.args.t.now).at int ns (all_sorts is_number ns)) (typing-arithmetic _ (out-AddTree c.args.t.now).at) (form_add c.args.t.now) (form_mul (out-AddTree c.args.t.now).first) (map form_add_step (out-AddTree c.args.t.now).rest) (map form_add_step c.as_slice.result.now) (form_add-is c.args.t.now) (ap (map form_add_step) c.as_slice.ensures) (none_left form_add_step (out-AddTree c.args.t.now).rest c.if-is_empty.ensures.1) c.in_ok-first.first c.in_ok-first.ensures c.in_err-parts.field-0.0 c.in_err-parts.ensures in
+    search rules
+
+pub add-returns : goal.add-returns
+add-returns t c =
+    chain_made (within c.args.model.now c.args.locals.now) (arithmetic (out-AddTree c.args.t.now).at) (λ ns. made (out-AddTree c.args.t.now).at int ns (all_sorts is_number ns)) (typing-arithmetic _ (out-AddTree c.args.t.now).at) (form_add c.args.t.now) (form_mul (out-AddTree c.args.t.now).first) (map form_add_step (out-AddTree c.args.t.now).rest) (map form_add_step c.as_slice.result.now) (form_add-is c.args.t.now) (ap (map form_add_step) c.as_slice.ensures) (none_left form_add_step (out-AddTree c.args.t.now).rest c.if-is_empty.ensures.1) c.in_ok-first.first c.in_ok-first.ensures c.in_ok-parts.parts c.in_ok-parts.ensures c.arithmetic.result c.arithmetic.ensures
+
+pub add_steps-returns-in_err-add_step : goal.add_steps-returns-in_err-add_step
+add_steps-returns-in_err-add_step t c =
+    let h = part_fault (within c.args.model.now c.args.locals.now) form_add_step _ c.args.rest.now c.loop-t.t-index c.loop-t.found c.loop-t.invariant c.t-item.result c.loop-t-test.true c.t-item.is c.in_err-add_step.field-0.0 c.in_err-add_step.ensures in
+    search rules
+
+pub add_steps-returns-in_err-part-2 : goal.add_steps-returns-in_err-part-2
+add_steps-returns-in_err-part-2 t c =
+    let h = part_wrong (within c.args.model.now c.args.locals.now) form_add_step _ c.args.rest.now c.loop-t.t-index c.loop-t.found c.loop-t.invariant c.t-item.result c.loop-t-test.true c.t-item.is c.in_ok-add_step.field-0 c.in_ok-add_step.ensures c.in_err-part-2.field-0.0 c.in_err-part-2.ensures in
+    search rules
+
+pub add_steps-loop-t-preserved : goal.add_steps-loop-t-preserved
+add_steps-loop-t-preserved t c =
+    part_added (within c.args.model.now c.args.locals.now) form_add_step _ c.args.rest.now c.loop-t.t-index c.loop-t.found c.loop-t.invariant c.t-item.result c.loop-t-test.true c.t-item.is c.in_ok-add_step.field-0 c.in_ok-part-2.field-0 c.in_ok-add_step.ensures c.in_ok-part-2.ensures c.push-in-loop-t.new.self c.in_ok-push-2.ensures.ok
+
+pub add_steps-returns : goal.add_steps-returns
+add_steps-returns t c =
+    parts_end (within c.args.model.now c.args.locals.now) form_add_step _ c.args.rest.now c.loop-t.t-index c.loop-t.found c.loop-t.invariant c.loop-t-test.false
+
+pub mul-returns-in_err-parts-in-Product : goal.mul-returns-in_err-parts-in-Product
+mul-returns-in_err-parts-in-Product t c =
+    let h = front_wrong (within c.args.model.now c.args.locals.now) (arithmetic c.in-Product.at) (λ ns. made c.in-Product.at int ns (all_sorts is_number ns)) (typing-arithmetic _ c.in-Product.at) (form_mul c.args.t.now) (form_sign c.in-Product.first) (map form_mul_step c.in-Product.steps) (map form_mul_step c.as_slice-in-Product.result.now) (or_none (option_map form_last_step c.in-Product.last)) (ap form_mul c.in-Product.is ∙ form_mul-Product c.in-Product.at c.in-Product.first c.in-Product.steps c.in-Product.last) (ap (map form_mul_step) c.as_slice-in-Product.ensures) (λ e. c.if-is_alone.ensures.1 (ap (λ ss. map form_mul_step ss ++ or_none (option_map form_last_step c.in-Product.last)) c.as_slice.ensures ∙ e)) c.in_ok-first-in-Product.first c.in_ok-first-in-Product.ensures c.in_err-parts-in-Product.field-0.0 c.in_err-parts-in-Product.ensures in
+    search rules
+
+pub mul-returns-in-None : goal.mul-returns-in-None
+mul-returns-in-None t c =
+    let a = c.in-None.is in
+    back_alone (within c.args.model.now c.args.locals.now) (arithmetic c.in-Product.at) (λ ns. made c.in-Product.at int ns (all_sorts is_number ns)) (typing-arithmetic _ c.in-Product.at) (form_mul c.args.t.now) (form_sign c.in-Product.first) (map form_mul_step c.in-Product.steps) (map form_mul_step c.as_slice-in-Product.result.now) (or_none (option_map form_last_step c.in-Product.last)) (ap form_mul c.in-Product.is ∙ form_mul-Product c.in-Product.at c.in-Product.first c.in-Product.steps c.in-Product.last) (ap (map form_mul_step) c.as_slice-in-Product.ensures) (λ e. c.if-is_alone.ensures.1 (ap (λ ss. map form_mul_step ss ++ or_none (option_map form_last_step c.in-Product.last)) c.as_slice.ensures ∙ e)) c.in_ok-first-in-Product.first c.in_ok-first-in-Product.ensures c.in_ok-parts-in-Product.parts c.in_ok-parts-in-Product.ensures (ap (λ o. or_none (option_map form_last_step o)) c.in-None.is) c.arithmetic.result c.arithmetic.ensures
+
+pub mul-returns-in_err-all-in-Some : goal.mul-returns-in_err-all-in-Some
+mul-returns-in_err-all-in-Some t c =
+    let h = back_wrong (within c.args.model.now c.args.locals.now) (arithmetic c.in-Product.at) (λ ns. made c.in-Product.at int ns (all_sorts is_number ns)) (typing-arithmetic _ c.in-Product.at) (form_mul c.args.t.now) (form_sign c.in-Product.first) (map form_mul_step c.in-Product.steps) (map form_mul_step c.as_slice-in-Product.result.now) (or_none (option_map form_last_step c.in-Product.last)) (ap form_mul c.in-Product.is ∙ form_mul-Product c.in-Product.at c.in-Product.first c.in-Product.steps c.in-Product.last) (ap (map form_mul_step) c.as_slice-in-Product.ensures) (λ e. c.if-is_alone.ensures.1 (ap (λ ss. map form_mul_step ss ++ or_none (option_map form_last_step c.in-Product.last)) c.as_slice.ensures ∙ e)) c.in_ok-first-in-Product.first c.in_ok-first-in-Product.ensures c.in_ok-parts-in-Product.parts c.in_ok-parts-in-Product.ensures c.in_err-all-in-Some.field-0.0
+    (gives-same (map node_of) (and_then (typed_parts (within c.args.model.now c.args.locals.now) (forms_of (or_none (option_map form_last_step c.in-Product.last)))) (λ ns. Ok (map node_of c.in_ok-parts-in-Product.parts ++ ns))) _ (Err c.in_err-all-in-Some.field-0.0)
+    (ap (λ gs. and_then (typed_parts (within c.args.model.now c.args.locals.now) (forms_of gs)) (λ ns. Ok (map node_of c.in_ok-parts-in-Product.parts ++ ns))) (ap (λ o. or_none (option_map form_last_step o)) c.in-Some.is))
+    c.in_err-all-in-Some.ensures) in
+    search rules
+
+pub mul-returns-in_ok-all-in-Some : goal.mul-returns-in_ok-all-in-Some
+mul-returns-in_ok-all-in-Some t c =
+    back_made (within c.args.model.now c.args.locals.now) (arithmetic c.in-Product.at) (λ ns. made c.in-Product.at int ns (all_sorts is_number ns)) (typing-arithmetic _ c.in-Product.at) (form_mul c.args.t.now) (form_sign c.in-Product.first) (map form_mul_step c.in-Product.steps) (map form_mul_step c.as_slice-in-Product.result.now) (or_none (option_map form_last_step c.in-Product.last)) (ap form_mul c.in-Product.is ∙ form_mul-Product c.in-Product.at c.in-Product.first c.in-Product.steps c.in-Product.last) (ap (map form_mul_step) c.as_slice-in-Product.ensures) (λ e. c.if-is_alone.ensures.1 (ap (λ ss. map form_mul_step ss ++ or_none (option_map form_last_step c.in-Product.last)) c.as_slice.ensures ∙ e)) c.in_ok-first-in-Product.first c.in_ok-first-in-Product.ensures c.in_ok-parts-in-Product.parts c.in_ok-parts-in-Product.ensures c.in_ok-all-in-Some.all
+    (ap (λ gs. and_then (typed_parts (within c.args.model.now c.args.locals.now) (forms_of gs)) (λ ns. Ok (map node_of c.in_ok-parts-in-Product.parts ++ ns))) (ap (λ o. or_none (option_map form_last_step o)) c.in-Some.is) ∙ c.in_ok-all-in-Some.ensures)
+    c.arithmetic-in-Some.result c.arithmetic-in-Some.ensures
+
+pub with_last-returns-in_err-open : goal.with_last-returns-in_err-open
+with_last-returns-in_err-open t c =
+    let h = last_fault (within c.args.model.now c.args.locals.now) _ c.args.parts (form_open (out-LastStep c.args.last.now).factor) (ap (λ f. and_then (typed_parts (within c.args.model.now c.args.locals.now) (forms_of (f ∷ []))) (λ ns. Ok (map node_of c.args.parts ++ ns))) (form_last_step-is c.args.last.now)) c.in_err-open.field-0.0 c.in_err-open.ensures in
+    search rules
+
+pub with_last-returns-in_err-part : goal.with_last-returns-in_err-part
+with_last-returns-in_err-part t c =
+    let h = last_wrong (within c.args.model.now c.args.locals.now) _ c.args.parts (form_open (out-LastStep c.args.last.now).factor) (ap (λ f. and_then (typed_parts (within c.args.model.now c.args.locals.now) (forms_of (f ∷ []))) (λ ns. Ok (map node_of c.args.parts ++ ns))) (form_last_step-is c.args.last.now)) c.in_ok-open.field-0 c.in_ok-open.ensures c.in_err-part.field-0.0 c.in_err-part.ensures in
+    search rules
+
+pub with_last-returns : goal.with_last-returns
+with_last-returns t c =
+    last_added (within c.args.model.now c.args.locals.now) _ c.args.parts (form_open (out-LastStep c.args.last.now).factor) (ap (λ f. and_then (typed_parts (within c.args.model.now c.args.locals.now) (forms_of (f ∷ []))) (λ ns. Ok (map node_of c.args.parts ++ ns))) (form_last_step-is c.args.last.now)) c.in_ok-open.field-0 c.in_ok-part.field-0 c.in_ok-open.ensures c.in_ok-part.ensures c.push.new.self c.in_ok-push.ensures.ok
+
+pub mul_steps-returns-in_err-mul_step : goal.mul_steps-returns-in_err-mul_step
+mul_steps-returns-in_err-mul_step t c =
+    let h = part_fault (within c.args.model.now c.args.locals.now) form_mul_step _ c.args.rest.now c.loop-t.t-index c.loop-t.found c.loop-t.invariant c.t-item.result c.loop-t-test.true c.t-item.is c.in_err-mul_step.field-0.0 c.in_err-mul_step.ensures in
+    search rules
+
+pub mul_steps-returns-in_err-part-2 : goal.mul_steps-returns-in_err-part-2
+mul_steps-returns-in_err-part-2 t c =
+    let h = part_wrong (within c.args.model.now c.args.locals.now) form_mul_step _ c.args.rest.now c.loop-t.t-index c.loop-t.found c.loop-t.invariant c.t-item.result c.loop-t-test.true c.t-item.is c.in_ok-mul_step.field-0 c.in_ok-mul_step.ensures c.in_err-part-2.field-0.0 c.in_err-part-2.ensures in
+    search rules
+
+pub mul_steps-loop-t-preserved : goal.mul_steps-loop-t-preserved
+mul_steps-loop-t-preserved t c =
+    part_added (within c.args.model.now c.args.locals.now) form_mul_step _ c.args.rest.now c.loop-t.t-index c.loop-t.found c.loop-t.invariant c.t-item.result c.loop-t-test.true c.t-item.is c.in_ok-mul_step.field-0 c.in_ok-part-2.field-0 c.in_ok-mul_step.ensures c.in_ok-part-2.ensures c.push-in-loop-t.new.self c.in_ok-push-2.ensures.ok
+
+pub mul_steps-returns : goal.mul_steps-returns
+mul_steps-returns t c =
+    parts_end (within c.args.model.now c.args.locals.now) form_mul_step _ c.args.rest.now c.loop-t.t-index c.loop-t.found c.loop-t.invariant c.loop-t-test.false
+
+pub post-returns-in_err-base : goal.post-returns-in_err-base
+post-returns-in_err-base t c =
+    let h = post_fault (within c.args.model.now c.args.locals.now) (out-PostTree c.args.t.now).at (form_post c.args.t.now) (form_prim (out-PostTree c.args.t.now).prim) (map form_suffix (out-PostTree c.args.t.now).suffixes) (form_post-is c.args.t.now) c.in_err-base.field-0.0 c.in_err-base.ensures in
+    search rules
+
+pub post-loop-suffix-init : goal.post-loop-suffix-init
+post-loop-suffix-init t c =
+    ap (typing (within c.args.model.now c.args.locals.now)) (form_post-is c.args.t.now) ∙ typing-suffixes (within c.args.model.now c.args.locals.now) (out-PostTree c.args.t.now).at (form_prim (out-PostTree c.args.t.now).prim) (map form_suffix (out-PostTree c.args.t.now).suffixes)
+    ∙ ap (λ d. suffixed (within c.args.model.now c.args.locals.now) (out-PostTree c.args.t.now).at d (map form_suffix (out-PostTree c.args.t.now).suffixes)) c.in_ok-base.ensures
+    ∙ ap (λ ss. suffixed (within c.args.model.now c.args.locals.now) (out-PostTree c.args.t.now).at (Ok (node_of c.in_ok-base.base)) (map form_suffix ss)) (sym c.as_slice-suffix-items.ensures)
+
+pub post-returns-in_err-part : goal.post-returns-in_err-part
+post-returns-in_err-part t c =
+    let h = base_wrong (within c.args.model.now c.args.locals.now) (out-PostTree c.args.t.now).at form_suffix (typing (within c.args.model.now c.args.locals.now) (form_post c.args.t.now)) c.as_slice-suffix-items.result.now c.loop-suffix.suffix-index c.loop-suffix.base c.loop-suffix.invariant c.suffix-item.result c.loop-suffix-test.true c.suffix-item.is c.in_err-part.field-0.0 c.in_err-part.ensures in
+    search rules
+
+pub post-returns-in_err-base-2 : goal.post-returns-in_err-base-2
+post-returns-in_err-base-2 t c =
+    let h = suffix_fault (within c.args.model.now c.args.locals.now) (out-PostTree c.args.t.now).at form_suffix (typing (within c.args.model.now c.args.locals.now) (form_post c.args.t.now)) c.as_slice-suffix-items.result.now c.loop-suffix.suffix-index c.loop-suffix.base c.loop-suffix.invariant c.suffix-item.result c.loop-suffix-test.true c.suffix-item.is c.in_ok-part.field-0 c.in_ok-part.ensures c.in_err-base-2.field-0.0 c.in_err-base-2.ensures in
+    search rules
+
+pub post-loop-suffix-preserved : goal.post-loop-suffix-preserved
+post-loop-suffix-preserved t c =
+    suffix_added (within c.args.model.now c.args.locals.now) (out-PostTree c.args.t.now).at form_suffix (typing (within c.args.model.now c.args.locals.now) (form_post c.args.t.now)) c.as_slice-suffix-items.result.now c.loop-suffix.suffix-index c.loop-suffix.base c.loop-suffix.invariant c.suffix-item.result c.loop-suffix-test.true c.suffix-item.is c.in_ok-part.field-0 c.in_ok-part.ensures c.in_ok-base-2.base c.in_ok-base-2.ensures
+
+pub post-returns : goal.post-returns
+post-returns t c =
+    suffixes_end (within c.args.model.now c.args.locals.now) (out-PostTree c.args.t.now).at form_suffix (typing (within c.args.model.now c.args.locals.now) (form_post c.args.t.now)) c.as_slice-suffix-items.result.now c.loop-suffix.suffix-index c.loop-suffix.base c.loop-suffix.invariant c.loop-suffix-test.false
+
+pub with_suffix-returns-in_ok-parts-in-Subscripts : goal.with_suffix-returns-in_ok-parts-in-Subscripts
+with_suffix-returns-in_ok-parts-in-Subscripts t c =
+    let a = c.in-Subscripts.is in
+    suffix_element c.args.model.now c.args.locals.now c.args.at c.args.base (form_suffix c.args.suffix.now) (form_subscripts _) (ap form_suffix c.in-Subscripts.is ∙ form_suffix-Subscripts _) c.in_ok-parts-in-Subscripts.parts c.in_ok-parts-in-Subscripts.ensures c.element.result c.element.ensures
+
+pub with_suffix-returns-in-Field : goal.with_suffix-returns-in-Field
+with_suffix-returns-in-Field t c =
+    let a = c.in-Field.is in
+    suffix_field c.args.model.now c.args.locals.now c.args.at c.args.base (form_suffix c.args.suffix.now) _ (ap form_suffix c.in-Field.is ∙ form_suffix-Field _ _) c.field.result c.field.ensures
+
+pub subscripts-returns-in_err-first : goal.subscripts-returns-in_err-first
+subscripts-returns-in_err-first t c =
+    let h = first_fault (within c.args.model.now c.args.locals.now) form_add (form_subscripts c.args.t.now) (form_add c.get.result.now) (out-SubscriptsTree c.args.t.now).rest (out-SubscriptsTree c.args.t.now).rest (form_subscripts-is c.args.t.now ∙ ap (λ x. form_add x ∷ map form_add (out-SubscriptsTree c.args.t.now).rest) (sym c.get.ensures)) c.in_err-first.field-0.0 c.in_err-first.ensures in
+    search rules
+
+pub subscripts-returns : goal.subscripts-returns
+subscripts-returns t c =
+    gives-same (map node_of) (typed_parts (within c.args.model.now c.args.locals.now) (forms_of (form_subscripts c.args.t.now))) _ c.adds.result
+    (first_typed (within c.args.model.now c.args.locals.now) form_add (form_subscripts c.args.t.now) (form_add c.get.result.now) (out-SubscriptsTree c.args.t.now).rest c.as_slice.result.now (form_subscripts-is c.args.t.now ∙ ap (λ x. form_add x ∷ map form_add (out-SubscriptsTree c.args.t.now).rest) (sym c.get.ensures)) c.as_slice.ensures c.in_ok-first.first c.in_ok-first.ensures)
+    c.adds.ensures
+
+pub adds-returns-in_err-add : goal.adds-returns-in_err-add
+adds-returns-in_err-add t c =
+    let h = part_fault (within c.args.model.now c.args.locals.now) form_add _ c.args.rest.now c.loop-t.t-index c.loop-t.found c.loop-t.invariant c.t-item.result c.loop-t-test.true c.t-item.is c.in_err-add.field-0.0 c.in_err-add.ensures in
+    search rules
+
+pub adds-returns-in_err-part-2 : goal.adds-returns-in_err-part-2
+adds-returns-in_err-part-2 t c =
+    let h = part_wrong (within c.args.model.now c.args.locals.now) form_add _ c.args.rest.now c.loop-t.t-index c.loop-t.found c.loop-t.invariant c.t-item.result c.loop-t-test.true c.t-item.is c.in_ok-add.field-0 c.in_ok-add.ensures c.in_err-part-2.field-0.0 c.in_err-part-2.ensures in
+    search rules
+
+pub adds-loop-t-preserved : goal.adds-loop-t-preserved
+adds-loop-t-preserved t c =
+    part_added (within c.args.model.now c.args.locals.now) form_add _ c.args.rest.now c.loop-t.t-index c.loop-t.found c.loop-t.invariant c.t-item.result c.loop-t-test.true c.t-item.is c.in_ok-add.field-0 c.in_ok-part-2.field-0 c.in_ok-add.ensures c.in_ok-part-2.ensures c.push-in-loop-t.new.self c.in_ok-push-2.ensures.ok
+
+pub adds-returns : goal.adds-returns
+adds-returns t c =
+    parts_end (within c.args.model.now c.args.locals.now) form_add _ c.args.rest.now c.loop-t.t-index c.loop-t.found c.loop-t.invariant c.loop-t-test.false
+
+pub all_adds-returns-in_err-add : goal.all_adds-returns-in_err-add
+all_adds-returns-in_err-add t c =
+    let h = part_fault (within c.args.model.now c.args.locals.now) form_add _ c.args.parts.now c.loop-t.t-index c.loop-t.found c.loop-t.invariant c.t-item.result c.loop-t-test.true c.t-item.is c.in_err-add.field-0.0 c.in_err-add.ensures in
+    search rules
+
+pub all_adds-returns-in_err-part : goal.all_adds-returns-in_err-part
+all_adds-returns-in_err-part t c =
+    let h = part_wrong (within c.args.model.now c.args.locals.now) form_add _ c.args.parts.now c.loop-t.t-index c.loop-t.found c.loop-t.invariant c.t-item.result c.loop-t-test.true c.t-item.is c.in_ok-add.field-0 c.in_ok-add.ensures c.in_err-part.field-0.0 c.in_err-part.ensures in
+    search rules
+
+pub all_adds-loop-t-preserved : goal.all_adds-loop-t-preserved
+all_adds-loop-t-preserved t c =
+    part_added (within c.args.model.now c.args.locals.now) form_add _ c.args.parts.now c.loop-t.t-index c.loop-t.found c.loop-t.invariant c.t-item.result c.loop-t-test.true c.t-item.is c.in_ok-add.field-0 c.in_ok-part.field-0 c.in_ok-add.ensures c.in_ok-part.ensures c.push.new.self c.in_ok-push.ensures.ok
+
+pub all_adds-returns : goal.all_adds-returns
+all_adds-returns t c =
+    parts_end (within c.args.model.now c.args.locals.now) form_add _ c.args.parts.now c.loop-t.t-index c.loop-t.found c.loop-t.invariant c.loop-t-test.false
+
+pub pairs-returns-in_err-add : goal.pairs-returns-in_err-add
+pairs-returns-in_err-add t c =
+    let h = key_fault (within c.args.model.now c.args.locals.now) form_keyed _ c.args.parts.now c.loop-t.t-index c.loop-t.found c.loop-t.invariant c.t-item.result c.loop-t-test.true c.t-item.is (form_add (out-KeyedTree c.t-item.result).key) (form_add (out-KeyedTree c.t-item.result).value) (form_keyed-is c.t-item.result) c.in_err-add.field-0.0 c.in_err-add.ensures in
+    search rules
+
+pub pairs-returns-in_err-part : goal.pairs-returns-in_err-part
+pairs-returns-in_err-part t c =
+    let h = key_wrong (within c.args.model.now c.args.locals.now) form_keyed _ c.args.parts.now c.loop-t.t-index c.loop-t.found c.loop-t.invariant c.t-item.result c.loop-t-test.true c.t-item.is (form_add (out-KeyedTree c.t-item.result).key) (form_add (out-KeyedTree c.t-item.result).value) (form_keyed-is c.t-item.result) c.in_ok-add.field-0 c.in_ok-add.ensures c.in_err-part.field-0.0 c.in_err-part.ensures in
+    search rules
+
+pub pairs-returns-in_err-add-2 : goal.pairs-returns-in_err-add-2
+pairs-returns-in_err-add-2 t c =
+    let h = cell_fault (within c.args.model.now c.args.locals.now) form_keyed _ c.args.parts.now c.loop-t.t-index c.loop-t.found c.loop-t.invariant c.t-item.result c.loop-t-test.true c.t-item.is (form_add (out-KeyedTree c.t-item.result).key) (form_add (out-KeyedTree c.t-item.result).value) (form_keyed-is c.t-item.result) c.in_ok-add.field-0 c.in_ok-part.field-0 c.in_ok-add.ensures c.in_ok-part.ensures c.in_err-add-2.field-0.0 c.in_err-add-2.ensures in
+    search rules
+
+pub pairs-returns-in_err-part-2 : goal.pairs-returns-in_err-part-2
+pairs-returns-in_err-part-2 t c =
+    let h = cell_wrong (within c.args.model.now c.args.locals.now) form_keyed _ c.args.parts.now c.loop-t.t-index c.loop-t.found c.loop-t.invariant c.t-item.result c.loop-t-test.true c.t-item.is (form_add (out-KeyedTree c.t-item.result).key) (form_add (out-KeyedTree c.t-item.result).value) (form_keyed-is c.t-item.result) c.in_ok-add.field-0 c.in_ok-part.field-0 c.in_ok-add.ensures c.in_ok-part.ensures c.in_ok-add-2.field-0 c.in_ok-add-2.ensures c.in_err-part-2.field-0.0 c.in_err-part-2.ensures in
+    search rules
+
+pub pairs-loop-t-preserved : goal.pairs-loop-t-preserved
+pairs-loop-t-preserved t c =
+    pair_added (within c.args.model.now c.args.locals.now) form_keyed _ c.args.parts.now c.loop-t.t-index c.loop-t.found c.loop-t.invariant c.t-item.result c.loop-t-test.true c.t-item.is (form_add (out-KeyedTree c.t-item.result).key) (form_add (out-KeyedTree c.t-item.result).value) (form_keyed-is c.t-item.result) c.in_ok-add.field-0 c.in_ok-part.field-0 c.in_ok-add.ensures c.in_ok-part.ensures c.in_ok-add-2.field-0 c.in_ok-part-2.field-0 c.in_ok-add-2.ensures c.in_ok-part-2.ensures c.push.new.self c.push-in-loop-t.new.self c.in_ok-push.ensures.ok c.in_ok-push-2.ensures.ok
+
+pub pairs-returns : goal.pairs-returns
+pairs-returns t c =
+    pairs_end (within c.args.model.now c.args.locals.now) form_keyed _ c.args.parts.now c.loop-t.t-index c.loop-t.found c.loop-t.invariant c.loop-t-test.false
+
+pub described_set-returns-in_err-add-in-Ok : goal.described_set-returns-in_err-add-in-Ok
+described_set-returns-in_err-add-in-Ok t c =
+    let h = described_fault (within c.args.model.now c.args.locals.now) c.args.at (form_add c.args.value.now) (form_params c.args.params.now) (opened_in c.args.model.now c.in-Ok.opened) (subst (Gives (opened_in c.args.model.now) (open_params data_alone (within c.args.model.now c.args.locals.now) (form_params c.args.params.now))) c.in-Ok.is c.requires) (within c.args.model.now c.as_slice.result.now) (ap (within c.args.model.now) c.as_slice.ensures) c.in_err-add-in-Ok.field-0.0 c.in_err-add-in-Ok.ensures in
+    search rules
+
+pub described_set-returns-in_err-value-in-Ok : goal.described_set-returns-in_err-value-in-Ok
+described_set-returns-in_err-value-in-Ok t c =
+    let h = described_wrong (within c.args.model.now c.args.locals.now) c.args.at (form_add c.args.value.now) (form_params c.args.params.now) (opened_in c.args.model.now c.in-Ok.opened) (subst (Gives (opened_in c.args.model.now) (open_params data_alone (within c.args.model.now c.args.locals.now) (form_params c.args.params.now))) c.in-Ok.is c.requires) (within c.args.model.now c.as_slice.result.now) (ap (within c.args.model.now) c.as_slice.ensures) c.in_ok-add-in-Ok.field-0 c.in_ok-add-in-Ok.ensures c.in_err-value-in-Ok.field-0.0 c.in_err-value-in-Ok.ensures in
+    search rules
+
+pub described_set-returns-in_ok-value-in-Ok : goal.described_set-returns-in_ok-value-in-Ok
+described_set-returns-in_ok-value-in-Ok t c =
+    described_made (within c.args.model.now c.args.locals.now) c.args.at (form_add c.args.value.now) (form_params c.args.params.now) (opened_in c.args.model.now c.in-Ok.opened) (subst (Gives (opened_in c.args.model.now) (open_params data_alone (within c.args.model.now c.args.locals.now) (form_params c.args.params.now))) c.in-Ok.is c.requires) (within c.args.model.now c.as_slice.result.now) (ap (within c.args.model.now) c.as_slice.ensures) c.in_ok-add-in-Ok.field-0 c.in_ok-add-in-Ok.ensures c.in_ok-value-in-Ok.value c.in_ok-value-in-Ok.ensures c.described.result c.described.ensures
+
+pub described_set-returns-else-is_memory : goal.described_set-returns-else-is_memory
+described_set-returns-else-is_memory t c =
+    wrongly (opened_in c.args.model.now) (within c.args.model.now c.args.locals.now) c.args.at (form_add c.args.value.now) (form_params c.args.params.now) c.in-Err.fault (subst (Gives (opened_in c.args.model.now) (open_params data_alone (within c.args.model.now c.args.locals.now) (form_params c.args.params.now))) c.in-Err.is c.requires) c.if-is_memory.ensures.1 c.wrongly_described.result c.wrongly_described.ensures
+
+pub open_group-returns : goal.open_group-returns
+open_group-returns t c =
+    group_made c.args.model.now c.args.opened.now.locals c.args.opened.now.kinds (form_group c.args.t.now) (out-GroupTree c.args.t.now).first (out-GroupTree c.args.t.now).rest (form_set (out-GroupTree c.args.t.now).set) (form_group-is c.args.t.now)
+    c.as_slice.result.now c.as_slice.ensures c.as_slice-2.result.now c.as_slice-2.ensures c.in_ok-all_fresh.ensures
+    c.as_slice-3.result.now c.as_slice-3.ensures c.in_ok-over.over c.in_ok-over.ensures
+    c.or_anything-element.result c.or_anything-element.ensures
+    c.in_ok-kinds_in.field-0 c.in_ok-kinds_in.ensures c.append.new.front c.in_ok-append.ensures
+    c.as_slice-4.result.now c.as_slice-4.ensures c.bind_patterns.new.locals c.in_ok-bind_patterns.ensures
+
+pub open_groups-returns-in_err-open_group : goal.open_groups-returns-in_err-open_group
+open_groups-returns-in_err-open_group t c =
+    let h = group_fault (λ (u : Unit {0}). opened_in c.args.model.now c.open_group.new.opened) (opened_in c.args.model.now) (open_groups (within c.args.model.now c.args.locals.now) (groups_of (form_group (out-ParamsTree c.args.t.now).first ∷ map form_group_step (out-ParamsTree c.args.t.now).rest))) (opened_in c.args.model.now (record { locals = c.in_ok-copied.field-0; kinds = c.new.result })) (form_group (out-ParamsTree c.args.t.now).first) (map form_group_step (out-ParamsTree c.args.t.now).rest) (groups_begin c.args.model.now c.args.locals.now c.in_ok-copied.field-0 c.new.result c.in_ok-copied.ensures c.new.ensures (form_group (out-ParamsTree c.args.t.now).first ∷ map form_group_step (out-ParamsTree c.args.t.now).rest)) c.in_err-open_group.field-0.0 c.in_err-open_group.ensures in
+    search rules
+
+pub open_groups-loop-step-init : goal.open_groups-loop-step-init
+open_groups-loop-step-init t c =
+    group_opened (open_groups (within c.args.model.now c.args.locals.now) (groups_of (form_group (out-ParamsTree c.args.t.now).first ∷ map form_group_step (out-ParamsTree c.args.t.now).rest))) (opened_in c.args.model.now (record { locals = c.in_ok-copied.field-0; kinds = c.new.result })) (form_group (out-ParamsTree c.args.t.now).first) (map form_group_step (out-ParamsTree c.args.t.now).rest) (groups_begin c.args.model.now c.args.locals.now c.in_ok-copied.field-0 c.new.result c.in_ok-copied.ensures c.new.ensures (form_group (out-ParamsTree c.args.t.now).first ∷ map form_group_step (out-ParamsTree c.args.t.now).rest)) (opened_in c.args.model.now c.open_group.new.opened) c.in_ok-open_group.ensures
+    ∙ ap (λ ss. open_each (opened_in c.args.model.now c.open_group.new.opened) (map form_group_step ss)) (sym c.as_slice-step-items.ensures)
+
+pub open_groups-returns-in_err-open_group-2 : goal.open_groups-returns-in_err-open_group-2
+open_groups-returns-in_err-open_group-2 t c =
+    let h = group_fault (λ (u : Unit {0}). opened_in c.args.model.now c.open_group-in-loop-step.new.opened) (opened_in c.args.model.now) (open_groups (within c.args.model.now c.args.locals.now) (groups_of (form_group (out-ParamsTree c.args.t.now).first ∷ map form_group_step (out-ParamsTree c.args.t.now).rest))) (opened_in c.args.model.now c.loop-step.opened) (form_group (out-GroupStep c.step-item.result).group) (map form_group_step (drop (c.loop-step.step-index + 1) c.as_slice-step-items.result.now)) (group_here form_group_step (open_groups (within c.args.model.now c.args.locals.now) (groups_of (form_group (out-ParamsTree c.args.t.now).first ∷ map form_group_step (out-ParamsTree c.args.t.now).rest))) (opened_in c.args.model.now c.loop-step.opened) c.as_slice-step-items.result.now c.loop-step.step-index c.loop-step.invariant c.step-item.result c.loop-step-test.true c.step-item.is (form_group (out-GroupStep c.step-item.result).group) (form_group_step-is c.step-item.result)) c.in_err-open_group-2.field-0.0 c.in_err-open_group-2.ensures in
+    search rules
+
+pub open_groups-loop-step-preserved : goal.open_groups-loop-step-preserved
+open_groups-loop-step-preserved t c =
+    group_opened (open_groups (within c.args.model.now c.args.locals.now) (groups_of (form_group (out-ParamsTree c.args.t.now).first ∷ map form_group_step (out-ParamsTree c.args.t.now).rest))) (opened_in c.args.model.now c.loop-step.opened) (form_group (out-GroupStep c.step-item.result).group) (map form_group_step (drop (c.loop-step.step-index + 1) c.as_slice-step-items.result.now)) (group_here form_group_step (open_groups (within c.args.model.now c.args.locals.now) (groups_of (form_group (out-ParamsTree c.args.t.now).first ∷ map form_group_step (out-ParamsTree c.args.t.now).rest))) (opened_in c.args.model.now c.loop-step.opened) c.as_slice-step-items.result.now c.loop-step.step-index c.loop-step.invariant c.step-item.result c.loop-step-test.true c.step-item.is (form_group (out-GroupStep c.step-item.result).group) (form_group_step-is c.step-item.result)) (opened_in c.args.model.now c.open_group-in-loop-step.new.opened) c.in_ok-open_group-2.ensures
+
+pub open_groups-returns : goal.open_groups-returns
+open_groups-returns t c =
+    groups_end form_group_step (open_groups (within c.args.model.now c.args.locals.now) (groups_of (form_group (out-ParamsTree c.args.t.now).first ∷ map form_group_step (out-ParamsTree c.args.t.now).rest))) (opened_in c.args.model.now c.loop-step.opened) c.as_slice-step-items.result.now c.loop-step.step-index c.loop-step.invariant c.loop-step-test.false
+
+pub open_params-returns-in_err-opened : goal.open_params-returns-in_err-opened
+open_params-returns-in_err-opened t c =
+    let h = params_fault (opened_in c.args.model.now) (within c.args.model.now c.args.locals.now) (need_of c.args.need) (form_params c.args.t.now) (form_group (out-ParamsTree c.args.t.now).first ∷ map form_group_step (out-ParamsTree c.args.t.now).rest) (form_group (out-ParamsTree c.args.t.now).first ∷ map form_group_step (out-ParamsTree c.args.t.now).rest) (option_map form_expr (out-ParamsTree c.args.t.now).condition) (form_params-is c.args.t.now) refl c.in_err-opened.field-0.0 c.in_err-opened.ensures in
+    search rules
+
+pub open_params-returns-in-None : goal.open_params-returns-in-None
+open_params-returns-in-None t c =
+    no_condition (within c.args.model.now c.args.locals.now) (need_of c.args.need) (form_params c.args.t.now) (form_group (out-ParamsTree c.args.t.now).first ∷ map form_group_step (out-ParamsTree c.args.t.now).rest) (form_group (out-ParamsTree c.args.t.now).first ∷ map form_group_step (out-ParamsTree c.args.t.now).rest) (option_map form_expr (out-ParamsTree c.args.t.now).condition) (form_params-is c.args.t.now) refl (ap (option_map form_expr) c.in-None.is) (opened_in c.args.model.now c.in_ok-opened.opened) c.in_ok-opened.ensures
+
+pub open_params-returns-in_err-node-in-Some : goal.open_params-returns-in_err-node-in-Some
+open_params-returns-in_err-node-in-Some t c =
+    let h = condition_fault (within c.args.model.now c.args.locals.now) (need_of c.args.need) (form_params c.args.t.now) (form_group (out-ParamsTree c.args.t.now).first ∷ map form_group_step (out-ParamsTree c.args.t.now).rest) (form_group (out-ParamsTree c.args.t.now).first ∷ map form_group_step (out-ParamsTree c.args.t.now).rest) (option_map form_expr (out-ParamsTree c.args.t.now).condition) (form_params-is c.args.t.now) refl (form_expr c.get.result.now) (ap (option_map form_expr) c.in-Some.is ∙ ap (λ x. Some (form_expr x)) (sym c.get.ensures)) (opened_in c.args.model.now c.in_ok-opened.opened) c.in_ok-opened.ensures (within c.args.model.now c.as_slice.result.now) (ap (within c.args.model.now) c.as_slice.ensures) (opened_in c.args.model.now) c.in_err-node-in-Some.field-0.0 c.in_err-node-in-Some.ensures in
+    search rules
+
+pub open_params-returns-in_err-settled-in-Some : goal.open_params-returns-in_err-settled-in-Some
+open_params-returns-in_err-settled-in-Some t c =
+    let h = condition_wrong (within c.args.model.now c.args.locals.now) (need_of c.args.need) (form_params c.args.t.now) (form_group (out-ParamsTree c.args.t.now).first ∷ map form_group_step (out-ParamsTree c.args.t.now).rest) (form_group (out-ParamsTree c.args.t.now).first ∷ map form_group_step (out-ParamsTree c.args.t.now).rest) (option_map form_expr (out-ParamsTree c.args.t.now).condition) (form_params-is c.args.t.now) refl (form_expr c.get.result.now) (ap (option_map form_expr) c.in-Some.is ∙ ap (λ x. Some (form_expr x)) (sym c.get.ensures)) (opened_in c.args.model.now c.in_ok-opened.opened) c.in_ok-opened.ensures (within c.args.model.now c.as_slice.result.now) (ap (within c.args.model.now) c.as_slice.ensures) c.in_ok-node-in-Some.node c.in_ok-node-in-Some.ensures c.is_truth-is_taken.result c.is_truth-is_taken.ensures (opened_in c.args.model.now) c.in_err-settled-in-Some.field-0.0 c.in_err-settled-in-Some.ensures in
+    search rules
+
+pub open_params-returns-in_ok-add_kinds-in-Some : goal.open_params-returns-in_ok-add_kinds-in-Some
+open_params-returns-in_ok-add_kinds-in-Some t c =
+    condition_taken (within c.args.model.now c.args.locals.now) (need_of c.args.need) (form_params c.args.t.now) (form_group (out-ParamsTree c.args.t.now).first ∷ map form_group_step (out-ParamsTree c.args.t.now).rest) (form_group (out-ParamsTree c.args.t.now).first ∷ map form_group_step (out-ParamsTree c.args.t.now).rest) (option_map form_expr (out-ParamsTree c.args.t.now).condition) (form_params-is c.args.t.now) refl (form_expr c.get.result.now) (ap (option_map form_expr) c.in-Some.is ∙ ap (λ x. Some (form_expr x)) (sym c.get.ensures)) (opened_in c.args.model.now c.in_ok-opened.opened) c.in_ok-opened.ensures (within c.args.model.now c.as_slice.result.now) (ap (within c.args.model.now) c.as_slice.ensures) c.in_ok-node-in-Some.node c.in_ok-node-in-Some.ensures c.is_truth-is_taken.result c.is_truth-is_taken.ensures c.in_ok-settled-in-Some.field-0 c.in_ok-settled-in-Some.ensures (map sort c.add_kinds.new.kinds) c.in_ok-add_kinds-in-Some.ensures

@@ -1,7 +1,0 @@
-use Rattle.std.proofs.Common.{◌≡◌, drop}
-use Rattle.opl_types.specs.Steps.{unknown}
-use Rattle.opl_types.specs.Values.{within}
-use Rattle.opl_types.proofs.pattern.unknown_names.Given as goal
-
-abbrev pub invariant-loop-name : goal.invariant-loop-name
-invariant-loop-name l = unknown l.names (within l.model l.fn.locals) ≡ unknown (drop l.name-index l.names) (within l.model l.locals)
