@@ -1,13 +1,6 @@
-//! The rules of declarations, items, statements and whole models.
+//! The rules of whole models.
 #![tactic(auto)]
 
-mod declaration;
-mod item;
 mod model;
-mod next_items;
-mod next_statements;
-mod statement;
-mod wanted_items;
-mod wanted_statements;
 
 pub use model::{MAX_NESTING, read_model};

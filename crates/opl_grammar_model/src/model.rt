@@ -1,16 +1,17 @@
 //! Whole models.
 ghost use Rattle.std.specs.Prelude.{◌≡◌};
 ghost use Rattle.opl_grammar.specs.Input.{Input, Reads};
+ghost use Rattle.opl_grammar.specs.Items as items;
 ghost use Rattle.opl_grammar.specs.Model as rules;
 ghost use Rattle.opl_grammar.specs.Model.{ReadsAll, start};
+ghost use Rattle.opl_grammar.specs.Rules as phrases;
+ghost use Rattle.opl_grammar.specs.Search as statements;
 
-use crate::declaration::decls;
-use crate::item::{Inner, Items};
-use crate::next_items::{NextItems, read_items};
-use crate::next_statements::{NextStatements, read_statements};
-use crate::statement::{Beneath, Statements};
 use opl_grammar::Cursor;
-use opl_phrase::{Below, Level, Phrases};
+use opl_grammar_declaration::decls;
+use opl_grammar_item::instr;
+use opl_grammar_statement::search_section;
+use opl_phrase::{Level, Phrases};
 use opl_token::Token;
 use opl_tree::{Keyword, ModelTree, SyntaxFault};
 use std::alloc::Global;
@@ -18,25 +19,20 @@ use std::alloc::Global;
 /// How many levels a model may open one in another.
 pub const MAX_NESTING: u32 = 256;
 
-/// `DECL* INSTR [SEARCH]`
+/// `DECL* INSTR [SEARCH]`, where so many levels may be opened
 #[tactic(auto, unfolding(opl_grammar::specs::Model::model))]
-fn model<B: Below, I: Inner, C: Below, S: Beneath>(
-    items: &Items<B, I>,
-    statements: &Statements<C, S>,
-    cursor: &mut Cursor<'_>,
-) -> Result<ModelTree, SyntaxFault>
-    requires level { B.is_ready items.now.level.below }
-    requires inner { I.is_ready items.now.inner }
-    requires other { C.is_ready statements.now.level.below }
-    requires beneath { S.is_ready statements.now.inner }
-    requires same { C.rules statements.now.level.below ≡ B.rules items.now.level.below }
-    ensures { Reads (rules.model (B.rules items.now.level.below) (I.rules items.now.inner) (S.rules statements.now.inner) cursor.old) result cursor.new }
+fn model(alloc: Global, levels: u32, cursor: &mut Cursor<'_>) -> Result<ModelTree, SyntaxFault>
+    ensures { Reads (rules.model (phrases.rules levels) (items.item_rules levels) (statements.statement_rules levels) cursor.old) result cursor.new }
 {
+    let level = Level {
+        alloc,
+        below: Phrases { alloc, levels },
+    };
     let at = cursor.place();
-    let decls = decls(&items.level, cursor)?;
-    let instr = items.instr(cursor)?;
+    let decls = decls(&level, cursor)?;
+    let instr = instr(alloc, levels, cursor)?;
     let search = if cursor.sees_word(Keyword::Search) {
-        Some(statements.search_section(cursor)?)
+        Some(search_section(alloc, levels, cursor)?)
     } else {
         None
     };
@@ -53,30 +49,7 @@ fn model<B: Below, I: Inner, C: Below, S: Beneath>(
 fn whole(alloc: Global, cursor: &mut Cursor<'_>) -> Result<ModelTree, SyntaxFault>
     ensures { Reads (rules.whole cursor.old) result cursor.new }
 {
-    let levels = MAX_NESTING;
-    let items = Items {
-        level: Level {
-            alloc,
-            below: Phrases { alloc, levels },
-        },
-        inner: NextItems {
-            alloc,
-            levels,
-            read: read_items,
-        },
-    };
-    let statements = Statements {
-        level: Level {
-            alloc,
-            below: Phrases { alloc, levels },
-        },
-        inner: NextStatements {
-            alloc,
-            levels,
-            read: read_statements,
-        },
-    };
-    let tree = model(&items, &statements, cursor)?;
+    let tree = model(alloc, MAX_NESTING, cursor)?;
     cursor.finish()?;
     Ok(tree)
 }

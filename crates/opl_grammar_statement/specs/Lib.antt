@@ -1,2 +1,1 @@
-pub mod ItemNests
 pub mod StatementNests

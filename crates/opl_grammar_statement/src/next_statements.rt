@@ -2,8 +2,8 @@
 ghost use Rattle.std.specs.Prelude.{◌≡◌};
 ghost use Rattle.opl_grammar.specs.Input.{Reads};
 ghost use Rattle.opl_grammar.specs.Search as rules;
-ghost use Rattle.opl_grammar_model.specs.StatementNests as spec;
-ghost use Rattle.opl_grammar_model.specs.StatementNests.{StatementsNest};
+ghost use Rattle.opl_grammar_statement.specs.StatementNests as spec;
+ghost use Rattle.opl_grammar_statement.specs.StatementNests.{StatementsNest};
 
 use crate::statement::{Beneath, Statements};
 use crate::wanted_statements::{FoundStatements, WantedStatements};

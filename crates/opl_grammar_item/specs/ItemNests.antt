@@ -5,10 +5,10 @@ use denote.Ref.{MutBor}
 use Rattle.opl_tree.specs.declared.fault.SyntaxFault.{SyntaxFault}
 use Rattle.opl_grammar.specs.Input.{Input, Parser, Reads, ◌<$>◌}
 use Rattle.opl_grammar.specs.Items.{ItemRules, item_rules}
-use Rattle.opl_grammar_model.specs.declared.wanted_items.WantedItems.{WantedItems}
-use Rattle.opl_grammar_model.specs.declared.wanted_items.WantedItems.TheVariants as wanted
-use Rattle.opl_grammar_model.specs.declared.wanted_items.FoundItems.{FoundItems}
-use Rattle.opl_grammar_model.specs.declared.wanted_items.FoundItems.TheVariants as found
+use Rattle.opl_grammar_item.specs.declared.wanted_items.WantedItems.{WantedItems}
+use Rattle.opl_grammar_item.specs.declared.wanted_items.WantedItems.TheVariants as wanted
+use Rattle.opl_grammar_item.specs.declared.wanted_items.FoundItems.{FoundItems}
+use Rattle.opl_grammar_item.specs.declared.wanted_items.FoundItems.TheVariants as found
 
 -- what is wanted behind the token at this place, by the rules
 abbrev pub one_of : ItemRules → ℕ → WantedItems → Parser FoundItems

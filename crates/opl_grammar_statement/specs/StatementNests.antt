@@ -5,10 +5,10 @@ use denote.Ref.{MutBor}
 use Rattle.opl_tree.specs.declared.fault.SyntaxFault.{SyntaxFault}
 use Rattle.opl_grammar.specs.Input.{Input, Parser, Reads, ◌<$>◌}
 use Rattle.opl_grammar.specs.Search.{StatementRules, statement_rules}
-use Rattle.opl_grammar_model.specs.declared.wanted_statements.WantedStatements.{WantedStatements}
-use Rattle.opl_grammar_model.specs.declared.wanted_statements.WantedStatements.TheVariants as wanted
-use Rattle.opl_grammar_model.specs.declared.wanted_statements.FoundStatements.{FoundStatements}
-use Rattle.opl_grammar_model.specs.declared.wanted_statements.FoundStatements.TheVariants as found
+use Rattle.opl_grammar_statement.specs.declared.wanted_statements.WantedStatements.{WantedStatements}
+use Rattle.opl_grammar_statement.specs.declared.wanted_statements.WantedStatements.TheVariants as wanted
+use Rattle.opl_grammar_statement.specs.declared.wanted_statements.FoundStatements.{FoundStatements}
+use Rattle.opl_grammar_statement.specs.declared.wanted_statements.FoundStatements.TheVariants as found
 
 -- what is wanted behind the token at this place, by the rules
 abbrev pub one_of : StatementRules → ℕ → WantedStatements → Parser FoundStatements

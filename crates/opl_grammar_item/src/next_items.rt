@@ -2,8 +2,8 @@
 ghost use Rattle.std.specs.Prelude.{◌≡◌};
 ghost use Rattle.opl_grammar.specs.Input.{Reads};
 ghost use Rattle.opl_grammar.specs.Items as rules;
-ghost use Rattle.opl_grammar_model.specs.ItemNests as spec;
-ghost use Rattle.opl_grammar_model.specs.ItemNests.{ItemsNest};
+ghost use Rattle.opl_grammar_item.specs.ItemNests as spec;
+ghost use Rattle.opl_grammar_item.specs.ItemNests.{ItemsNest};
 
 use crate::item::{Inner, Items};
 use crate::wanted_items::{FoundItems, WantedItems};

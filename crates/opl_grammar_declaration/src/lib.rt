@@ -1,0 +1,6 @@
+//! The rules of declarations.
+#![tactic(auto)]
+
+mod declaration;
+
+pub use declaration::decls;
