@@ -1,95 +1,63 @@
--- The elements of another array, by their keys.
-use Rattle.std.proofs.Common.{◌≡◌, ℕ, ℤ, suc, ◌+◌, ◌*◌, Bool, true, false, cond, nat_lt, List, [], ◌∷◌, length, map, nat_eq, Option, None, Some, Result, Ok, Err, refl, sym, ap, subst, ◌∙◌, arith}
-use Rattle.std.specs.List.{flat_map, position}
-use Rattle.std.specs.Option.{option_map}
-use Rattle.std.proofs.lemmas.Bool.Decides.{nat_tests}
-use Rattle.std.proofs.lemmas.List.Recursion.{is_position_or_len}
+-- The first places of values, as they are kept while going over a list.
+use Rattle.std.proofs.Common.{◌≡◌, ℕ, suc, ◌+◌, ◌<◌, Bool, true, false, cond, List, [], ◌∷◌, ◌++◌, get_or, length, take, is_some, Option, None, Some, refl, sym, ap, ◌∙◌, arith}
+use Rattle.std.specs.Option.{option_map, option_or}
+use Rattle.std.proofs.lemmas.List.{length-take-le, take_more}
 use Rattle.opl_value.specs.declared.value.Value.{Value}
-use Rattle.opl_value.specs.declared.value.Value.TheVariants as values
-use Rattle.opl_value.specs.declared.value.IndexSpace.{IndexSpace}
-use Rattle.opl_value.specs.declared.value.Dimension.TheViews.{out-Value}
 use Rattle.opl_value.specs.Order.{value_eq}
-use Rattle.opl_value.specs.Places.{lists, place_in, value_at}
-use Rattle.opl_bind.specs.declared.fault.BindFault.{BindFault}
-use Rattle.opl_bind.specs.declared.fault.BindFault.TheVariants.{Shape}
-use Rattle.opl_bind.specs.declared.form.Form.{Form}
-use Rattle.opl_bind.specs.Arrays.{Axis, values_of}
-use Rattle.opl_bind.specs.Faults.{Bound, Does, Gives, then}
-use Rattle.opl_bind.specs.Forms.{Known}
-use Rattle.opl_bind.specs.Written.{further, matched, places_among, taken_layer, tested}
-use Rattle.opl_bind.proofs.WrittenLayers.{written-at, written-meaning}
+use Rattle.opl_value.specs.Places.{place_in}
+use Rattle.opl_value.specs.Total.{value_equivalence}
+use Rattle.opl_value.proofs.Places.{by_first}
 
--- ---- the first place of a value
+-- ---- one more value behind the others
 
-later : (n l : ℕ) → nat_lt (1 + n) (suc l) ≡ nat_lt n l
-later n l = grind (arith, nat_tests)
+behind : (b c : Bool) (r : Option ℕ) (n : ℕ) → cond b (Some 0) (option_map suc (option_or r (cond c (Some n) None))) ≡ option_or (cond b (Some 0) (option_map suc r)) (cond c (Some (suc n)) None)
+behind true c r n = refl
+behind false c (Some k) n = refl
+behind false true None n = refl
+behind false false None n = refl
 
-first : (l : ℕ) → nat_lt 0 (suc l) ≡ true
-first l = grind (arith, nat_tests)
+place_in-behind : (v : Value) (ws : List Value) (w : Value) → place_in v (ws ++ w ∷ []) ≡ option_or (place_in v ws) (cond (value_eq v w) (Some (length ws)) None)
+place_in-behind v [] w = refl
+place_in-behind v (x ∷ xs) w =
+    ap (λ r. cond (value_eq v x) (Some 0) (option_map suc r)) (place_in-behind v xs w)
+    ∙ behind (value_eq v x) (value_eq v w) (place_in v xs) (length xs)
 
-shifted : (b : Bool) (n : ℕ) → option_map suc (cond b (Some n) None) ≡ cond b (Some (1 + n)) None
-shifted true n = ap (λ k. Some k) (omega arith)
-shifted false n = refl
+pub place_in-more : (v : Value) (ws : List Value) (i : ℕ) (w : Value) → i < length ws → w ≡ get_or ws i w → place_in v (take (i + 1) ws) ≡ option_or (place_in v (take i ws)) (cond (value_eq v w) (Some i) None)
+place_in-more v ws i w l read =
+    ap (place_in v) (take_more ws i w l)
+    ∙ place_in-behind v (take i ws) (get_or ws i w)
+    ∙ ap (λ x. option_or (place_in v (take i ws)) (cond (value_eq v x) (Some (length (take i ws))) None)) (sym read)
+    ∙ ap (λ n. option_or (place_in v (take i ws)) (cond (value_eq v w) (Some n) None)) (length-take-le i ws (omega arith))
 
-step : (b : Bool) (n l : ℕ) (r : Option ℕ) → r ≡ cond (nat_lt n l) (Some n) None → cond b (Some 0) (option_map suc r) ≡ cond (nat_lt (cond b 0 (1 + n)) (suc l)) (Some (cond b 0 (1 + n))) None
-step true n l r h = ap (λ t. cond t (Some 0) None) (sym (first l))
-step false n l r h = ap (option_map suc) h ∙ shifted (nat_lt n l) n ∙ ap (λ t. cond t (Some (1 + n)) None) (sym (later n l))
+-- ---- a place for a value that has none yet, by what is kept for each value
 
--- how many values stand before the first that passes
-abbrev before_first : (Value → Bool) → List Value → ℕ
-before_first p [] = 0
-before_first p (v ∷ vs) = cond (p v) 0 (1 + before_first p vs)
+none_kept : (o p : Option ℕ) → is_some o ≡ false → p ≡ option_or o p
+none_kept None p e = refl
+none_kept (Some n) p e = absurd (cc)
 
-place_in-first : (v : Value) (vs : List Value) → place_in v vs ≡ cond (nat_lt (before_first (value_eq v) vs) (length vs)) (Some (before_first (value_eq v) vs)) None
-place_in-first v [] = refl
-place_in-first v (w ∷ ws) = step (value_eq v w) (before_first (value_eq v) ws) (length ws) (place_in v ws) (place_in-first v ws)
+some_kept : (o p : Option ℕ) → is_some o ≡ true → o ≡ option_or o p
+some_kept None p e = absurd (cc)
+some_kept (Some n) p e = refl
 
-pub place_in-position : (v : Value) (vs : List Value) → place_in v vs ≡ position (value_eq v) vs
-place_in-position v vs = place_in-first v vs ∙ ap (λ n. cond (nat_lt n (length vs)) (Some n) None) (is_position_or_len (before_first (value_eq v)) (value_eq v) refl (λ x xs. refl) vs)
+nothing_kept : (o : Option ℕ) → o ≡ option_or o None
+nothing_kept None = refl
+nothing_kept (Some n) = refl
 
-pub ruleset first_places = (place_in-position)
+pub first-added : (kept more : Value → Option ℕ) (value : Value) (place : ℕ) → is_some (kept value) ≡ false → ((w : Value) → more w ≡ cond (value_eq value w) (Some place) (kept w))
+    → (wanted : Value) → more wanted ≡ option_or (kept wanted) (cond (value_eq wanted value) (Some place) None)
+first-added kept more value place none updates wanted = by_first wanted value
+    (λ e same.
+    updates wanted
+    ∙ ap (λ b. cond b (Some place) (kept wanted)) (value_equivalence.symm value wanted ∙ e)
+    ∙ none_kept (kept wanted) (Some place) (ap (λ v. is_some (kept v)) same ∙ none)
+    ∙ ap (λ b. option_or (kept wanted) (cond b (Some place) None)) (sym e))
+    (λ e.
+    updates wanted
+    ∙ ap (λ b. cond b (Some place) (kept wanted)) (value_equivalence.symm value wanted ∙ e)
+    ∙ nothing_kept (kept wanted)
+    ∙ ap (λ b. option_or (kept wanted) (cond b (Some place) None)) (sym e))
 
--- ---- one more dimension
-
-pub further-found : (wrong : BindFault) (before : List ℕ) (d o : List Value) (size : ℕ) (ps qs : List ℕ) → nat_eq (length d) (length o) ≡ true → size ≡ length o → matched wrong o [] d ≡ Ok ps → qs ≡ ps
-    → further wrong before d o ≡ Ok (flat_map (λ n. map (λ p. n * size + p) qs) before)
-further-found wrong before d o size ps qs same e m q =
-    ap (λ b. cond b (then (matched wrong o [] d) (λ xs. Ok (flat_map (λ n. map (λ p. n * length o + p) xs) before))) (Err wrong)) same
-    ∙ ap (λ r. then r (λ xs. Ok (flat_map (λ n. map (λ p. n * length o + p) xs) before))) m
-    ∙ ap (λ xs. Ok (flat_map (λ n. map (λ p. n * length o + p) xs) before)) (sym q)
-    ∙ ap (λ k. Ok (flat_map (λ n. map (λ p. n * k + p) qs) before)) (sym e)
-
--- what is found, and what only memory can stop
-pub gives_done : {A B : Type 0} (reading : B → A) (b : Bound A) (a : A) (r : Result B BindFault) → b ≡ Ok a → Does (λ x. reading x ≡ a) r → Gives reading b r
-gives_done reading b a (Ok x) h g = h ∙ ap (λ y. Ok y) (sym g)
-gives_done reading b a (Err e) h g = subst (λ f. Gives reading b (Err f)) (sym g) tt
-
--- ---- what is an array, and what is none
-
-pub taken-Int : (known : Known) (at : ℕ) (form : Form) (axes : List Axis) (n : ℤ) → taken_layer known at form axes (out-Value (values.Int n)) ≡ Err (Shape 0 at)
-taken-Int known at form axes n = ap (taken_layer known at form axes) (values.outs-Int n)
-
-pub taken-Bool : (known : Known) (at : ℕ) (form : Form) (axes : List Axis) (b : Bool) → taken_layer known at form axes (out-Value (values.Bool b)) ≡ Err (Shape 0 at)
-taken-Bool known at form axes b = ap (taken_layer known at form axes) (values.outs-Bool b)
-
-pub taken-Enum : (known : Known) (at : ℕ) (form : Form) (axes : List Axis) (d p : ℕ) → taken_layer known at form axes (out-Value (values.Enum d p)) ≡ Err (Shape 0 at)
-taken-Enum known at form axes d p = ap (taken_layer known at form axes) (values.outs-Enum d p)
-
-pub taken-Record : (known : Known) (at : ℕ) (form : Form) (axes : List Axis) (vs : List Value) → taken_layer known at form axes (out-Value (values.Record vs)) ≡ Err (Shape 0 at)
-taken-Record known at form axes vs = ap (taken_layer known at form axes) (values.outs-Record vs)
-
-pub taken-Set : (known : Known) (at : ℕ) (form : Form) (axes : List Axis) (vs : List Value) → taken_layer known at form axes (out-Value (values.Set vs)) ≡ Err (Shape 0 at)
-taken-Set known at form axes vs = ap (taken_layer known at form axes) (values.outs-Set vs)
-
-pub taken-Range : (known : Known) (at : ℕ) (form : Form) (axes : List Axis) (l h : ℤ) → taken_layer known at form axes (out-Value (values.Range l h)) ≡ Err (Shape 0 at)
-taken-Range known at form axes l h = ap (taken_layer known at form axes) (values.outs-Range l h)
-
-pub taken-Names : (known : Known) (at : ℕ) (form : Form) (axes : List Axis) (ns : List (List ℕ)) → taken_layer known at form axes (out-Value (values.Names ns)) ≡ Err (Shape 0 at)
-taken-Names known at form axes ns = ap (taken_layer known at form axes) (values.outs-Names ns)
-
-pub taken-Array : (known : Known) (at : ℕ) (form : Form) (axes : List Axis) (space : IndexSpace) (vs : List Value) → taken_layer known at form axes (out-Value (values.Array space vs)) ≡ then (places_among (Shape 0 at) (0 ∷ []) (map values_of axes) (lists space)) (λ places. tested known at form (map (value_at vs) places))
-taken-Array known at form axes space vs = ap (taken_layer known at form axes) (values.outs-Array space vs)
-
-pub ruleset arrays_taken = (taken-Int, taken-Bool, taken-Enum, taken-Record, taken-Set, taken-Range, taken-Names, taken-Array)
-
-pub ruleset written_whole = (written-meaning, written-at)
+pub first-stays : (kept : Value → Option ℕ) (value : Value) (place : ℕ) → is_some (kept value) ≡ true → (wanted : Value) → kept wanted ≡ option_or (kept wanted) (cond (value_eq wanted value) (Some place) None)
+first-stays kept value place some wanted = by_first wanted value
+    (λ e same. some_kept (kept wanted) (cond (value_eq wanted value) (Some place) None) (ap (λ v. is_some (kept v)) same ∙ some))
+    (λ e. nothing_kept (kept wanted) ∙ ap (λ b. option_or (kept wanted) (cond b (Some place) None)) (sym e))

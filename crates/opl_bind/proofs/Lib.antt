@@ -21,6 +21,7 @@ pub mod Places
 pub mod Plain
 pub mod Slots
 pub mod Spaces
+pub mod TakenArrays
 pub mod WrittenExamples
 pub mod WrittenLayers
 pub mod WrittenLengths

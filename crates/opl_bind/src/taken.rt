@@ -1,10 +1,8 @@
 //! Arrays of the model that are another array: its elements, by their keys.
 ghost use Rattle.std.specs.Prelude.{◌≡◌, ◌+◌, ◌*◌, ◌<◌, ◌∷◌, ◌^◌, [], IfOk, IfSome, is_some, length, map, nat_eq};
-ghost use Rattle.std.specs.List.{flat_map, list_all, position};
+ghost use Rattle.std.specs.List.{flat_map, list_all};
 ghost use Rattle.opl_value.specs.declared.value.Dimension.TheViews.{out-Value};
-ghost use Rattle.opl_value.specs.Order.{value_eq};
 ghost use Rattle.opl_value.specs.Places.{dimension_values, value_at};
-ghost use Rattle.opl_value.specs.Places as places;
 ghost use Rattle.opl_bind.specs.Arrays.{values_of};
 ghost use Rattle.opl_bind.specs.Faults.{Binds, Does, Gives, then};
 ghost use Rattle.opl_bind.specs.Inside as inside;
@@ -18,6 +16,7 @@ use crate::fault::BindFault;
 use crate::fitted::first_token;
 use crate::form::Form;
 use crate::inside::is_inside;
+use crate::lookup::Lookup;
 use crate::scope::{Scope, evaluated};
 use crate::types::Types;
 use opl_list::Seq;
@@ -37,44 +36,16 @@ fn common_size(dimension: &Dimension, other: &Dimension) -> Result<Option<u64>, 
     }
 }
 
-/// The first index of a value that is equal.
-fn first_equal(values: &[Value], wanted: &Value) -> Option<usize>
-    ensures { result ≡ position (value_eq wanted.now) values.now }
-{
-    values.iter().position(|value| wanted == value)
-}
-
-/// The place of the first such value in a list, if it is there.
-fn place_among(values: &[Value], wanted: &Value) -> Option<usize>
-    ensures { result ≡ places.place_in wanted.now values.now }
-{
-    first_equal(values, wanted)
-}
-
-/// The place of a value in an index set, if it is there. The time is that of a search one by one where the values are listed.
-#[tactic(auto, using(crate::proofs::DimensionElements::dimension_elements))]
-fn place_in(dimension: &Dimension, wanted: &Value) -> Option<u64>
-    requires { length (dimension_values dimension.now) < 2 ^ 64 }
-    ensures { result ≡ places.place_in wanted.now (dimension_values dimension.now) }
-{
-    match dimension {
-        Dimension::Whole(..) => dimension.place(wanted),
-        Dimension::Listed(values, _) => match place_among(values.as_slice(), wanted) {
-            Some(place) => Some(place as u64),
-            None => None,
-        },
-    }
-}
-
 /// The places of the elements of an index set among those of another one.
 fn matched(alloc: Global, at: u32, axis: &Axis, other: &Dimension) -> Result<Vec<u64>, BindFault>
     requires { length (dimension_values other.now) < 2 ^ 64 }
     ensures { Gives (λ ps. ps.items) (spec.matched (BindFault.Shape 0 at) (dimension_values other.now) [] (values_of (axis_of axis.now))) result }
 {
+    let lookup = Lookup::new(alloc, other)?;
     let mut places = Vec::new(alloc);
     let mut rest = elements_of(&axis.dimension);
     while let Some((element, behind)) = rest.split_first() {
-        let Some(place) = place_in(other, element.get()) else {
+        let Some(place) = lookup.place(element.get()) else {
             return Err(BindFault::Shape(0, at));
         };
         places.push(place)?;
@@ -232,7 +203,7 @@ fn taken_array(
 }
 
 /// The elements of an array that is given as another array, by their keys.
-#[tactic(auto, using(crate::proofs::FirstPlaces::arrays_taken))]
+#[tactic(auto, using(crate::proofs::TakenArrays::arrays_taken))]
 fn taken(
     alloc: Global,
     types: &Types<'_>,
@@ -259,7 +230,7 @@ fn taken(
 }
 
 /// The elements of an array that an expression comes to, by their keys.
-#[tactic(auto, using(crate::proofs::FirstPlaces::written_whole))]
+#[tactic(auto, using(crate::proofs::TakenArrays::written_whole))]
 pub(crate) fn taken_cells(
     alloc: Global,
     types: &Types<'_>,

@@ -6,7 +6,7 @@ use Rattle.opl_bind.specs.declared.fault.BindFault.TheVariants.{Shape}
 use Rattle.opl_bind.specs.Arrays.{values_of}
 use Rattle.opl_bind.specs.Readings.{axis_of}
 use Rattle.opl_bind.specs.Written as spec
-use Rattle.opl_bind.proofs.FirstPlaces.{further-found, gives_done}
+use Rattle.opl_bind.proofs.TakenArrays.{further-found, gives_done}
 use Rattle.opl_bind.proofs.taken.further.Goals as goal
 
 pub returns : goal.returns
