@@ -1,5 +1,5 @@
 -- The types of a whole model, one part after the other.
-use Rattle.std.proofs.Common.{◌≡◌, ℕ, Bool, true, List, [], ◌∷◌, ◌++◌, map, subst, Option, None, Some, Result, Ok, Err, refl, ap, ◌∙◌, sym, append_assoc}
+use Rattle.std.proofs.Common.{◌≡◌, Bool, true, List, [], ◌∷◌, ◌++◌, map, subst, Ok, Err, refl, ap, ◌∙◌, sym, append_assoc}
 use Rattle.opl_tree.specs.declared.declaration.DeclTree.{DeclTree}
 use Rattle.opl_tree.specs.declared.model.ModelTree.{ModelTree}
 use Rattle.opl_type_rules.specs.declared.fault.TypeFault.{TypeFault}

@@ -1,5 +1,5 @@
 -- What may be required is the same inside parameters as outside of them, and a parameter is no resource.
-use Rattle.std.proofs.Common.{◌≡◌, ℕ, Bool, true, false, List, [], ◌∷◌, Option, None, Some, Result, Ok, Err, refl, ap, ◌∙◌, sym}
+use Rattle.std.proofs.Common.{◌≡◌, Bool, false, List, [], ◌∷◌, Option, None, Some, Ok, refl, ap, ◌∙◌, sym}
 use Rattle.std.specs.Prelude.{◌&&◌}
 use Rattle.std.specs.List.{list_all}
 use Rattle.opl_tree.specs.declared.expression.AddTree.{AddTree}

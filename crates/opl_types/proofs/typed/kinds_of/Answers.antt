@@ -1,6 +1,5 @@
-use Rattle.std.proofs.Common.{◌≡◌, List, [], map, ap}
+use Rattle.std.proofs.Common.{◌≡◌, [], map, ap}
 use Rattle.std.proofs.lemmas.Result.{err_from_is_err_and}
-use Rattle.opl_type_rules.specs.declared.kind.Ty.{Ty}
 use Rattle.opl_type_rules.specs.Types.{sort}
 use Rattle.opl_type_rules.specs.Values.{scope_of}
 use Rattle.opl_types.proofs.Models.{declared-faulty, instr-faulty}
