@@ -8,8 +8,8 @@ ghost use Rattle.opl_grammar.specs.Tables as tables;
 use opl_grammar::Cursor;
 use opl_grammar::list::{Part, many};
 use opl_grammar::tables::{schedule_end, starts_decl, starts_type};
+use opl_level::{Below, Level, keep, name};
 use opl_list::Seq;
-use opl_phrase::{Below, Level, name};
 use opl_token::Sign;
 use opl_tree::{
     ActivityTree, BoundsTree, DataTree, DeclTree, DimsTree, DiscreteTree, EnumNamesTree, EnumTree,
@@ -25,8 +25,8 @@ fn dims_tree<B: Below>(level: &Level<B>, cursor: &mut Cursor<'_>) -> Result<Dims
 {
     let at = cursor.place();
     cursor.expect_sign(Sign::OpenBracket)?;
-    let (first, rest) = level.below.dims(cursor, at)?;
-    cursor.expect_sign(Sign::CloseBracket)?;
+    let dims = level.below.dims(cursor, at)?;
+    let ((first, rest), ()) = keep(dims, cursor.expect_sign(Sign::CloseBracket))?;
     Ok(DimsTree { at, first, rest })
 }
 
@@ -78,11 +78,11 @@ fn data_decl<B: Below>(level: &Level<B>, cursor: &mut Cursor<'_>) -> Result<Data
 {
     let at = cursor.place();
     let kind = level.type_tree(cursor)?;
-    let name = name(level.alloc, cursor)?;
-    let dims = optional_dims(level, cursor)?;
-    cursor.expect_sign(Sign::Equal)?;
-    let initial = initial(level, cursor)?;
-    cursor.expect_sign(Sign::Semicolon)?;
+    let named = keep(kind, name(level.alloc, cursor))?;
+    let parts = keep(named, optional_dims(level, cursor))?;
+    let (parts, ()) = keep(parts, cursor.expect_sign(Sign::Equal))?;
+    let parts = keep(parts, initial(level, cursor))?;
+    let ((((kind, name), dims), initial), ()) = keep(parts, cursor.expect_sign(Sign::Semicolon))?;
     Ok(DataTree {
         at,
         kind,
@@ -102,8 +102,8 @@ fn range_decl<B: Below>(level: &Level<B>, cursor: &mut Cursor<'_>) -> Result<Ran
     cursor.expect_word(Keyword::Range)?;
     let name = name(level.alloc, cursor)?;
     let low = level.add(cursor)?;
-    let high = level.upper(cursor)?;
-    cursor.expect_sign(Sign::Semicolon)?;
+    let ends = keep(low, level.upper(cursor))?;
+    let ((low, high), ()) = keep(ends, cursor.expect_sign(Sign::Semicolon))?;
     Ok(RangeTree {
         at,
         name,
@@ -123,8 +123,8 @@ fn listed_names<B: Below>(
 {
     let at = cursor.place();
     cursor.expect_sign(Sign::OpenBrace)?;
-    let (first, rest) = level.below.names(cursor, at)?;
-    cursor.expect_sign(Sign::CloseBrace)?;
+    let names = level.below.names(cursor, at)?;
+    let ((first, rest), ()) = keep(names, cursor.expect_sign(Sign::CloseBrace))?;
     Ok(EnumNamesTree::Listed(at, first, rest))
 }
 
@@ -168,7 +168,7 @@ fn enum_decl<B: Below>(level: &Level<B>, cursor: &mut Cursor<'_>) -> Result<Enum
     cursor.expect_word(Keyword::Enum)?;
     let name = name(level.alloc, cursor)?;
     let names = enum_names(level, cursor)?;
-    cursor.expect_sign(Sign::Semicolon)?;
+    let (names, ()) = keep(names, cursor.expect_sign(Sign::Semicolon))?;
     Ok(EnumTree { at, name, names })
 }
 
@@ -186,9 +186,9 @@ fn struct_decl<B: Below>(
     let name = name(level.alloc, cursor)?;
     let opener = cursor.place();
     cursor.expect_sign(Sign::OpenBrace)?;
-    let (first, rest) = level.below.fields(cursor, opener)?;
-    cursor.expect_sign(Sign::CloseBrace)?;
-    cursor.expect_sign(Sign::Semicolon)?;
+    let fields = level.below.fields(cursor, opener)?;
+    let (fields, ()) = keep(fields, cursor.expect_sign(Sign::CloseBrace))?;
+    let ((first, rest), ()) = keep(fields, cursor.expect_sign(Sign::Semicolon))?;
     Ok(StructTree {
         at,
         name,
@@ -236,7 +236,7 @@ fn bounds<B: Below>(level: &Level<B>, cursor: &mut Cursor<'_>) -> Result<BoundsT
     let at = cursor.place();
     cursor.expect_word(Keyword::In)?;
     let low = level.add(cursor)?;
-    let high = level.upper(cursor)?;
+    let (low, high) = keep(low, level.upper(cursor))?;
     Ok(BoundsTree { at, low, high })
 }
 
@@ -267,10 +267,10 @@ fn variable_decl<B: Below>(
     let at = cursor.place();
     cursor.expect_word(Keyword::Var)?;
     let kind = variable_type(level, cursor)?;
-    let name = name(level.alloc, cursor)?;
-    let dims = optional_dims(level, cursor)?;
-    let bounds = optional_bounds(level, cursor)?;
-    cursor.expect_sign(Sign::Semicolon)?;
+    let named = keep(kind, name(level.alloc, cursor))?;
+    let parts = keep(named, optional_dims(level, cursor))?;
+    let parts = keep(parts, optional_bounds(level, cursor))?;
+    let ((((kind, name), dims), bounds), ()) = keep(parts, cursor.expect_sign(Sign::Semicolon))?;
     Ok(VariableTree {
         at,
         kind,
@@ -294,10 +294,10 @@ fn activity_decl<B: Below>(
     let name = name(level.alloc, cursor)?;
     let dims = optional_dims(level, cursor)?;
     let opener = cursor.place();
-    cursor.expect_sign(Sign::OpenParenthesis)?;
-    let (shortest, longest) = level.below.ends(cursor, opener)?;
-    cursor.expect_sign(Sign::CloseParenthesis)?;
-    cursor.expect_sign(Sign::Semicolon)?;
+    let (dims, ()) = keep(dims, cursor.expect_sign(Sign::OpenParenthesis))?;
+    let parts = keep(dims, level.below.ends(cursor, opener))?;
+    let (parts, ()) = keep(parts, cursor.expect_sign(Sign::CloseParenthesis))?;
+    let ((dims, (shortest, longest)), ()) = keep(parts, cursor.expect_sign(Sign::Semicolon))?;
     Ok(ActivityTree {
         at,
         name,
@@ -317,7 +317,7 @@ fn unary_decl<B: Below>(level: &Level<B>, cursor: &mut Cursor<'_>) -> Result<Una
     cursor.expect_word(Keyword::UnaryResource)?;
     let name = name(level.alloc, cursor)?;
     let dims = optional_dims(level, cursor)?;
-    cursor.expect_sign(Sign::Semicolon)?;
+    let (dims, ()) = keep(dims, cursor.expect_sign(Sign::Semicolon))?;
     Ok(UnaryTree { at, name, dims })
 }
 
@@ -335,10 +335,10 @@ fn discrete_decl<B: Below>(
     let name = name(level.alloc, cursor)?;
     let dims = optional_dims(level, cursor)?;
     let opener = cursor.place();
-    cursor.expect_sign(Sign::OpenParenthesis)?;
-    let capacity = level.below.add(cursor, opener)?;
-    cursor.expect_sign(Sign::CloseParenthesis)?;
-    cursor.expect_sign(Sign::Semicolon)?;
+    let (dims, ()) = keep(dims, cursor.expect_sign(Sign::OpenParenthesis))?;
+    let parts = keep(dims, level.below.add(cursor, opener))?;
+    let (parts, ()) = keep(parts, cursor.expect_sign(Sign::CloseParenthesis))?;
+    let ((dims, capacity), ()) = keep(parts, cursor.expect_sign(Sign::Semicolon))?;
     Ok(DiscreteTree {
         at,
         name,
@@ -360,7 +360,7 @@ fn schedule_decl<B: Below>(
     let end = cursor.take_found(schedule_end(cursor.look()))?;
     cursor.expect_sign(Sign::Equal)?;
     let value = level.add(cursor)?;
-    cursor.expect_sign(Sign::Semicolon)?;
+    let (value, ()) = keep(value, cursor.expect_sign(Sign::Semicolon))?;
     Ok(ScheduleTree { at, end, value })
 }
 

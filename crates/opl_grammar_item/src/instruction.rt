@@ -7,7 +7,8 @@ ghost use Rattle.opl_grammar.specs.Rules as phrases;
 use crate::item::Items;
 use crate::next_items::{NextItems, read_items};
 use opl_grammar::Cursor;
-use opl_phrase::{Level, Phrases};
+use opl_level::Level;
+use opl_phrase::Phrases;
 use opl_tree::{InstrTree, SyntaxFault};
 use std::alloc::Global;
 

@@ -1,19 +1,21 @@
 //! Items, their lists and the instruction.
 ghost use Rattle.std.specs.Prelude.{◌≡◌};
+ghost use Rattle.opl_grammar.specs.Input as steps;
 ghost use Rattle.opl_grammar.specs.Input.{Reads};
 ghost use Rattle.opl_grammar.specs.Items as rules;
 ghost use Rattle.opl_grammar.specs.Items.{ItemRules};
+ghost use Rattle.opl_grammar.specs.Rules as phrases;
 ghost use Rattle.opl_grammar.specs.Tables as tables;
 
 use opl_grammar::Cursor;
 use opl_grammar::list::{Part, behind};
 use opl_grammar::tables::{optimum, starts_item};
+use opl_level::{Below, Level, into_post, keep, name};
 use opl_list::Boxed;
-use opl_phrase::{Below, Level, into_post, name};
 use opl_token::Sign;
 use opl_tree::{
     AddTree, BlockTree, ExprTree, InstrTree, ItemTree, ItemsTree, Keyword, ParamsTree, PostTree,
-    RequiresTree, SyntaxFault,
+    RequiresTree, SubscriptsTree, SyntaxFault,
 };
 
 /// The phrases that stand behind a token that opens a level. Each is given the place of that token.
@@ -65,7 +67,7 @@ impl<B: Below, I: Inner> Items<B, I> {
         let at = cursor.place();
         cursor.expect_sign(Sign::OpenBrace)?;
         let items = self.inner.items(cursor, at)?;
-        cursor.expect_sign(Sign::CloseBrace)?;
+        let (items, ()) = keep(items, cursor.expect_sign(Sign::CloseBrace))?;
         Ok(BlockTree { at, items })
     }
 
@@ -109,8 +111,8 @@ impl<B: Below, I: Inner> Items<B, I> {
         let Some(before) = before else {
             return Err(cursor.refuse());
         };
-        cursor.expect_word(Keyword::Precedes)?;
-        let after = self.level.post(cursor)?;
+        let (before, ()) = keep(before, cursor.expect_word(Keyword::Precedes))?;
+        let (before, after) = keep(before, self.level.post(cursor))?;
         Ok(ItemTree::Precedes(at, before, after))
     }
 
@@ -124,8 +126,37 @@ impl<B: Below, I: Inner> Items<B, I> {
         let at = cursor.place();
         cursor.expect_sign(Sign::OpenParenthesis)?;
         let amount = self.level.below.add(cursor, at)?;
-        cursor.expect_sign(Sign::CloseParenthesis)?;
+        let (amount, ()) = keep(amount, cursor.expect_sign(Sign::CloseParenthesis))?;
         Ok(amount)
+    }
+
+    /// `(ADD)` or nothing
+    fn optional_demand(&self, cursor: &mut Cursor<'_>) -> Result<Option<AddTree>, SyntaxFault>
+        requires level { B.is_ready self.now.level.below }
+        requires inner { I.is_ready self.now.inner }
+        ensures { Reads (steps.maybe (steps.is_sign Sign.OpenParenthesis) (rules.demand (B.rules self.now.level.below) (I.rules self.now.inner)) cursor.old) result cursor.new }
+    {
+        if cursor.sees_sign(Sign::OpenParenthesis) {
+            Ok(Some(self.demand(cursor)?))
+        } else {
+            Ok(None)
+        }
+    }
+
+    /// Subscripts or nothing.
+    fn optional_subscripts(
+        &self,
+        cursor: &mut Cursor<'_>,
+    ) -> Result<Option<SubscriptsTree>, SyntaxFault>
+        requires level { B.is_ready self.now.level.below }
+        requires inner { I.is_ready self.now.inner }
+        ensures { Reads (steps.maybe (steps.is_sign Sign.OpenBracket) (phrases.subscripts (B.rules self.now.level.below)) cursor.old) result cursor.new }
+    {
+        if cursor.sees_sign(Sign::OpenBracket) {
+            Ok(Some(self.level.subscripts(cursor)?))
+        } else {
+            Ok(None)
+        }
     }
 
     /// `requires NAME`, with `(ADD)` before the name and subscripts behind it where they are written
@@ -140,18 +171,10 @@ impl<B: Below, I: Inner> Items<B, I> {
         requires inner { I.is_ready self.now.inner }
         ensures { Reads (rules.requires_tree (B.rules self.now.level.below) (I.rules self.now.inner) at activity cursor.old) result cursor.new }
     {
-        cursor.expect_word(Keyword::Requires)?;
-        let demand = if cursor.sees_sign(Sign::OpenParenthesis) {
-            Some(self.demand(cursor)?)
-        } else {
-            None
-        };
-        let resource = name(self.level.alloc, cursor)?;
-        let subscripts = if cursor.sees_sign(Sign::OpenBracket) {
-            Some(self.level.subscripts(cursor)?)
-        } else {
-            None
-        };
+        let (activity, ()) = keep(activity, cursor.expect_word(Keyword::Requires))?;
+        let parts = keep(activity, self.optional_demand(cursor))?;
+        let (parts, resource) = keep(parts, name(self.level.alloc, cursor))?;
+        let ((activity, demand), subscripts) = keep(parts, self.optional_subscripts(cursor))?;
         Ok(RequiresTree {
             at,
             activity,
@@ -238,7 +261,8 @@ impl<B: Below, I: Inner> Items<B, I> {
     {
         let at = cursor.place();
         let first = Boxed::new(self.level.alloc, self.item(cursor)?)?;
-        let (rest, is_closed) = behind(self.level.alloc, cursor, Sign::Semicolon, self)?;
+        let more = behind(self.level.alloc, cursor, Sign::Semicolon, self);
+        let (first, (rest, is_closed)) = keep(first, more)?;
         Ok(ItemsTree::Several(at, first, rest, is_closed))
     }
 
@@ -267,8 +291,8 @@ impl<B: Below, I: Inner> Items<B, I> {
         ensures { Reads (rules.quantified (B.rules self.now.level.below) (I.rules self.now.inner) cursor.old) result cursor.new }
     {
         let params = Boxed::new(self.level.alloc, self.level.chosen(cursor)?)?;
-        let body = Boxed::new(self.level.alloc, self.item(cursor)?)?;
-        Ok((params, body))
+        let (params, body) = keep(params, self.item(cursor))?;
+        Ok(keep(params, Boxed::new(self.level.alloc, body))?)
     }
 
     /// `else ITEMS`
@@ -282,6 +306,19 @@ impl<B: Below, I: Inner> Items<B, I> {
         self.items(cursor)
     }
 
+    /// `else ITEMS` or nothing
+    fn optional_otherwise(&self, cursor: &mut Cursor<'_>) -> Result<Option<ItemsTree>, SyntaxFault>
+        requires level { B.is_ready self.now.level.below }
+        requires inner { I.is_ready self.now.inner }
+        ensures { Reads (steps.maybe (steps.is_word Keyword.Else) (rules.otherwise (B.rules self.now.level.below) (I.rules self.now.inner)) cursor.old) result cursor.new }
+    {
+        if cursor.sees_word(Keyword::Else) {
+            Ok(Some(self.otherwise(cursor)?))
+        } else {
+            Ok(None)
+        }
+    }
+
     /// `EXPR then ITEMS endif`, or with `else ITEMS` before `endif`
     #[tactic(auto, unfolding(opl_grammar::specs::Items::branches))]
     pub fn branches(
@@ -293,14 +330,10 @@ impl<B: Below, I: Inner> Items<B, I> {
         ensures { Reads (rules.branches (B.rules self.now.level.below) (I.rules self.now.inner) cursor.old) result cursor.new }
     {
         let condition = self.level.expr(cursor)?;
-        cursor.expect_word(Keyword::Then)?;
-        let body = self.items(cursor)?;
-        let other = if cursor.sees_word(Keyword::Else) {
-            Some(self.otherwise(cursor)?)
-        } else {
-            None
-        };
-        cursor.expect_word(Keyword::EndIf)?;
+        let (condition, ()) = keep(condition, cursor.expect_word(Keyword::Then))?;
+        let parts = keep(condition, self.items(cursor))?;
+        let parts = keep(parts, self.optional_otherwise(cursor))?;
+        let (((condition, body), other), ()) = keep(parts, cursor.expect_word(Keyword::EndIf))?;
         Ok((condition, body, other))
     }
 
@@ -314,7 +347,7 @@ impl<B: Below, I: Inner> Items<B, I> {
         let at = cursor.place();
         cursor.expect_word(Keyword::Solve)?;
         let block = self.block(cursor)?;
-        cursor.expect_sign(Sign::Semicolon)?;
+        let (block, ()) = keep(block, cursor.expect_sign(Sign::Semicolon))?;
         Ok(InstrTree::Solve(at, block))
     }
 
@@ -328,10 +361,10 @@ impl<B: Below, I: Inner> Items<B, I> {
         let at = cursor.place();
         let best = cursor.take_found(optimum(cursor.look()))?;
         let objective = self.level.expr(cursor)?;
-        cursor.expect_word(Keyword::Subject)?;
-        cursor.expect_word(Keyword::To)?;
-        let block = self.block(cursor)?;
-        cursor.expect_sign(Sign::Semicolon)?;
+        let (objective, ()) = keep(objective, cursor.expect_word(Keyword::Subject))?;
+        let (objective, ()) = keep(objective, cursor.expect_word(Keyword::To))?;
+        let parts = keep(objective, self.block(cursor))?;
+        let ((objective, block), ()) = keep(parts, cursor.expect_sign(Sign::Semicolon))?;
         Ok(InstrTree::Optimize(at, best, objective, block))
     }
 

@@ -8,8 +8,9 @@ ghost use Rattle.opl_grammar_item.specs.ItemNests.{ItemsNest};
 use crate::item::{Inner, Items};
 use crate::wanted_items::{FoundItems, WantedItems};
 use opl_grammar::Cursor;
+use opl_level::{Below, Level};
 use opl_list::Boxed;
-use opl_phrase::{Below, Level, Phrases};
+use opl_phrase::Phrases;
 use opl_tree::{ExprTree, ItemTree, ItemsTree, ParamsTree, SyntaxFault};
 use std::alloc::Global;
 

@@ -8,8 +8,9 @@ ghost use Rattle.opl_grammar_statement.specs.StatementNests.{StatementsNest};
 use crate::statement::{Beneath, Statements};
 use crate::wanted_statements::{FoundStatements, WantedStatements};
 use opl_grammar::Cursor;
+use opl_level::{Below, Level};
 use opl_list::{Boxed, Seq};
-use opl_phrase::{Below, Level, Phrases};
+use opl_phrase::Phrases;
 use opl_tree::{ExprTree, OrderedParamsTree, StatementTree, StatementsTree, SyntaxFault};
 use std::alloc::Global;
 

@@ -7,7 +7,8 @@ ghost use Rattle.opl_grammar.specs.Search as rules;
 use crate::next_statements::{NextStatements, read_statements};
 use crate::statement::Statements;
 use opl_grammar::Cursor;
-use opl_phrase::{Level, Phrases};
+use opl_level::Level;
+use opl_phrase::Phrases;
 use opl_tree::{SearchTree, SyntaxFault};
 use std::alloc::Global;
 

@@ -1,5 +1,6 @@
 //! Statements, their lists and the search section.
 ghost use Rattle.std.specs.Prelude.{◌≡◌};
+ghost use Rattle.opl_grammar.specs.Input as steps;
 ghost use Rattle.opl_grammar.specs.Input.{Reads};
 ghost use Rattle.opl_grammar.specs.Search as rules;
 ghost use Rattle.opl_grammar.specs.Search.{StatementRules};
@@ -8,8 +9,8 @@ ghost use Rattle.opl_grammar.specs.Tables as tables;
 use opl_grammar::Cursor;
 use opl_grammar::list::{Part, Phrase, after_each, behind};
 use opl_grammar::tables::{branch_op, label_op, starts_statement};
+use opl_level::{Below, Level, into_post, keep};
 use opl_list::{Boxed, Seq};
-use opl_phrase::{Below, Level, into_post};
 use opl_token::Sign;
 use opl_tree::{
     ExprTree, Keyword, OrderedParamsTree, PostTree, SearchBlockTree, SearchTree, StatementTree,
@@ -92,7 +93,7 @@ impl<B: Below, I: Beneath> Statements<B, I> {
         let at = cursor.place();
         cursor.expect_sign(Sign::OpenBrace)?;
         let statements = self.inner.statements(cursor, at)?;
-        cursor.expect_sign(Sign::CloseBrace)?;
+        let (statements, ()) = keep(statements, cursor.expect_sign(Sign::CloseBrace))?;
         Ok(SearchBlockTree { at, statements })
     }
 
@@ -188,8 +189,8 @@ impl<B: Below, I: Beneath> Statements<B, I> {
         let Some(before) = before else {
             return Err(cursor.refuse());
         };
-        cursor.expect_word(Keyword::Precedes)?;
-        let after = self.level.post(cursor)?;
+        let (before, ()) = keep(before, cursor.expect_word(Keyword::Precedes))?;
+        let (before, after) = keep(before, self.level.post(cursor))?;
         Ok(StatementTree::Precedes(at, before, after))
     }
 
@@ -271,7 +272,8 @@ impl<B: Below, I: Beneath> Statements<B, I> {
     {
         let at = cursor.place();
         let first = Boxed::new(self.level.alloc, self.statement(cursor)?)?;
-        let (rest, is_closed) = behind(self.level.alloc, cursor, Sign::Semicolon, self)?;
+        let more = behind(self.level.alloc, cursor, Sign::Semicolon, self);
+        let (first, (rest, is_closed)) = keep(first, more)?;
         Ok(StatementsTree::Several(at, first, rest, is_closed))
     }
 
@@ -311,9 +313,9 @@ impl<B: Below, I: Beneath> Statements<B, I> {
         ensures { Reads (rules.alternatives (B.rules self.now.level.below) (I.rules self.now.inner) cursor.old) result cursor.new }
     {
         let first = self.statements(cursor)?;
-        let second = self.alternative(cursor)?;
-        let rest = after_each(self.level.alloc, cursor, Sign::Bar, self)?;
-        cursor.expect_word(Keyword::EndTry)?;
+        let parts = keep(first, self.alternative(cursor))?;
+        let parts = keep(parts, after_each(self.level.alloc, cursor, Sign::Bar, self))?;
+        let (((first, second), rest), ()) = keep(parts, cursor.expect_word(Keyword::EndTry))?;
         Ok((first, second, rest))
     }
 
@@ -327,7 +329,7 @@ impl<B: Below, I: Beneath> Statements<B, I> {
         let at = cursor.place();
         cursor.expect_sign(Sign::OpenParenthesis)?;
         let params = self.level.below.ordered(cursor, at)?;
-        cursor.expect_sign(Sign::CloseParenthesis)?;
+        let (params, ()) = keep(params, cursor.expect_sign(Sign::CloseParenthesis))?;
         Ok(params)
     }
 
@@ -342,8 +344,8 @@ impl<B: Below, I: Beneath> Statements<B, I> {
         ensures { Reads (rules.branch (B.rules self.now.level.below) (I.rules self.now.inner) cursor.old) result cursor.new }
     {
         let params = Boxed::new(self.level.alloc, self.ordered_chosen(cursor)?)?;
-        let body = Boxed::new(self.level.alloc, self.statement(cursor)?)?;
-        Ok((params, body))
+        let (params, body) = keep(params, self.statement(cursor))?;
+        Ok(keep(params, Boxed::new(self.level.alloc, body))?)
     }
 
     /// `EXPR do STATEMENT`
@@ -357,9 +359,9 @@ impl<B: Below, I: Beneath> Statements<B, I> {
         ensures { Reads (rules.repeated (B.rules self.now.level.below) (I.rules self.now.inner) cursor.old) result cursor.new }
     {
         let condition = self.level.expr(cursor)?;
-        cursor.expect_word(Keyword::Do)?;
-        let body = Boxed::new(self.level.alloc, self.statement(cursor)?)?;
-        Ok((condition, body))
+        let (condition, ()) = keep(condition, cursor.expect_word(Keyword::Do))?;
+        let (condition, body) = keep(condition, self.statement(cursor))?;
+        Ok(keep(condition, Boxed::new(self.level.alloc, body))?)
     }
 
     /// `else STATEMENTS`
@@ -373,6 +375,22 @@ impl<B: Below, I: Beneath> Statements<B, I> {
         self.statements(cursor)
     }
 
+    /// `else STATEMENTS` or nothing
+    fn optional_otherwise(
+        &self,
+        cursor: &mut Cursor<'_>,
+    ) -> Result<Option<StatementsTree>, SyntaxFault>
+        requires level { B.is_ready self.now.level.below }
+        requires inner { I.is_ready self.now.inner }
+        ensures { Reads (steps.maybe (steps.is_word Keyword.Else) (rules.otherwise (B.rules self.now.level.below) (I.rules self.now.inner)) cursor.old) result cursor.new }
+    {
+        if cursor.sees_word(Keyword::Else) {
+            Ok(Some(self.otherwise(cursor)?))
+        } else {
+            Ok(None)
+        }
+    }
+
     /// `EXPR then STATEMENTS endif`, or with `else STATEMENTS` before `endif`
     #[tactic(auto, unfolding(opl_grammar::specs::Search::choice))]
     pub fn choice(
@@ -384,14 +402,10 @@ impl<B: Below, I: Beneath> Statements<B, I> {
         ensures { Reads (rules.choice (B.rules self.now.level.below) (I.rules self.now.inner) cursor.old) result cursor.new }
     {
         let condition = self.level.expr(cursor)?;
-        cursor.expect_word(Keyword::Then)?;
-        let body = self.statements(cursor)?;
-        let other = if cursor.sees_word(Keyword::Else) {
-            Some(self.otherwise(cursor)?)
-        } else {
-            None
-        };
-        cursor.expect_word(Keyword::EndIf)?;
+        let (condition, ()) = keep(condition, cursor.expect_word(Keyword::Then))?;
+        let parts = keep(condition, self.statements(cursor))?;
+        let parts = keep(parts, self.optional_otherwise(cursor))?;
+        let (((condition, body), other), ()) = keep(parts, cursor.expect_word(Keyword::EndIf))?;
         Ok((condition, body, other))
     }
 
@@ -405,7 +419,7 @@ impl<B: Below, I: Beneath> Statements<B, I> {
         let at = cursor.place();
         cursor.expect_word(Keyword::Search)?;
         let block = self.search_block(cursor)?;
-        cursor.expect_sign(Sign::Semicolon)?;
+        let (block, ()) = keep(block, cursor.expect_sign(Sign::Semicolon))?;
         Ok(SearchTree { at, block })
     }
 }

@@ -1,20 +1,19 @@
 //! The rules closed: one function that is passed to itself reads every level.
-ghost use Rattle.std.specs.Prelude.{◌≡◌, true, IfOk};
+ghost use Rattle.std.specs.Prelude.{◌≡◌, true};
 ghost use Rattle.opl_grammar.specs.Input.{Reads};
 ghost use Rattle.opl_grammar.specs.Rules as rules;
 ghost use Rattle.opl_phrase.specs.Nests as spec;
 ghost use Rattle.opl_phrase.specs.Nests.{Nests};
 
-use crate::below::{Below, Level};
 use crate::wanted::{Found, Wanted};
-use crate::word::names;
 use opl_grammar::{Braced, Cursor, Operand};
+use opl_level::{Below, Level, boxed, keep, names};
 use opl_list::{Boxed, Seq};
 use opl_tree::{
     AddTree, DimTree, ExprTree, FieldTree, ImpTree, KeyedTree, MulTree, NameTree, NegTree,
     OrderedParamsTree, ParamsTree, PostTree, SyntaxFault, TypeTree,
 };
-use std::alloc::{AllocError, Global};
+use std::alloc::Global;
 
 /// A tree without its box.
 fn unboxed(t: Option<Boxed<AddTree>>) -> Option<AddTree>
@@ -23,16 +22,6 @@ fn unboxed(t: Option<Boxed<AddTree>>) -> Option<AddTree>
     match t {
         Some(inner) => Some(inner.into_inner()),
         None => None,
-    }
-}
-
-/// A tree in a box.
-fn boxed(alloc: Global, t: Option<AddTree>) -> Result<Option<Boxed<AddTree>>, AllocError>
-    ensures { IfOk result (λ inner. inner ≡ t) }
-{
-    match t {
-        Some(inner) => Ok(Some(Boxed::new(alloc, inner)?)),
-        None => Ok(None),
     }
 }
 
@@ -229,143 +218,143 @@ impl<F: Fn(Global, &mut Cursor<'_>, u32, u32, Wanted) -> Result<Found, SyntaxFau
     }
 }
 
-impl<B: Below> Level<B> {
-    /// What stands behind `(`. Nothing else is asked of it.
-    #[tactic(auto, unfolding(opl_grammar::specs::Rules::level))]
-    fn parenthesized(
-        &self,
-        cursor: &mut Cursor<'_>,
-        at: u32,
-        wanted: Wanted,
-    ) -> Result<Found, SyntaxFault>
-        requires ready { B.is_ready self.now.below }
-        requires asked { spec.asks_parenthesized wanted ≡ true }
-        ensures { Reads (spec.one_of (rules.level (B.rules self.now.below)) at wanted cursor.old) result cursor.new }
-    {
-        match wanted {
-            Wanted::Expr => Ok(Found::Expr(self.expr(cursor)?)),
-            Wanted::Add => Ok(Found::Add(self.add(cursor)?)),
-            Wanted::Post => Ok(Found::Post(self.post(cursor)?)),
-            Wanted::Params => {
-                let found = self.params(cursor)?;
-                Ok(Found::Params(Boxed::new(self.alloc, found)?))
-            }
-            Wanted::Ordered => {
-                let found = self.ordered_params(cursor)?;
-                Ok(Found::Ordered(Boxed::new(self.alloc, found)?))
-            }
-            Wanted::Ends => {
-                let (low, high) = self.ends(cursor)?;
-                let low = Boxed::new(self.alloc, low)?;
-                Ok(Found::Ends(low, boxed(self.alloc, high)?))
-            }
-            _ => unreachable!(),
+/// What stands behind `(`. Nothing else is asked of it.
+#[tactic(auto, unfolding(opl_grammar::specs::Rules::level))]
+fn parenthesized<B: Below>(
+    level: &Level<B>,
+    cursor: &mut Cursor<'_>,
+    at: u32,
+    wanted: Wanted,
+) -> Result<Found, SyntaxFault>
+    requires ready { B.is_ready level.now.below }
+    requires asked { spec.asks_parenthesized wanted ≡ true }
+    ensures { Reads (spec.one_of (rules.level (B.rules level.now.below)) at wanted cursor.old) result cursor.new }
+{
+    match wanted {
+        Wanted::Expr => Ok(Found::Expr(level.expr(cursor)?)),
+        Wanted::Add => Ok(Found::Add(level.add(cursor)?)),
+        Wanted::Post => Ok(Found::Post(level.post(cursor)?)),
+        Wanted::Params => {
+            let found = level.params(cursor)?;
+            Ok(Found::Params(Boxed::new(level.alloc, found)?))
         }
+        Wanted::Ordered => {
+            let found = level.ordered_params(cursor)?;
+            Ok(Found::Ordered(Boxed::new(level.alloc, found)?))
+        }
+        Wanted::Ends => {
+            let (low, high) = level.ends(cursor)?;
+            let (high, low) = keep(high, Boxed::new(level.alloc, low))?;
+            let (low, high) = keep(low, boxed(level.alloc, high))?;
+            Ok(Found::Ends(low, high))
+        }
+        _ => unreachable!(),
     }
+}
 
-    /// What stands behind an operator or the word of an aggregate. Nothing else is asked of it.
-    #[tactic(auto, unfolding(opl_grammar::specs::Rules::level))]
-    fn operated(
-        &self,
-        cursor: &mut Cursor<'_>,
-        at: u32,
-        wanted: Wanted,
-    ) -> Result<Found, SyntaxFault>
-        requires ready { B.is_ready self.now.below }
-        requires asked { spec.asks_operated wanted ≡ true }
-        ensures { Reads (spec.one_of (rules.level (B.rules self.now.below)) at wanted cursor.old) result cursor.new }
-    {
-        match wanted {
-            Wanted::Imp => Ok(Found::Imp(self.imp(cursor)?)),
-            Wanted::Neg => Ok(Found::Neg(self.neg(cursor)?)),
-            Wanted::Operand => Ok(Found::Operand(self.operand(cursor)?)),
-            Wanted::Aggregate => {
-                let (first, second) = self.aggregated(cursor)?;
-                Ok(Found::Aggregate(first, second))
-            }
-            _ => unreachable!(),
+/// What stands behind an operator or the word of an aggregate. Nothing else is asked of it.
+#[tactic(auto, unfolding(opl_grammar::specs::Rules::level))]
+fn operated<B: Below>(
+    level: &Level<B>,
+    cursor: &mut Cursor<'_>,
+    at: u32,
+    wanted: Wanted,
+) -> Result<Found, SyntaxFault>
+    requires ready { B.is_ready level.now.below }
+    requires asked { spec.asks_operated wanted ≡ true }
+    ensures { Reads (spec.one_of (rules.level (B.rules level.now.below)) at wanted cursor.old) result cursor.new }
+{
+    match wanted {
+        Wanted::Imp => Ok(Found::Imp(level.imp(cursor)?)),
+        Wanted::Neg => Ok(Found::Neg(level.neg(cursor)?)),
+        Wanted::Operand => Ok(Found::Operand(level.operand(cursor)?)),
+        Wanted::Aggregate => {
+            let (first, second) = level.aggregated(cursor)?;
+            Ok(Found::Aggregate(first, second))
         }
+        _ => unreachable!(),
     }
+}
 
-    /// A list of expressions. Nothing else is asked of it.
-    #[tactic(auto, unfolding(opl_grammar::specs::Rules::level))]
-    fn listed_in(
-        &self,
-        cursor: &mut Cursor<'_>,
-        at: u32,
-        wanted: Wanted,
-    ) -> Result<Found, SyntaxFault>
-        requires ready { B.is_ready self.now.below }
-        requires asked { spec.asks_listed_in wanted ≡ true }
-        ensures { Reads (spec.one_of (rules.level (B.rules self.now.below)) at wanted cursor.old) result cursor.new }
-    {
-        match wanted {
-            Wanted::Adds => {
-                let (first, second) = self.adds(cursor)?;
-                Ok(Found::Adds(first, second))
-            }
-            Wanted::Listed => Ok(Found::Listed(self.listed(cursor)?)),
-            Wanted::Keyed => Ok(Found::Keyed(self.keyed(cursor)?)),
-            Wanted::Braced => Ok(Found::Braced(self.braced(cursor)?)),
-            _ => unreachable!(),
+/// A list of expressions. Nothing else is asked of it.
+#[tactic(auto, unfolding(opl_grammar::specs::Rules::level))]
+fn listed_in<B: Below>(
+    level: &Level<B>,
+    cursor: &mut Cursor<'_>,
+    at: u32,
+    wanted: Wanted,
+) -> Result<Found, SyntaxFault>
+    requires ready { B.is_ready level.now.below }
+    requires asked { spec.asks_listed_in wanted ≡ true }
+    ensures { Reads (spec.one_of (rules.level (B.rules level.now.below)) at wanted cursor.old) result cursor.new }
+{
+    match wanted {
+        Wanted::Adds => {
+            let (first, second) = level.adds(cursor)?;
+            Ok(Found::Adds(first, second))
         }
+        Wanted::Listed => Ok(Found::Listed(level.listed(cursor)?)),
+        Wanted::Keyed => Ok(Found::Keyed(level.keyed(cursor)?)),
+        Wanted::Braced => Ok(Found::Braced(level.braced(cursor)?)),
+        _ => unreachable!(),
     }
+}
 
-    /// What stands in the brackets of declarations. Nothing else is asked of it.
-    #[tactic(auto, unfolding(opl_grammar::specs::Rules::level))]
-    fn declared(
-        &self,
-        cursor: &mut Cursor<'_>,
-        at: u32,
-        wanted: Wanted,
-    ) -> Result<Found, SyntaxFault>
-        requires ready { B.is_ready self.now.below }
-        requires asked { spec.asks_declared wanted ≡ true }
-        ensures { Reads (spec.one_of (rules.level (B.rules self.now.below)) at wanted cursor.old) result cursor.new }
-    {
-        match wanted {
-            Wanted::Names => {
-                let (first, rest) = names(self.alloc, cursor)?;
-                Ok(Found::Names(first, rest))
-            }
-            Wanted::Type => Ok(Found::Type(self.type_tree(cursor)?)),
-            Wanted::Fields => {
-                let (first, second) = self.fields(cursor)?;
-                Ok(Found::Fields(first, second))
-            }
-            Wanted::Dims => {
-                let (first, rest) = self.dims(cursor)?;
-                Ok(Found::Dims(Boxed::new(self.alloc, first)?, rest))
-            }
-            _ => unreachable!(),
+/// What stands in the brackets of declarations. Nothing else is asked of it.
+#[tactic(auto, unfolding(opl_grammar::specs::Rules::level))]
+fn declared<B: Below>(
+    level: &Level<B>,
+    cursor: &mut Cursor<'_>,
+    at: u32,
+    wanted: Wanted,
+) -> Result<Found, SyntaxFault>
+    requires ready { B.is_ready level.now.below }
+    requires asked { spec.asks_declared wanted ≡ true }
+    ensures { Reads (spec.one_of (rules.level (B.rules level.now.below)) at wanted cursor.old) result cursor.new }
+{
+    match wanted {
+        Wanted::Names => {
+            let (first, rest) = names(level.alloc, cursor)?;
+            Ok(Found::Names(first, rest))
         }
+        Wanted::Type => Ok(Found::Type(level.type_tree(cursor)?)),
+        Wanted::Fields => {
+            let (first, second) = level.fields(cursor)?;
+            Ok(Found::Fields(first, second))
+        }
+        Wanted::Dims => {
+            let (first, rest) = level.dims(cursor)?;
+            let (rest, first) = keep(rest, Boxed::new(level.alloc, first))?;
+            Ok(Found::Dims(first, rest))
+        }
+        _ => unreachable!(),
     }
+}
 
-    /// What is wanted behind the token at this place.
-    pub fn one_of(
-        &self,
-        cursor: &mut Cursor<'_>,
-        at: u32,
-        wanted: Wanted,
-    ) -> Result<Found, SyntaxFault>
-        requires { B.is_ready self.now.below }
-        ensures { Reads (spec.one_of (rules.level (B.rules self.now.below)) at wanted cursor.old) result cursor.new }
-    {
-        match wanted {
-            Wanted::Expr
-            | Wanted::Add
-            | Wanted::Post
-            | Wanted::Params
-            | Wanted::Ordered
-            | Wanted::Ends => self.parenthesized(cursor, at, wanted),
-            Wanted::Imp | Wanted::Neg | Wanted::Operand | Wanted::Aggregate => self.operated(
-                cursor, at, wanted,
-            ),
-            Wanted::Adds | Wanted::Listed | Wanted::Keyed | Wanted::Braced => self.listed_in(
-                cursor, at, wanted,
-            ),
-            _ => self.declared(cursor, at, wanted),
-        }
+/// What is wanted behind the token at this place.
+fn one_of<B: Below>(
+    level: &Level<B>,
+    cursor: &mut Cursor<'_>,
+    at: u32,
+    wanted: Wanted,
+) -> Result<Found, SyntaxFault>
+    requires { B.is_ready level.now.below }
+    ensures { Reads (spec.one_of (rules.level (B.rules level.now.below)) at wanted cursor.old) result cursor.new }
+{
+    match wanted {
+        Wanted::Expr
+        | Wanted::Add
+        | Wanted::Post
+        | Wanted::Params
+        | Wanted::Ordered
+        | Wanted::Ends => parenthesized(level, cursor, at, wanted),
+        Wanted::Imp | Wanted::Neg | Wanted::Operand | Wanted::Aggregate => operated(
+            level, cursor, at, wanted,
+        ),
+        Wanted::Adds | Wanted::Listed | Wanted::Keyed | Wanted::Braced => listed_in(
+            level, cursor, at, wanted,
+        ),
+        _ => declared(level, cursor, at, wanted),
     }
 }
 
@@ -388,5 +377,5 @@ pub fn read(
         levels: levels - 1,
         read,
     };
-    Level { alloc, below }.one_of(cursor, at, wanted)
+    one_of(&Level { alloc, below }, cursor, at, wanted)
 }

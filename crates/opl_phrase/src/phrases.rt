@@ -2,9 +2,9 @@
 ghost use Rattle.opl_grammar.specs.Rules as rules;
 ghost use Rattle.std.specs.Prelude.{⊤};
 
-use crate::below::Below;
 use crate::next::{Next, read};
 use opl_grammar::{Braced, Cursor, Operand};
+use opl_level::Below;
 use opl_list::{Boxed, Seq};
 use opl_tree::{
     AddTree, DimTree, ExprTree, FieldTree, ImpTree, KeyedTree, MulTree, NameTree, NegTree,

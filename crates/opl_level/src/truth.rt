@@ -1,9 +1,11 @@
 //! Comparisons and what joins them.
 ghost use Rattle.std.specs.Prelude.{◌≡◌};
+ghost use Rattle.opl_grammar.specs.Input as steps;
 ghost use Rattle.opl_grammar.specs.Input.{Reads};
 ghost use Rattle.opl_grammar.specs.Rules as rules;
 
 use crate::below::{Below, Level};
+use crate::keeping::keep;
 use opl_grammar::Cursor;
 use opl_grammar::list::{Phrase, after_each};
 use opl_grammar::tables::relation;
@@ -25,8 +27,9 @@ impl<B: Below> Level<B> {
         requires { B.is_ready self.now.below }
         ensures { Reads (rules.related (B.rules self.now.below) at left cursor.old) result cursor.new }
     {
-        let op = cursor.take_found(relation(cursor.look()))?;
-        let right = Boxed::new(self.alloc, self.add(cursor)?)?;
+        let (left, op) = keep(left, cursor.take_found(relation(cursor.look())))?;
+        let (left, right) = keep(left, self.add(cursor))?;
+        let (left, right) = keep(left, Boxed::new(self.alloc, right))?;
         Ok(CompareTree::Related(at, left, op, right))
     }
 
@@ -41,8 +44,9 @@ impl<B: Below> Level<B> {
         requires { B.is_ready self.now.below }
         ensures { Reads (rules.member (B.rules self.now.below) at left cursor.old) result cursor.new }
     {
-        cursor.expect_word(Keyword::In)?;
-        let set = Boxed::new(self.alloc, self.set(cursor)?)?;
+        let (left, ()) = keep(left, cursor.expect_word(Keyword::In))?;
+        let (left, set) = keep(left, self.set(cursor))?;
+        let (left, set) = keep(left, Boxed::new(self.alloc, set))?;
         Ok(CompareTree::Member(at, left, set))
     }
 
@@ -110,7 +114,7 @@ impl<B: Below> Level<B> {
     {
         let at = cursor.place();
         let first = self.neg(cursor)?;
-        let rest = after_each(self.alloc, cursor, Sign::And, self)?;
+        let (first, rest) = keep(first, after_each(self.alloc, cursor, Sign::And, self))?;
         Ok(AndTree { at, first, rest })
     }
 
@@ -122,7 +126,7 @@ impl<B: Below> Level<B> {
     {
         let at = cursor.place();
         let first = self.and(cursor)?;
-        let rest = after_each(self.alloc, cursor, Sign::Or, self)?;
+        let (first, rest) = keep(first, after_each(self.alloc, cursor, Sign::Or, self))?;
         Ok(OrTree { at, first, rest })
     }
 
@@ -137,6 +141,21 @@ impl<B: Below> Level<B> {
         self.below.imp(cursor, at)
     }
 
+    /// `=> IMP` or nothing
+    fn optional_conclusion(
+        &self,
+        cursor: &mut Cursor<'_>,
+    ) -> Result<Option<Boxed<ImpTree>>, SyntaxFault>
+        requires { B.is_ready self.now.below }
+        ensures { Reads (steps.maybe (steps.is_sign Sign.Implies) (rules.conclusion (B.rules self.now.below)) cursor.old) result cursor.new }
+    {
+        if cursor.sees_sign(Sign::Implies) {
+            Ok(Some(Boxed::new(self.alloc, self.conclusion(cursor)?)?))
+        } else {
+            Ok(None)
+        }
+    }
+
     /// `OR` or `OR => IMP`
     #[tactic(auto, unfolding(opl_grammar::specs::Rules::imp))]
     pub fn imp(&self, cursor: &mut Cursor<'_>) -> Result<ImpTree, SyntaxFault>
@@ -145,11 +164,7 @@ impl<B: Below> Level<B> {
     {
         let at = cursor.place();
         let premise = self.or(cursor)?;
-        let conclusion = if cursor.sees_sign(Sign::Implies) {
-            Some(Boxed::new(self.alloc, self.conclusion(cursor)?)?)
-        } else {
-            None
-        };
+        let (premise, conclusion) = keep(premise, self.optional_conclusion(cursor))?;
         Ok(ImpTree {
             at,
             premise,
@@ -165,7 +180,10 @@ impl<B: Below> Level<B> {
     {
         let at = cursor.place();
         let first = self.imp(cursor)?;
-        let rest = after_each(self.alloc, cursor, Sign::Equivalent, self)?;
+        let (first, rest) = keep(
+            first,
+            after_each(self.alloc, cursor, Sign::Equivalent, self),
+        )?;
         Ok(ExprTree { at, first, rest })
     }
 }

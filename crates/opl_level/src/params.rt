@@ -1,10 +1,12 @@
 //! Parameters.
 ghost use Rattle.std.specs.Prelude.{◌≡◌};
+ghost use Rattle.opl_grammar.specs.Input as steps;
 ghost use Rattle.opl_grammar.specs.Input.{Reads};
 ghost use Rattle.opl_grammar.specs.Rules as rules;
 ghost use Rattle.opl_grammar.specs.Tables as tables;
 
 use crate::below::{Below, Level};
+use crate::keeping::keep;
 use crate::word::name;
 use opl_grammar::Cursor;
 use opl_grammar::list::{Part, Phrase, after_each, many};
@@ -25,8 +27,8 @@ impl<B: Below> Level<B> {
     {
         let at = cursor.place();
         cursor.expect_sign(Sign::Less)?;
-        let (first, rest) = self.below.names(cursor, at)?;
-        cursor.expect_sign(Sign::Greater)?;
+        let names = self.below.names(cursor, at)?;
+        let ((first, rest), ()) = keep(names, cursor.expect_sign(Sign::Greater))?;
         Ok(PatternTree::Record(at, first, rest))
     }
 
@@ -52,9 +54,9 @@ impl<B: Below> Level<B> {
         let at = cursor.place();
         let is_ordered = cursor.eat_word(Keyword::Ordered);
         let first = self.pattern(cursor)?;
-        let rest = after_each(self.alloc, cursor, Sign::Comma, self)?;
-        cursor.expect_word(Keyword::In)?;
-        let set = self.set(cursor)?;
+        let patterns = keep(first, after_each(self.alloc, cursor, Sign::Comma, self))?;
+        let (patterns, ()) = keep(patterns, cursor.expect_word(Keyword::In))?;
+        let ((first, rest), set) = keep(patterns, self.set(cursor))?;
         Ok(GroupTree {
             at,
             is_ordered,
@@ -85,6 +87,21 @@ impl<B: Below> Level<B> {
         self.expr(cursor)
     }
 
+    /// `: EXPR` or nothing
+    fn optional_condition(
+        &self,
+        cursor: &mut Cursor<'_>,
+    ) -> Result<Option<Boxed<ExprTree>>, SyntaxFault>
+        requires { B.is_ready self.now.below }
+        ensures { Reads (steps.maybe (steps.is_sign Sign.Colon) (rules.condition (B.rules self.now.below)) cursor.old) result cursor.new }
+    {
+        if cursor.sees_sign(Sign::Colon) {
+            Ok(Some(Boxed::new(self.alloc, self.condition(cursor)?)?))
+        } else {
+            Ok(None)
+        }
+    }
+
     /// `GROUP, GROUP & ..`, with or without `: EXPR`
     #[tactic(auto, unfolding(opl_grammar::specs::Rules::params))]
     pub fn params(&self, cursor: &mut Cursor<'_>) -> Result<ParamsTree, SyntaxFault>
@@ -93,12 +110,8 @@ impl<B: Below> Level<B> {
     {
         let at = cursor.place();
         let first = self.group(cursor)?;
-        let rest = many(self.alloc, cursor, self)?;
-        let condition = if cursor.sees_sign(Sign::Colon) {
-            Some(Boxed::new(self.alloc, self.condition(cursor)?)?)
-        } else {
-            None
-        };
+        let groups = keep(first, many(self.alloc, cursor, self))?;
+        let ((first, rest), condition) = keep(groups, self.optional_condition(cursor))?;
         Ok(ParamsTree {
             at,
             first,
@@ -116,7 +129,7 @@ impl<B: Below> Level<B> {
         let at = cursor.place();
         cursor.expect_sign(Sign::OpenParenthesis)?;
         let params = self.below.params(cursor, at)?;
-        cursor.expect_sign(Sign::CloseParenthesis)?;
+        let (params, ()) = keep(params, cursor.expect_sign(Sign::CloseParenthesis))?;
         Ok(params)
     }
 
@@ -138,6 +151,18 @@ impl<B: Below> Level<B> {
         })
     }
 
+    /// `ordered by increasing ADD` and the like, or nothing
+    fn optional_order(&self, cursor: &mut Cursor<'_>) -> Result<Option<OrderTree>, SyntaxFault>
+        requires { B.is_ready self.now.below }
+        ensures { Reads (steps.maybe (steps.is_word Keyword.Ordered) (rules.order (B.rules self.now.below)) cursor.old) result cursor.new }
+    {
+        if cursor.sees_word(Keyword::Ordered) {
+            Ok(Some(self.order(cursor)?))
+        } else {
+            Ok(None)
+        }
+    }
+
     /// `PARAMS` or `PARAMS ORDER`
     #[tactic(auto, unfolding(opl_grammar::specs::Rules::ordered_params))]
     pub fn ordered_params(&self, cursor: &mut Cursor<'_>) -> Result<OrderedParamsTree, SyntaxFault>
@@ -146,11 +171,7 @@ impl<B: Below> Level<B> {
     {
         let at = cursor.place();
         let params = self.params(cursor)?;
-        let order = if cursor.sees_word(Keyword::Ordered) {
-            Some(self.order(cursor)?)
-        } else {
-            None
-        };
+        let (params, order) = keep(params, self.optional_order(cursor))?;
         Ok(OrderedParamsTree { at, params, order })
     }
 }

@@ -6,6 +6,7 @@ ghost use Rattle.opl_grammar.specs.Tables as tables;
 
 use crate::below::{Below, Level};
 use crate::just::into_name;
+use crate::keeping::keep;
 use crate::word::name;
 use opl_grammar::list::{Part, Phrase, after_each, many};
 use opl_grammar::tables::{starts_add, starts_type};
@@ -39,8 +40,8 @@ impl<B: Below> Level<B> {
         ensures { Reads (rules.aggregated (B.rules self.now.below) cursor.old) result cursor.new }
     {
         let params = Boxed::new(self.alloc, self.chosen(cursor)?)?;
-        let body = Boxed::new(self.alloc, self.mul(cursor)?)?;
-        Ok((params, body))
+        let (params, body) = keep(params, self.mul(cursor))?;
+        Ok(keep(params, Boxed::new(self.alloc, body))?)
     }
 
     /// `ADD, ADD, ..` or nothing
@@ -66,8 +67,9 @@ impl<B: Below> Level<B> {
         requires { B.is_ready self.now.below }
         ensures { Reads (rules.described (B.rules self.now.below) first cursor.old) result cursor.new }
     {
-        cursor.expect_sign(Sign::Bar)?;
-        let params = Boxed::new(self.alloc, self.params(cursor)?)?;
+        let (first, ()) = keep(first, cursor.expect_sign(Sign::Bar))?;
+        let (first, params) = keep(first, self.params(cursor))?;
+        let (first, params) = keep(first, Boxed::new(self.alloc, params))?;
         Ok(Braced::Described(first, params))
     }
 
@@ -77,7 +79,7 @@ impl<B: Below> Level<B> {
         requires { B.is_ready self.now.below }
         ensures { Reads (rules.listed_behind (B.rules self.now.below) first cursor.old) result cursor.new }
     {
-        let rest = after_each(self.alloc, cursor, Sign::Comma, self)?;
+        let (first, rest) = keep(first, after_each(self.alloc, cursor, Sign::Comma, self))?;
         Ok(Braced::Listed(with_first(self.alloc, first, rest)?))
     }
 
@@ -115,8 +117,8 @@ impl<B: Below> Level<B> {
         ensures { Reads (rules.keyed_part (B.rules self.now.below) cursor.old) result cursor.new }
     {
         let key = self.add(cursor)?;
-        cursor.expect_sign(Sign::Colon)?;
-        let value = self.add(cursor)?;
+        let (key, ()) = keep(key, cursor.expect_sign(Sign::Colon))?;
+        let (key, value) = keep(key, self.add(cursor))?;
         Ok(KeyedTree { key, value })
     }
 
@@ -127,7 +129,7 @@ impl<B: Below> Level<B> {
         ensures { Reads (rules.keyed_parts (B.rules self.now.below) cursor.old) result cursor.new }
     {
         let first = self.keyed_part(cursor)?;
-        let rest = after_each(self.alloc, cursor, Sign::Comma, self)?;
+        let (first, rest) = keep(first, after_each(self.alloc, cursor, Sign::Comma, self))?;
         Ok(with_first(self.alloc, first, rest)?)
     }
 
@@ -151,12 +153,7 @@ impl<B: Below> Level<B> {
         ensures { Reads (rules.ends (B.rules self.now.below) cursor.old) result cursor.new }
     {
         let low = self.add(cursor)?;
-        let high = if cursor.sees_sign(Sign::Range) {
-            Some(self.upper(cursor)?)
-        } else {
-            None
-        };
-        Ok((low, high))
+        keep(low, self.optional_upper(cursor))
     }
 
     /// `int`
@@ -179,7 +176,7 @@ impl<B: Below> Level<B> {
         let at = cursor.place();
         cursor.expect_sign(Sign::OpenBrace)?;
         let inner = self.below.type_tree(cursor, at)?;
-        cursor.expect_sign(Sign::CloseBrace)?;
+        let (inner, ()) = keep(inner, cursor.expect_sign(Sign::CloseBrace))?;
         Ok(TypeTree::Set(at, Boxed::new(self.alloc, inner)?))
     }
 
@@ -206,8 +203,8 @@ impl<B: Below> Level<B> {
     {
         let at = cursor.place();
         let kind = self.type_tree(cursor)?;
-        let name = name(self.alloc, cursor)?;
-        cursor.expect_sign(Sign::Semicolon)?;
+        let named = keep(kind, name(self.alloc, cursor))?;
+        let ((kind, name), ()) = keep(named, cursor.expect_sign(Sign::Semicolon))?;
         Ok(FieldTree { at, kind, name })
     }
 
@@ -221,8 +218,7 @@ impl<B: Below> Level<B> {
         ensures { Reads (rules.fields (B.rules self.now.below) cursor.old) result cursor.new }
     {
         let first = self.field(cursor)?;
-        let rest = many(self.alloc, cursor, self)?;
-        Ok((first, rest))
+        keep(first, many(self.alloc, cursor, self))
     }
 
     /// What a dimension that begins with this set at this place is.
@@ -268,8 +264,7 @@ impl<B: Below> Level<B> {
         ensures { Reads (rules.dims (B.rules self.now.below) cursor.old) result cursor.new }
     {
         let first = self.dim(cursor)?;
-        let rest = after_each(self.alloc, cursor, Sign::Comma, self)?;
-        Ok((first, rest))
+        keep(first, after_each(self.alloc, cursor, Sign::Comma, self))
     }
 }
 

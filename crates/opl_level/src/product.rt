@@ -1,10 +1,12 @@
 //! Products and sums.
 ghost use Rattle.std.specs.Prelude.{◌≡◌, IfOk};
+ghost use Rattle.opl_grammar.specs.Input as steps;
 ghost use Rattle.opl_grammar.specs.Input.{Reads};
 ghost use Rattle.opl_grammar.specs.Rules as rules;
 ghost use Rattle.opl_grammar.specs.Tables as tables;
 
 use crate::below::{Below, Level};
+use crate::keeping::keep;
 use opl_grammar::list::{Part, Phrase, after_each, many};
 use opl_grammar::tables::{add_op, aggregate_op, mul_op};
 use opl_grammar::{Cursor, Operand};
@@ -14,6 +16,16 @@ use opl_tree::{
     AddStep, AddTree, LastStep, MulStep, MulTree, OpenTree, SetTree, SignTree, SyntaxFault,
 };
 use std::alloc::{AllocError, Global};
+
+/// A tree in a box.
+pub fn boxed(alloc: Global, t: Option<AddTree>) -> Result<Option<Boxed<AddTree>>, AllocError>
+    ensures { IfOk result (λ inner. inner ≡ t) }
+{
+    match t {
+        Some(inner) => Ok(Some(Boxed::new(alloc, inner)?)),
+        None => Ok(None),
+    }
+}
 
 /// A sign before an operand, whichever it is.
 fn negative(alloc: Global, at: u32, operand: Operand) -> Result<Operand, AllocError>
@@ -104,7 +116,7 @@ impl<B: Below> Level<B> {
         match self.operand(cursor)? {
             Operand::Open(inner) => Ok(MulTree::Opened(inner)),
             Operand::Sign(first) => {
-                let (steps, last) = self.steps(cursor)?;
+                let (first, (steps, last)) = keep(first, self.steps(cursor))?;
                 Ok(MulTree::Product(at, first, steps, last))
             }
         }
@@ -129,7 +141,7 @@ impl<B: Below> Level<B> {
     {
         let at = cursor.place();
         let first = self.mul(cursor)?;
-        let rest = many(self.alloc, cursor, self)?;
+        let (first, rest) = keep(first, many(self.alloc, cursor, self))?;
         Ok(AddTree { at, first, rest })
     }
 
@@ -140,8 +152,7 @@ impl<B: Below> Level<B> {
         ensures { Reads (rules.adds (B.rules self.now.below) cursor.old) result cursor.new }
     {
         let first = self.add(cursor)?;
-        let rest = after_each(self.alloc, cursor, Sign::Comma, self)?;
-        Ok((first, rest))
+        keep(first, after_each(self.alloc, cursor, Sign::Comma, self))
     }
 
     /// `..ADD`
@@ -154,6 +165,18 @@ impl<B: Below> Level<B> {
         self.add(cursor)
     }
 
+    /// `..ADD` or nothing
+    pub fn optional_upper(&self, cursor: &mut Cursor<'_>) -> Result<Option<AddTree>, SyntaxFault>
+        requires { B.is_ready self.now.below }
+        ensures { Reads (steps.maybe (steps.is_sign Sign.Range) (rules.upper (B.rules self.now.below)) cursor.old) result cursor.new }
+    {
+        if cursor.sees_sign(Sign::Range) {
+            Ok(Some(self.upper(cursor)?))
+        } else {
+            Ok(None)
+        }
+    }
+
     /// `ADD` or `ADD..ADD`
     #[tactic(auto, unfolding(opl_grammar::specs::Rules::set))]
     pub fn set(&self, cursor: &mut Cursor<'_>) -> Result<SetTree, SyntaxFault>
@@ -162,11 +185,8 @@ impl<B: Below> Level<B> {
     {
         let at = cursor.place();
         let low = self.add(cursor)?;
-        let high = if cursor.sees_sign(Sign::Range) {
-            Some(Boxed::new(self.alloc, self.upper(cursor)?)?)
-        } else {
-            None
-        };
+        let (low, high) = keep(low, self.optional_upper(cursor))?;
+        let (low, high) = keep(low, boxed(self.alloc, high))?;
         Ok(SetTree { at, low, high })
     }
 }

@@ -3,7 +3,7 @@ use Rattle.std.proofs.lemmas.Grind.{common_steps}
 use Rattle.opl_grammar.specs.Input.{left}
 use Rattle.opl_grammar.specs.Rules.{steps, steps_from}
 use Rattle.opl_grammar.proofs.Turns.{no_turn, one_more}
-use Rattle.opl_phrase.proofs.below.Level.steps.Goals as goal
+use Rattle.opl_level.proofs.below.Level.steps.Goals as goal
 
 pub loop-turn-init : goal.loop-turn-init
 unfolding steps

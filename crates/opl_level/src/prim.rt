@@ -6,6 +6,7 @@ ghost use Rattle.opl_grammar.specs.Rules as rules;
 ghost use Rattle.opl_grammar.specs.Tables as tables;
 
 use crate::below::{Below, Level};
+use crate::keeping::keep;
 use crate::word::{field_name, name};
 use opl_grammar::list::{Part, many};
 use opl_grammar::tables::{call_op, question_op};
@@ -45,7 +46,7 @@ impl<B: Below> Level<B> {
         let at = cursor.place();
         cursor.expect_sign(Sign::OpenParenthesis)?;
         let inner = self.below.expr(cursor, at)?;
-        cursor.expect_sign(Sign::CloseParenthesis)?;
+        let (inner, ()) = keep(inner, cursor.expect_sign(Sign::CloseParenthesis))?;
         Ok(PrimTree::Bracket(at, Boxed::new(self.alloc, inner)?))
     }
 
@@ -57,9 +58,10 @@ impl<B: Below> Level<B> {
     {
         let at = cursor.place();
         cursor.expect_sign(Sign::Less)?;
-        let (first, rest) = self.below.adds(cursor, at)?;
-        cursor.expect_sign(Sign::Greater)?;
-        Ok(PrimTree::Record(at, Boxed::new(self.alloc, first)?, rest))
+        let parts = self.below.adds(cursor, at)?;
+        let ((first, rest), ()) = keep(parts, cursor.expect_sign(Sign::Greater))?;
+        let (rest, first) = keep(rest, Boxed::new(self.alloc, first))?;
+        Ok(PrimTree::Record(at, first, rest))
     }
 
     /// `{ADD, ADD, ..}` and `{ADD | PARAMS}`
@@ -71,7 +73,7 @@ impl<B: Below> Level<B> {
         let at = cursor.place();
         cursor.expect_sign(Sign::OpenBrace)?;
         let inside = self.below.braced(cursor, at)?;
-        cursor.expect_sign(Sign::CloseBrace)?;
+        let (inside, ()) = keep(inside, cursor.expect_sign(Sign::CloseBrace))?;
         Ok(set_prim(at, inside))
     }
 
@@ -84,7 +86,7 @@ impl<B: Below> Level<B> {
         let at = cursor.place();
         cursor.expect_sign(Sign::OpenBracket)?;
         let parts = self.below.listed(cursor, at)?;
-        cursor.expect_sign(Sign::CloseBracket)?;
+        let (parts, ()) = keep(parts, cursor.expect_sign(Sign::CloseBracket))?;
         Ok(PrimTree::Array(at, parts))
     }
 
@@ -97,7 +99,7 @@ impl<B: Below> Level<B> {
         let at = cursor.place();
         cursor.expect_sign(Sign::OpenAssociation)?;
         let parts = self.below.keyed(cursor, at)?;
-        cursor.expect_sign(Sign::CloseAssociation)?;
+        let (parts, ()) = keep(parts, cursor.expect_sign(Sign::CloseAssociation))?;
         Ok(PrimTree::KeyedArray(at, parts))
     }
 
@@ -112,7 +114,7 @@ impl<B: Below> Level<B> {
         let opener = cursor.place();
         cursor.expect_sign(Sign::OpenParenthesis)?;
         let inner = self.below.add(cursor, opener)?;
-        cursor.expect_sign(Sign::CloseParenthesis)?;
+        let (inner, ()) = keep(inner, cursor.expect_sign(Sign::CloseParenthesis))?;
         Ok(PrimTree::AllDifferent(at, Boxed::new(self.alloc, inner)?))
     }
 
@@ -127,7 +129,7 @@ impl<B: Below> Level<B> {
         let opener = cursor.place();
         cursor.expect_sign(Sign::OpenParenthesis)?;
         let inner = self.below.expr(cursor, opener)?;
-        cursor.expect_sign(Sign::CloseParenthesis)?;
+        let (inner, ()) = keep(inner, cursor.expect_sign(Sign::CloseParenthesis))?;
         Ok(PrimTree::Call(at, op, Boxed::new(self.alloc, inner)?))
     }
 
@@ -140,7 +142,7 @@ impl<B: Below> Level<B> {
         let at = cursor.place();
         cursor.expect_sign(Sign::OpenParenthesis)?;
         let inner = self.below.post(cursor, at)?;
-        cursor.expect_sign(Sign::CloseParenthesis)?;
+        let (inner, ()) = keep(inner, cursor.expect_sign(Sign::CloseParenthesis))?;
         Ok(inner)
     }
 
@@ -215,9 +217,9 @@ impl<B: Below> Level<B> {
     {
         let at = cursor.place();
         cursor.expect_sign(Sign::OpenBracket)?;
-        let (first, rest) = self.below.adds(cursor, at)?;
-        cursor.expect_sign(Sign::CloseBracket)?;
-        let first = Boxed::new(self.alloc, first)?;
+        let parts = self.below.adds(cursor, at)?;
+        let ((first, rest), ()) = keep(parts, cursor.expect_sign(Sign::CloseBracket))?;
+        let (rest, first) = keep(rest, Boxed::new(self.alloc, first))?;
         Ok(SubscriptsTree { at, first, rest })
     }
 
@@ -253,7 +255,7 @@ impl<B: Below> Level<B> {
     {
         let at = cursor.place();
         let prim = self.prim(cursor)?;
-        let suffixes = many(self.alloc, cursor, self)?;
+        let (prim, suffixes) = keep(prim, many(self.alloc, cursor, self))?;
         Ok(PostTree { at, prim, suffixes })
     }
 }
