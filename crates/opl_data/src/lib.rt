@@ -5,8 +5,6 @@ mod depth;
 pub mod laws;
 mod reader;
 mod spell;
-#[cfg(test)]
-mod tests;
 mod tree;
 mod value;
 

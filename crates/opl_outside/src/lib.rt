@@ -18,5 +18,3 @@ pub use shelf::{Found, MAX_BYTES, Shelf};
 pub use sink::Sink;
 pub use sure::{SureShelf, SureSink};
 
-#[cfg(test)]
-mod tests;

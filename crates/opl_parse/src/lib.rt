@@ -3,7 +3,5 @@
 
 pub mod laws;
 mod model;
-#[cfg(test)]
-mod tests;
 
 pub use model::parse_model;

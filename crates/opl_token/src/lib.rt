@@ -5,8 +5,6 @@ mod fault;
 pub mod laws;
 mod scanner;
 mod sign;
-#[cfg(test)]
-mod tests;
 mod token;
 
 pub use fault::ScanFault;

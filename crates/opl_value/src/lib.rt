@@ -10,8 +10,6 @@ pub mod laws;
 mod order;
 mod set;
 mod space;
-#[cfg(test)]
-mod tests;
 mod value;
 
 pub use index::place;
