@@ -17,4 +17,3 @@ pub use real::{RealShelf, RealSink};
 pub use shelf::{Found, MAX_BYTES, Shelf};
 pub use sink::Sink;
 pub use sure::{SureShelf, SureSink};
-
