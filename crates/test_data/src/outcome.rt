@@ -1,0 +1,128 @@
+//! What a case comes to: its texts are scanned, parsed, typed and bound.
+use crate::case::Case;
+use crate::fault::{push_bind_fault, push_scan_fault, push_syntax_fault, push_type_fault};
+use crate::text::push_values;
+use opl_bind::bind;
+use opl_data::{DataFile, parse_data};
+use opl_eval::Positions;
+use opl_fields::fields;
+use opl_list::Seq;
+use opl_parse::parse_model;
+use opl_token::{Token, scan};
+use opl_tree::ModelTree;
+use opl_types::{Typed, check};
+use std::alloc::{AllocError, Global};
+
+/// The most bytes that a text may have here.
+const MOST: usize = 1 << 24;
+
+/// The positions of the fields that a model names.
+fn positions_of(alloc: Global, typed: &Typed) -> Result<Positions, AllocError> {
+    let found = fields(alloc, typed)?;
+    let mut positions = Positions::new(alloc);
+    for field in found.as_slice() {
+        let position = u32::try_from(field.position).map_err(|_| AllocError)?;
+        positions.insert(field.place, position)?;
+    }
+    Ok(positions)
+}
+
+/// Adds what a model with types comes to under these data files.
+fn push_bound(
+    alloc: Global,
+    text: &mut Vec<u8>,
+    typed: &Typed,
+    files: &[DataFile],
+    case: &Case,
+) -> Result<(), AllocError> {
+    let positions = positions_of(alloc, typed)?;
+    let decls = typed.tree.decls.as_slice();
+    match bind(alloc, positions, decls, files, case.assigned.as_slice()) {
+        Ok(data) => push_values(alloc, text, &data, decls),
+        Err(fault) => push_bind_fault(text, &fault),
+    }
+}
+
+/// Adds the tree of a data file to `files`, or its fault to the text. The result is whether there is a tree.
+fn read_file(
+    alloc: Global,
+    text: &mut Vec<u8>,
+    files: &mut Seq<DataFile>,
+    bytes: &[u8],
+) -> Result<bool, AllocError> {
+    let file = u32::try_from(files.len())
+        .map_err(|_| AllocError)?
+        .saturating_add(1);
+    if bytes.len() > MOST {
+        return Err(AllocError);
+    }
+    match scan(alloc, bytes) {
+        Ok(tokens) => match parse_data(alloc, tokens.as_slice(), bytes.len() as u32) {
+            Ok(tree) => {
+                files.push(tree)?;
+                Ok(true)
+            }
+            Err(fault) => {
+                push_syntax_fault(text, file, &fault)?;
+                Ok(false)
+            }
+        },
+        Err(fault) => {
+            push_scan_fault(text, file, fault)?;
+            Ok(false)
+        }
+    }
+}
+
+/// Adds what a model with types comes to.
+fn push_typed(
+    alloc: Global,
+    text: &mut Vec<u8>,
+    typed: &Typed,
+    case: &Case,
+) -> Result<(), AllocError> {
+    let mut files = Seq::new(alloc);
+    for bytes in case.files.as_slice() {
+        if !read_file(alloc, text, &mut files, bytes.as_slice())? {
+            return Ok(());
+        }
+    }
+    push_bound(alloc, text, typed, files.as_slice(), case)
+}
+
+/// Adds what a model comes to.
+fn push_parsed(
+    alloc: Global,
+    text: &mut Vec<u8>,
+    tree: ModelTree,
+    case: &Case,
+) -> Result<(), AllocError> {
+    match check(alloc, tree) {
+        Ok(typed) => push_typed(alloc, text, &typed, case),
+        Err(fault) => push_type_fault(text, &fault),
+    }
+}
+
+/// Adds what the tokens of a model come to.
+fn push_scanned(
+    alloc: Global,
+    text: &mut Vec<u8>,
+    tokens: &[Token],
+    case: &Case,
+) -> Result<(), AllocError> {
+    match parse_model(alloc, tokens, case.model.len() as u32) {
+        Ok(tree) => push_parsed(alloc, text, tree, case),
+        Err(fault) => push_syntax_fault(text, 0, &fault),
+    }
+}
+
+/// Adds what a case comes to.
+pub fn push_outcome(alloc: Global, text: &mut Vec<u8>, case: &Case) -> Result<(), AllocError> {
+    if case.model.len() > MOST {
+        return Err(AllocError);
+    }
+    match scan(alloc, case.model.as_slice()) {
+        Ok(tokens) => push_scanned(alloc, text, tokens.as_slice(), case),
+        Err(fault) => push_scan_fault(text, 0, fault),
+    }
+}
