@@ -1,0 +1,11 @@
+use Rattle.std.proofs.Common.{arith}
+use Rattle.opl_value.proofs.Rising.{named}
+use Rattle.opl_value.proofs.laws.whole_has_its_numbers.Goals as goal
+
+-- src/laws.rt:77:1
+pub returns-clause-values : goal.returns-clause-values
+returns-clause-values c = grind (arith, named)
+
+-- src/laws.rt:77:1
+pub returns-clause-sorted : goal.returns-clause-sorted
+returns-clause-sorted c = grind (arith, named)
