@@ -1,0 +1,12 @@
+use Rattle.std.proofs.Common.{arith}
+use Rattle.opl_tree.proofs.Depth.{requires_depth}
+use Rattle.opl_depth.proofs.Capped.{capped_parts}
+use Rattle.opl_depth.proofs.instruction.depth_requires.Goals as goal
+
+-- src/instruction.rt:99:1
+pub returns-in-Some : goal.returns-in-Some
+returns-in-Some c = grind (arith, requires_depth, capped_parts)
+
+-- src/instruction.rt:99:1
+pub returns-in-None : goal.returns-in-None
+returns-in-None c = grind (arith, requires_depth, capped_parts)
