@@ -2,6 +2,7 @@
 #![tactic(auto)]
 
 mod depth;
+mod keeping;
 pub mod laws;
 mod reader;
 mod spell;

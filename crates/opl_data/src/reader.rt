@@ -5,6 +5,7 @@ ghost use Rattle.opl_data.specs.Answers.{ParseAnswers};
 ghost use Rattle.opl_data.specs.Grammar as rules;
 ghost use Rattle.std.specs.Prelude.{◌≡◌, ⊤};
 
+use crate::keeping::keep;
 use crate::tree::{DataFile, DataItem};
 use crate::value::{name, read_value};
 use opl_grammar::Cursor;
@@ -39,7 +40,7 @@ impl Part<DataItem> for ItemRule {
         let name = name(self.alloc, cursor)?;
         cursor.expect_sign(Sign::Equal)?;
         let value = read_value(self.alloc, cursor, MAX_NESTING)?;
-        cursor.expect_sign(Sign::Semicolon)?;
+        let (value, ()) = keep(value, cursor.expect_sign(Sign::Semicolon))?;
         Ok(DataItem { at, name, value })
     }
 }

@@ -5,6 +5,7 @@ ghost use Rattle.opl_data.specs.Grammar as rules;
 ghost use Rattle.opl_data.specs.Grammar.{Rules};
 ghost use Rattle.opl_data.specs.Nests.{Nests};
 
+use crate::keeping::keep;
 use crate::tree::{DataPair, DataValue};
 use opl_grammar::list::{Phrase, after_each};
 use opl_grammar::{Cursor, Look};
@@ -152,8 +153,7 @@ fn values<V: Phrase<DataValue>>(
     ensures { Reads (rules.values (V.phrase value.now) cursor.old) result cursor.new }
 {
     let first = value.phrase(cursor)?;
-    let rest = after_each(alloc, cursor, Sign::Comma, value)?;
-    Ok((first, rest))
+    keep(first, after_each(alloc, cursor, Sign::Comma, value))
 }
 
 /// `VALUE, VALUE, ..` or nothing
@@ -188,8 +188,8 @@ impl<'v, V: Phrase<DataValue>> Phrase<DataPair> for Pair<'v, V> {
     fn phrase(&self, cursor: &mut Cursor<'_>) -> Result<DataPair, SyntaxFault> {
         let at = cursor.place();
         let key = self.value.phrase(cursor)?;
-        cursor.expect_sign(Sign::Colon)?;
-        let value = self.value.phrase(cursor)?;
+        let (key, ()) = keep(key, cursor.expect_sign(Sign::Colon))?;
+        let (key, value) = keep(key, self.value.phrase(cursor))?;
         Ok(DataPair { at, key, value })
     }
 }
@@ -206,7 +206,7 @@ fn pairs<V: Phrase<DataValue>>(
 {
     let pair = Pair { value };
     let first = pair.phrase(cursor)?;
-    let rest = after_each(alloc, cursor, Sign::Comma, &pair)?;
+    let (first, rest) = keep(first, after_each(alloc, cursor, Sign::Comma, &pair))?;
     Ok(with_first(alloc, first, rest)?)
 }
 
@@ -286,9 +286,10 @@ impl<B: Below> Level<B> {
     {
         let at = cursor.place();
         cursor.expect_sign(Sign::Less)?;
-        let (first, rest) = self.below.values(cursor, at)?;
-        cursor.expect_sign(Sign::Greater)?;
-        Ok(DataValue::Record(at, Boxed::new(self.alloc, first)?, rest))
+        let parts = self.below.values(cursor, at)?;
+        let ((first, rest), ()) = keep(parts, cursor.expect_sign(Sign::Greater))?;
+        let (rest, first) = keep(rest, Boxed::new(self.alloc, first))?;
+        Ok(DataValue::Record(at, first, rest))
     }
 
     /// `{VALUE, VALUE, ..}`
