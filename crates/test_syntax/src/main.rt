@@ -1,12 +1,19 @@
-//! The program `opl_syntax FILE..`: tells of each model how it reads, and whether it reads the same once it is spelt anew.
+//! The program `test_syntax FILE..`: tells of each text how it reads, and whether its tree is spelt as it is.
 #![tactic(auto)]
 
-mod kinds;
-mod line;
-mod outcome;
-mod text;
+mod cases;
+mod escape;
+mod file;
+mod item;
+mod reading;
+mod same;
+mod spelt;
+mod stop;
+mod term;
+mod token;
+mod word;
 
-use line::line_of;
+use file::told_of_file;
 use opl_outside::{RealShelf, RealSink, Sink};
 use std::process::ExitCode;
 use std::rt::Env;
@@ -31,9 +38,9 @@ fn main(rt: HostRuntime) -> ExitCode {
         Err(_) => return ExitCode::from(1),
     };
     for word in words.as_slice() {
-        match line_of(rt.alloc(), &mut shelf, word) {
-            Ok(line) => {
-                let _ = out.put(rt.alloc(), line.as_slice());
+        match told_of_file(rt.alloc(), &mut shelf, word) {
+            Ok(told) => {
+                let _ = out.put(rt.alloc(), told.as_slice());
             }
             Err(_) => return ExitCode::from(1),
         }

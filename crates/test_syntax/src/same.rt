@@ -1,5 +1,5 @@
 //! Whether tokens are the same.
-use opl_token::Kind;
+use opl_token::{Kind, Token};
 
 /// Whether two tokens are the same but for their places.
 fn is_same(kind: &Kind, other: &Kind) -> bool {
@@ -12,11 +12,11 @@ fn is_same(kind: &Kind, other: &Kind) -> bool {
     }
 }
 
-/// Whether two lists of tokens are the same.
-pub fn are_same(kinds: &[Kind], others: &[Kind]) -> bool {
-    kinds.len() == others.len()
+/// Whether a list of tokens is another one but for the places.
+pub fn are_same(kinds: &[Kind], tokens: &[Token]) -> bool {
+    kinds.len() == tokens.len()
         && kinds
             .iter()
-            .zip(others)
-            .all(|(kind, other)| is_same(kind, other))
+            .zip(tokens)
+            .all(|(kind, token)| is_same(kind, &token.kind))
 }

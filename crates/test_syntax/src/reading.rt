@@ -1,0 +1,114 @@
+//! How a text reads, as a model or as a data file.
+use crate::same::are_same;
+use crate::spelt::text_of;
+use crate::stop::Stop;
+use crate::token::tokens_of;
+use opl_data::{DataFile, depth_data, parse_data, spell_data};
+use opl_depth::depth_model;
+use opl_parse::parse_model;
+use opl_spell::spell_model;
+use opl_token::{Kind, Seq, Token};
+use opl_tree::ModelTree;
+use std::alloc::{AllocError, Global};
+
+/// What a text is read as.
+#[derive(Clone, Copy)]
+pub enum Language {
+    Model,
+    Data,
+}
+
+/// What is told of a tree.
+#[derive(Drop)]
+struct Told {
+    at: u32,
+    depth: u32,
+    /// The tokens that it is spelt with.
+    kinds: Seq<Kind>,
+}
+
+/// A tree, and the tokens that it was read from.
+#[derive(Drop)]
+struct Reading {
+    tokens: Seq<Token>,
+    told: Told,
+}
+
+/// The place and the depth of a tree, and whether it is spelt as it was read, and what it is spelt as reads the same.
+#[derive(Clone, Copy)]
+pub struct Measures {
+    pub at: u32,
+    pub depth: u32,
+    pub is_same: bool,
+}
+
+fn told_of_model(alloc: Global, tree: &ModelTree, depth: u32) -> Result<Told, AllocError> {
+    let kinds = spell_model(alloc, tree)?;
+    Ok(Told {
+        at: tree.at,
+        depth,
+        kinds,
+    })
+}
+
+fn model(alloc: Global, tokens: &[Token], end: u32) -> Result<Told, Stop> {
+    let tree = parse_model(alloc, tokens, end)?;
+    let depth = depth_model(&tree);
+    told_of_model(alloc, &tree, depth).map_err(Stop::from)
+}
+
+fn told_of_data(alloc: Global, tree: &DataFile, depth: u32) -> Result<Told, AllocError> {
+    let kinds = spell_data(alloc, tree)?;
+    Ok(Told {
+        at: tree.at,
+        depth,
+        kinds,
+    })
+}
+
+fn data_file(alloc: Global, tokens: &[Token], end: u32) -> Result<Told, Stop> {
+    let tree = parse_data(alloc, tokens, end)?;
+    let depth = depth_data(&tree);
+    told_of_data(alloc, &tree, depth).map_err(Stop::from)
+}
+
+/// How a text reads.
+fn read_text(alloc: Global, language: Language, text: &[u8]) -> Result<Reading, Stop> {
+    let tokens = tokens_of(alloc, text)?;
+    let end = text.len() as u32;
+    let told = match language {
+        Language::Model => model(alloc, tokens.as_slice(), end)?,
+        Language::Data => data_file(alloc, tokens.as_slice(), end)?,
+    };
+    Ok(Reading { tokens, told })
+}
+
+/// Whether both are spelt as they were read, and the second is read from what the first is spelt as.
+fn are_equal(first: &Reading, second: &Reading) -> bool {
+    let kinds = first.told.kinds.as_slice();
+    are_same(kinds, first.tokens.as_slice())
+        && are_same(kinds, second.tokens.as_slice())
+        && are_same(second.told.kinds.as_slice(), second.tokens.as_slice())
+        && first.told.depth == second.told.depth
+}
+
+/// Whether a tree is spelt as it was read, and what it is spelt as reads the same.
+fn is_read_again(alloc: Global, language: Language, first: &Reading) -> Result<bool, AllocError> {
+    let text = text_of(alloc, first.told.kinds.as_slice())?;
+    match read_text(alloc, language, text.as_slice()) {
+        Ok(second) => Ok(are_equal(first, &second)),
+        Err(Stop::At(..)) => Ok(false),
+        Err(Stop::OutOfMemory) => Err(AllocError),
+    }
+}
+
+/// How a text reads, and whether what its tree is spelt as reads the same.
+pub fn measured(alloc: Global, language: Language, text: &[u8]) -> Result<Measures, Stop> {
+    let first = read_text(alloc, language, text)?;
+    let is_same = is_read_again(alloc, language, &first)?;
+    Ok(Measures {
+        at: first.told.at,
+        depth: first.told.depth,
+        is_same,
+    })
+}
