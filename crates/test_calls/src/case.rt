@@ -77,6 +77,18 @@ impl Case {
         Ok(())
     }
 
+    /// The words of the call.
+    fn set_words(&mut self, alloc: Global, text: &str) -> Result<(), AllocError> {
+        self.words = Some(words(alloc, text)?);
+        Ok(())
+    }
+
+    /// The text and a line feed at the end of the last file.
+    fn add_line(&mut self, text: &str) -> Result<(), AllocError> {
+        self.extend(text, 1)?;
+        self.extend("\n", 1)
+    }
+
     /// The text so many times at the end of the last file.
     fn extend(&mut self, text: &str, times: u64) -> Result<(), AllocError> {
         if let Some(file) = self.files.last_mut() {
@@ -113,18 +125,14 @@ impl Case {
         let (kind, text) = line.split_once(" ").unwrap_or((line, ""));
         let (first, rest) = text.split_once(" ").unwrap_or((text, ""));
         match kind {
-            "call" => self.words = Some(words(alloc, text)?),
-            "file" => self.add_file(alloc, first, rest)?,
-            "more" => self.extend(text, 1)?,
-            "line" => {
-                self.extend(text, 1)?;
-                self.extend("\n", 1)?;
-            }
-            "times" => self.extend(rest, number(first))?,
-            "byte" => self.add_byte(number(text))?,
-            "fails" => self.set_failing(alloc, text)?,
-            _ => {}
+            "call" => self.set_words(alloc, text),
+            "file" => self.add_file(alloc, first, rest),
+            "more" => self.extend(text, 1),
+            "line" => self.add_line(text),
+            "times" => self.extend(rest, number(first)),
+            "byte" => self.add_byte(number(text)),
+            "fails" => self.set_failing(alloc, text),
+            _ => Ok(()),
         }
-        Ok(())
     }
 }

@@ -42,15 +42,25 @@ impl Case {
         }
     }
 
+    /// One more data file.
+    fn add_file(&mut self, alloc: Global, text: &str) -> Result<(), AllocError> {
+        self.files.push(Vec::from_slice(alloc, text.as_bytes())?)?;
+        Ok(())
+    }
+
+    /// One more assigned value.
+    fn add_assigned(&mut self, alloc: Global, text: &str) -> Result<(), AllocError> {
+        self.assigned.push(assigned(alloc, text)?)
+    }
+
     /// Adds what a line says. A line of another form tells whoever reads it what the case is for.
     pub fn read(&mut self, alloc: Global, line: &str) -> Result<(), AllocError> {
         let (word, text) = line.split_once(" ").unwrap_or((line, ""));
         match word {
-            "model" => self.model.extend_from_slice(text.as_bytes())?,
-            "data" => self.files.push(Vec::from_slice(alloc, text.as_bytes())?)?,
-            "assign" => self.assigned.push(assigned(alloc, text)?)?,
-            _ => {}
+            "model" => self.model.extend_from_slice(text.as_bytes()),
+            "data" => self.add_file(alloc, text),
+            "assign" => self.add_assigned(alloc, text),
+            _ => Ok(()),
         }
-        Ok(())
     }
 }
