@@ -21,7 +21,7 @@ impl<'a> Walk<'a> {
     ) -> Result<(), AllocError>
         ensures { OnOk result (self.new ≡ spec.walk_expr decls.now t.now self.old) }
     {
-        self.term(decls, &expr_term(alloc, t)?)
+        self.term(decls, expr_term(alloc, t)?.get())
     }
 
     /// Goes through a sum.
@@ -33,7 +33,7 @@ impl<'a> Walk<'a> {
     ) -> Result<(), AllocError>
         ensures { OnOk result (self.new ≡ spec.walk_add decls.now t.now self.old) }
     {
-        self.term(decls, &add_term(alloc, t)?)
+        self.term(decls, add_term(alloc, t)?.get())
     }
 
     /// Goes through a sum, where there is one.
@@ -60,7 +60,7 @@ impl<'a> Walk<'a> {
     ) -> Result<(), AllocError>
         ensures { OnOk result (self.new ≡ spec.walk_post decls.now t.now self.old) }
     {
-        self.term(decls, &post_term(alloc, t)?)
+        self.term(decls, post_term(alloc, t)?.get())
     }
 
     /// Goes through a set.
