@@ -20,11 +20,12 @@ use opl_tree::{
 use std::alloc::{AllocError, Global};
 
 /// A list of one part, then the others.
-fn with_first<T: Drop>(alloc: Global, first: T, rest: Seq<T>) -> Result<Seq<T>, AllocError>
+#[inline(never)]
+fn with_first<T: Drop>(alloc: Global, first: Boxed<T>, rest: Seq<T>) -> Result<Seq<T>, AllocError>
     ensures { IfOk result (λ all. all ≡ first ∷ rest) }
 {
     let mut all = Vec::new(alloc);
-    all.push(first)?;
+    all.push(first.into_inner())?;
     all.append(&mut rest.into_vec())?;
     Ok(Seq::from_vec(all))
 }
@@ -53,7 +54,7 @@ impl<B: Below> Level<B> {
             return Ok(Seq::new(self.alloc));
         }
         let (first, rest) = self.adds(cursor)?;
-        Ok(with_first(self.alloc, first.into_inner(), rest)?)
+        Ok(with_first(self.alloc, first, rest)?)
     }
 
     /// `| PARAMS`
@@ -82,7 +83,7 @@ impl<B: Below> Level<B> {
         ensures { Reads (rules.listed_behind (B.rules self.now.below) first cursor.old) result cursor.new }
     {
         let (first, rest) = keep(first, after_each(self.alloc, cursor, Sign::Comma, self))?;
-        Ok(Braced::Listed(with_first(self.alloc, first.into_inner(), rest)?))
+        Ok(Braced::Listed(with_first(self.alloc, first, rest)?))
     }
 
     /// `ADD, ADD, ..` or `ADD | PARAMS`
@@ -136,7 +137,7 @@ impl<B: Below> Level<B> {
     {
         let first = self.keyed_part(cursor)?;
         let (first, rest) = keep(first, after_each(self.alloc, cursor, Sign::Comma, self))?;
-        Ok(with_first(self.alloc, first.into_inner(), rest)?)
+        Ok(with_first(self.alloc, first, rest)?)
     }
 
     /// `ADD:ADD, ADD:ADD, ..` or nothing

@@ -167,6 +167,7 @@ impl<B: Below> Level<B> {
 
     /// `PARAMS` or `PARAMS ORDER`
     #[tactic(auto, unfolding(opl_grammar::specs::Rules::ordered_params))]
+    #[inline(never)]
     pub fn ordered_params(
         &self,
         cursor: &mut Cursor<'_>,
