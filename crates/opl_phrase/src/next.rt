@@ -214,6 +214,7 @@ impl<F: Fn(Global, &mut Cursor<'_>, u32, u32, Wanted) -> Result<Found, SyntaxFau
 
 /// What stands behind `(`. Nothing else is asked of it.
 #[tactic(auto, unfolding(opl_grammar::specs::Rules::level))]
+#[inline(never)]
 fn parenthesized<B: Below>(
     level: &Level<B>,
     cursor: &mut Cursor<'_>,
@@ -243,6 +244,7 @@ fn parenthesized<B: Below>(
 
 /// What stands behind an operator or the word of an aggregate. Nothing else is asked of it.
 #[tactic(auto, unfolding(opl_grammar::specs::Rules::level))]
+#[inline(never)]
 fn operated<B: Below>(
     level: &Level<B>,
     cursor: &mut Cursor<'_>,
@@ -267,6 +269,7 @@ fn operated<B: Below>(
 
 /// A list of expressions. Nothing else is asked of it.
 #[tactic(auto, unfolding(opl_grammar::specs::Rules::level))]
+#[inline(never)]
 fn listed_in<B: Below>(
     level: &Level<B>,
     cursor: &mut Cursor<'_>,
@@ -291,6 +294,7 @@ fn listed_in<B: Below>(
 
 /// What stands in the brackets of declarations. Nothing else is asked of it.
 #[tactic(auto, unfolding(opl_grammar::specs::Rules::level))]
+#[inline(never)]
 fn declared<B: Below>(
     level: &Level<B>,
     cursor: &mut Cursor<'_>,
