@@ -51,7 +51,7 @@ pub(crate) fn number_in(
     ensures { Binds (spec.number_in (seen environment.now) t.now) result }
 {
     let term = add_term(alloc, t)?;
-    let value = value_of(alloc, environment, &term)?;
+    let value = value_of(alloc, environment, term.get())?;
     Ok(number(&value))
 }
 

@@ -133,7 +133,7 @@ fn value_written(
     ensures keyed { IfOk result IsKeyed }
 {
     let term = add_term(alloc, e)?;
-    let value = written_value(alloc, &before.types, &before.environment, form, &term)?;
+    let value = written_value(alloc, &before.types, &before.environment, form, term.get())?;
     alone(e.at, value)
 }
 
@@ -157,7 +157,7 @@ fn cells_written(
         &dims.first,
         dims.rest.as_slice(),
         axes,
-        &term,
+        term.get(),
     )
 }
 
