@@ -1,8 +1,8 @@
 -- Choices, element by element.
-use Rattle.std.proofs.Common.{◌≡◌, ◌≢◌, ◌+◌, ℕ, length, arith, Bool, true, false, cond, List, [], ◌∷◌, ◌++◌, map, Option, None, Some, Ok, Err, refl, ap, sym, ◌∙◌}
+use Rattle.std.proofs.Common.{◌≡◌, ◌≢◌, ◌+◌, ◌<◌, ◌≤◌, ℕ, length, get_or, drop, Result, Bool, true, false, cond, List, [], ◌∷◌, ◌++◌, map, Option, None, Some, Ok, Err, refl, ap, sym, ◌∙◌}
 use Rattle.std.specs.List.{flat_map}
 use Rattle.std.specs.Option.{option_copied, option_map}
-use Rattle.std.proofs.lemmas.List.{append-nil}
+use Rattle.std.proofs.lemmas.List.{append-nil, at_drop_more, at_drop_all}
 use Rattle.opl_term.specs.declared.term.GroupTerm.{GroupTerm}
 use Rattle.opl_term.specs.declared.term.GroupTerm.TheVariants as groups
 use Rattle.opl_term.specs.declared.term.Pattern.{Pattern}
@@ -13,8 +13,11 @@ use Rattle.opl_eval.specs.declared.fault.EvalFault.{EvalFault}
 use Rattle.opl_eval.specs.declared.fault.EvalFault.TheVariants.{OutOfMemory}
 use Rattle.opl_eval.specs.Arithmetic.{then}
 use Rattle.opl_eval.specs.Evaluation.{Environment, Parameter, Found, Group, found, bound, with_parameters, independent, in_order, choices, gathered, visited, bodies, body_where, elements, declaration_of, group_meaning, set_meaning, meaning}
-use Rattle.opl_eval.specs.Scopes.{chosen, turns}
-use Rattle.opl_eval.specs.Visits.{bodies_in, bodies_of, group_visits, over_visits}
+use Rattle.opl_eval.specs.declared.turns.Ahead.{Ahead}
+use Rattle.opl_eval.specs.Turns.{Inner, Leads, chosen, turns}
+use Rattle.opl_eval.specs.declared.gather.Gathered.{Gathered}
+use Rattle.opl_eval.specs.Gathered.{with_more}
+use Rattle.opl_eval.specs.Visits.{Reaches, bodies_at, bodies_in, group_visits, over_visits}
 use Rattle.opl_eval.proofs.Meanings as by
 
 pub append-assoc : {A : Type 0} (xs ys zs : List A) → xs ++ (ys ++ zs) ≡ (xs ++ ys) ++ zs
@@ -26,11 +29,11 @@ pub found-twice : {A : Type 0} (xs ys : List A) (r : Found (List A)) → found (
 found-twice xs ys (Ok zs) = ap (λ l. Ok l) (append-assoc xs ys zs)
 found-twice xs ys (Err e) = refl
 
-none-first : {A : Type 0} (r : Found (List A)) → found (λ zs. [] ++ zs) r ≡ r
+pub none-first : {A : Type 0} (r : Found (List A)) → found (λ zs. [] ++ zs) r ≡ r
 none-first (Ok zs) = refl
 none-first (Err e) = refl
 
-joined : {A : Type 0} (a b r : Found (List A)) → then a (λ xs. found (λ zs. xs ++ zs) (then b (λ ys. found (λ zs. ys ++ zs) r))) ≡ then (then a (λ xs. found (λ ys. xs ++ ys) b)) (λ ws. found (λ zs. ws ++ zs) r)
+pub joined : {A : Type 0} (a b r : Found (List A)) → then a (λ xs. found (λ zs. xs ++ zs) (then b (λ ys. found (λ zs. ys ++ zs) r))) ≡ then (then a (λ xs. found (λ ys. xs ++ ys) b)) (λ ws. found (λ zs. ws ++ zs) r)
 joined (Ok xs) (Ok ys) r = found-twice xs ys r
 joined (Ok xs) (Err e) r = refl
 joined (Err e) b r = refl
@@ -102,50 +105,57 @@ visited-more : (g : Group) (gs : List Group) (inner : Environment → Found (Lis
     ≡ then (g.over.value env) (λ v. chosen g.is_ordered g.patterns (elements (declaration_of (g.over.item env)) v) (visited gs inner) env)
 visited-more g gs inner env = alike-then (g.over.value env) _ _ (λ v. of_choices (visited gs inner) g.is_ordered g.patterns (elements (declaration_of (g.over.item env)) v) env)
 
--- groups, the first in front
-pub visits-more : (g : GroupTerm) (gs : List GroupTerm) (all later : Visit) (env : Environment) → all.groups.now ≡ g ∷ gs → later.groups.now ≡ gs → later.condition ≡ all.condition → later.body ≡ all.body →
-    bodies_of all env ≡ group_visits g later env
+-- groups, the one at a place in front
+pub visits-more : (v : Visit) (place : ℕ) (g : GroupTerm) (env : Environment) → place < length v.groups.now → g ≡ get_or v.groups.now place g →
+    bodies_at v place env ≡ group_visits g (bodies_at v (place + 1)) env
 unfolding bodies_in group_visits
-visits-more g gs all later env h k c b =
-    ap (λ l. bodies (map group_meaning l) (option_map meaning (option_copied all.condition)) (meaning all.body.now) env) h
-    ∙ visited-more (group_meaning g) (map group_meaning gs) (body_where (option_map meaning (option_copied all.condition)) (meaning all.body.now)) env
-    ∙ alike-then ((group_meaning g).over.value env) _ _ (λ v. ap (λ inner. chosen (group_meaning g).is_ordered (group_meaning g).patterns (elements (declaration_of ((group_meaning g).over.item env)) v) inner env) same)
-  where
-    same : visited (map group_meaning gs) (body_where (option_map meaning (option_copied all.condition)) (meaning all.body.now)) ≡ bodies_of later
-    same = λ i e. visited (map group_meaning (sym k i)) (body_where (option_map meaning (option_copied (sym c i))) (meaning (sym b i).now)) e
+visits-more v place g env more here =
+    at_drop_more (λ l. bodies (map group_meaning l) (option_map meaning (option_copied v.condition)) (meaning v.body.now) env) v.groups.now place g more
+    ∙ ap (λ x. bodies (map group_meaning (x ∷ drop (place + 1) v.groups.now)) (option_map meaning (option_copied v.condition)) (meaning v.body.now) env) (sym here)
+    ∙ visited-more (group_meaning g) (map group_meaning (drop (place + 1) v.groups.now)) (body_where (option_map meaning (option_copied v.condition)) (meaning v.body.now)) env
 
-no-groups : (gs : List GroupTerm) → length gs ≡ 0 → gs ≡ []
-no-groups [] h = refl
-no-groups (g ∷ gs) h = absurd (omega (arith, h))
-
-pub visits-none : (all : Visit) (env : Environment) → length all.groups.now ≡ 0 → bodies_of all env ≡ body_where (option_map meaning (option_copied all.condition)) (meaning all.body.now) env
+pub visits-none : (v : Visit) (place : ℕ) (env : Environment) → length v.groups.now ≤ place → bodies_at v place env ≡ body_where (option_map meaning (option_copied v.condition)) (meaning v.body.now) env
 unfolding bodies_in
-visits-none all env h = ap (λ l. bodies (map group_meaning l) (option_map meaning (option_copied all.condition)) (meaning all.body.now) env) (no-groups all.groups.now h)
+visits-none v place env h = at_drop_all (λ l. bodies (map group_meaning l) (option_map meaning (option_copied v.condition)) (meaning v.body.now) env) v.groups.now place h
 
-pub group-Unordered : (ps : List Pattern) (s : SetTerm) (later : Visit) (env : Environment) → group_visits (groups.Unordered ps s) later env ≡ over_visits false ps s later env
+pub group-Unordered : (ps : List Pattern) (s : SetTerm) (inner : Environment → Found (List Value)) (env : Environment) → group_visits (groups.Unordered ps s) inner env ≡ over_visits false ps s inner env
 unfolding group_visits over_visits
-group-Unordered ps s later env =
-    ap (λ g. then (g.over.value env) (λ v. chosen g.is_ordered g.patterns (elements (declaration_of (g.over.item env)) v) (bodies_of later) env)) (by.group_meaning-Unordered ps s)
+group-Unordered ps s inner env =
+    ap (λ g. then (g.over.value env) (λ v. chosen g.is_ordered g.patterns (elements (declaration_of (g.over.item env)) v) inner env)) (by.group_meaning-Unordered ps s)
 
-pub group-Ordered : (ps : List Pattern) (s : SetTerm) (later : Visit) (env : Environment) → group_visits (groups.Ordered ps s) later env ≡ over_visits true ps s later env
+pub group-Ordered : (ps : List Pattern) (s : SetTerm) (inner : Environment → Found (List Value)) (env : Environment) → group_visits (groups.Ordered ps s) inner env ≡ over_visits true ps s inner env
 unfolding group_visits over_visits
-group-Ordered ps s later env =
-    ap (λ g. then (g.over.value env) (λ v. chosen g.is_ordered g.patterns (elements (declaration_of (g.over.item env)) v) (bodies_of later) env)) (by.group_meaning-Ordered ps s)
+group-Ordered ps s inner env =
+    ap (λ g. then (g.over.value env) (λ v. chosen g.is_ordered g.patterns (elements (declaration_of (g.over.item env)) v) inner env)) (by.group_meaning-Ordered ps s)
 
 -- patterns over a set
-pub over-made : (is_ordered : Bool) (ps : List Pattern) (over : SetTerm) (later : Visit) (env : Environment) (v w : Value) (d : ℕ) (es : List Value) → (set_meaning over).value env ≡ Ok v → d ≡ declaration_of ((set_meaning over).item env) → w ≡ v →
-    ◌≡◌ {A = Found (List Value)} (Ok (elements d w)) (Ok es) → over_visits is_ordered ps over later env ≡ chosen is_ordered ps es (bodies_of later) env
+pub over-made : (is_ordered : Bool) (ps : List Pattern) (over : SetTerm) (inner : Environment → Found (List Value)) (env : Environment) (v : Value) (d : ℕ) (es : List Value) → (set_meaning over).value env ≡ Ok v → d ≡ declaration_of ((set_meaning over).item env) →
+    ◌≡◌ {A = Found (List Value)} (Ok (elements d v)) (Ok es) → over_visits is_ordered ps over inner env ≡ chosen is_ordered ps es inner env
 unfolding over_visits
-over-made is_ordered ps over later env v w d es h e g l =
-    ap (λ r. then r (λ x. chosen is_ordered ps (elements (declaration_of ((set_meaning over).item env)) x) (bodies_of later) env)) h
-    ∙ ap (λ x. chosen is_ordered ps x (bodies_of later) env) (ap (λ n. elements n v) (sym e) ∙ ap (elements d) (sym g) ∙ same l)
+over-made is_ordered ps over inner env v d es h e l =
+    ap (λ r. then r (λ x. chosen is_ordered ps (elements (declaration_of ((set_meaning over).item env)) x) inner env)) h
+    ∙ ap (λ x. chosen is_ordered ps x inner env) (ap (λ n. elements n v) (sym e) ∙ same l)
   where
-    same : ◌≡◌ {A = Found (List Value)} (Ok (elements d w)) (Ok es) → elements d w ≡ es
+    same : ◌≡◌ {A = Found (List Value)} (Ok (elements d v)) (Ok es) → elements d v ≡ es
     same q = cc
 
-pub over-fault : (is_ordered : Bool) (ps : List Pattern) (over : SetTerm) (later : Visit) (env : Environment) (e : EvalFault) → (e ≢ OutOfMemory → (set_meaning over).value env ≡ Err e) → e ≢ OutOfMemory → over_visits is_ordered ps over later env ≡ Err e
+pub over-fault : (is_ordered : Bool) (ps : List Pattern) (over : SetTerm) (inner : Environment → Found (List Value)) (env : Environment) (e : EvalFault) → (e ≢ OutOfMemory → (set_meaning over).value env ≡ Err e) → e ≢ OutOfMemory → over_visits is_ordered ps over inner env ≡ Err e
 unfolding over_visits
-over-fault is_ordered ps over later env e h n =
-    ap (λ r. then r (λ x. chosen is_ordered ps (elements (declaration_of ((set_meaning over).item env)) x) (bodies_of later) env)) (h n)
+over-fault is_ordered ps over inner env e h n =
+    ap (λ r. then r (λ x. chosen is_ordered ps (elements (declaration_of ((set_meaning over).item env)) x) inner env)) (h n)
+
+pub over-faults : (is_ordered : Bool) (ps : List Pattern) (over : SetTerm) (later : ℕ) (env : Environment) (e : EvalFault) → (e ≢ OutOfMemory → (set_meaning over).value env ≡ Err e) → e ≢ OutOfMemory → (inner : Inner) → over_visits is_ordered ps over (inner later) env ≡ Err e
+over-faults is_ordered ps over later env e h n inner = over-fault is_ordered ps over (inner later) env e h n
+
+-- what leads on in one way leads on in a way that finds the same
+pub leads-same : (what same : Inner → Found (List Value)) (env : Environment) (r : Result Ahead EvalFault) → ((inner : Inner) → what inner ≡ same inner) → Leads same env r → Leads what env r
+leads-same what same env (Ok next) h l = λ inner. h inner ∙ l inner
+leads-same what same env (Err e) h l = λ n inner. h inner ∙ l n inner
+
+-- what leads on from a group leads on from its place
+pub reaches : (v : Visit) (place : ℕ) (g : GroupTerm) (env : Environment) (before : Gathered) (r : Result Ahead EvalFault) → bodies_at v place env ≡ group_visits g (bodies_at v (place + 1)) env →
+    Leads (λ inner. group_visits g (inner (place + 1)) env) env r → Reaches (bodies_at v) place env before before r
+reaches v place g env before (Ok next) e l = ap (with_more before) (e ∙ l (bodies_at v))
+reaches v place g env before (Err d) e l = λ n. e ∙ l n (bodies_at v)
 
 pub ruleset groups_of = (group-Unordered, group-Ordered)

@@ -12,6 +12,9 @@ use Rattle.opl_eval.specs.declared.environment.Environment as code
 use Rattle.opl_eval.specs.declared.environment.Parameter as parameters
 use Rattle.opl_eval.specs.Evaluation.{Item, Parameter, Environment, latest_or, parameter_or, item_named, value_named, unhidden, visible, declared}
 use Rattle.opl_eval.specs.LatestPlaces.{place_or, entry_at, entry_or}
+use Rattle.opl_eval.specs.declared.turns.Turn.{Turn}
+use Rattle.opl_eval.specs.Turns.{in_turns, under}
+use Rattle.opl_eval.proofs.Pending.{under-items, under-position, under-value}
 use Rattle.opl_eval.specs.Visible.{item_of, parameter_of, position_in, seen, within}
 
 -- ---- what stands at a place
@@ -110,24 +113,24 @@ value-latest env name found h =
     values (Some e) = refl
 
 -- a parameter hides an item
-pub item-hidden : (env : code.Environment) (ps : List parameters.Parameter) (name : List ℕ) (v : Value) → Some v ≡ parameter_or None name (map parameter_of ps) → item_named name (within env ps) ≡ None
-unfolding item_named within
-item-hidden env ps name v h = ap (λ p. unhidden p (latest_or None name (map item_of env.entries))) (sym h)
+pub item-hidden : (names : Environment) (name : List ℕ) (v : Value) → Some v ≡ parameter_or None name names.parameters → item_named name names ≡ None
+unfolding item_named
+item-hidden names name v h = ap (λ p. unhidden p (latest_or None name names.items)) (sym h)
 
-pub item-visible : (env : code.Environment) (ps : List parameters.Parameter) (name : List ℕ) (found : Option Entry) → None ≡ parameter_or None name (map parameter_of ps) → found ≡ entry_or None name env.entries →
-    option_map item_of found ≡ item_named name (within env ps)
-unfolding item_named within
-item-visible env ps name found h f =
-    ap (option_map item_of) f ∙ item-latest name env.entries ∙ ap (λ p. unhidden p (latest_or None name (map item_of env.entries))) h
+pub item-visible : (env : code.Environment) (names : Environment) (name : List ℕ) (found : Option Entry) → names.items ≡ map item_of env.entries → None ≡ parameter_or None name names.parameters → found ≡ entry_or None name env.entries →
+    option_map item_of found ≡ item_named name names
+unfolding item_named
+item-visible env names name found k h f =
+    ap (option_map item_of) f ∙ item-latest name env.entries ∙ (λ i. unhidden (h i) (latest_or None name (sym k i)))
 
-pub value-hidden : (env : code.Environment) (ps : List parameters.Parameter) (name : List ℕ) (v : Value) → Some v ≡ parameter_or None name (map parameter_of ps) → v ≡ value_named name (within env ps)
-unfolding value_named within
-value-hidden env ps name v h = ap (λ p. visible p (latest_or None name (map item_of env.entries))) h
+pub value-hidden : (names : Environment) (name : List ℕ) (v : Value) → Some v ≡ parameter_or None name names.parameters → v ≡ value_named name names
+unfolding value_named
+value-hidden names name v h = ap (λ p. visible p (latest_or None name names.items)) h
 
-pub value-visible : (env : code.Environment) (ps : List parameters.Parameter) (name : List ℕ) → None ≡ parameter_or None name (map parameter_of ps) →
-    visible None (latest_or None name (seen env).items) ≡ value_named name (within env ps)
-unfolding value_named within seen
-value-visible env ps name h = ap (λ p. visible p (latest_or None name (map item_of env.entries))) h
+pub value-visible : (env : code.Environment) (names : Environment) (name : List ℕ) → names.items ≡ map item_of env.entries → None ≡ parameter_or None name names.parameters →
+    visible None (latest_or None name (seen env).items) ≡ value_named name names
+unfolding value_named seen
+value-visible env names name k h = λ i. visible (h i) (latest_or None name (sym k i))
 
 visible-by : (o : Option Item) (v : Value) → Some v ≡ option_map (λ i. i.value) o → v ≡ visible None o
 visible-by None v h = cc
@@ -137,10 +140,24 @@ visible-none : (o : Option Item) → None ≡ option_map (λ i. i.value) o → o
 visible-none None h = refl
 visible-none (Some i) h = cc
 
-pub value-declared : (env : code.Environment) (ps : List parameters.Parameter) (name : List ℕ) (v : Value) → None ≡ parameter_or None name (map parameter_of ps) → Some v ≡ option_map (λ i. i.value) (latest_or None name (seen env).items) →
-    v ≡ value_named name (within env ps)
-value-declared env ps name v h f = visible-by (latest_or None name (seen env).items) v f ∙ value-visible env ps name h
+pub value-declared : (env : code.Environment) (names : Environment) (name : List ℕ) (v : Value) → names.items ≡ map item_of env.entries → None ≡ parameter_or None name names.parameters → Some v ≡ option_map (λ i. i.value) (latest_or None name (seen env).items) →
+    v ≡ value_named name names
+value-declared env names name v k h f = visible-by (latest_or None name (seen env).items) v f ∙ value-visible env names name k h
 
-pub value-unknown : (env : code.Environment) (ps : List parameters.Parameter) (name : List ℕ) → None ≡ parameter_or None name (map parameter_of ps) → None ≡ option_map (λ i. i.value) (latest_or None name (seen env).items) →
-    visible None None ≡ value_named name (within env ps)
-value-unknown env ps name h f = ap (visible None) (sym (visible-none (latest_or None name (seen env).items) f)) ∙ value-visible env ps name h
+pub value-unknown : (env : code.Environment) (names : Environment) (name : List ℕ) → names.items ≡ map item_of env.entries → None ≡ parameter_or None name names.parameters → None ≡ option_map (λ i. i.value) (latest_or None name (seen env).items) →
+    visible None None ≡ value_named name names
+value-unknown env names name k h f = ap (visible None) (sym (visible-none (latest_or None name (seen env).items) f)) ∙ value-visible env names name k h
+
+-- ---- names under turns
+
+pub items-in : (env : code.Environment) (ps : List parameters.Parameter) (ts : List Turn) → (under (within env ps) ts).items ≡ map item_of env.entries
+unfolding within
+items-in env ps ts = under-items (within env ps) ts
+
+pub parameter-in : (env : code.Environment) (ps : List parameters.Parameter) (ts : List Turn) (name : List ℕ) → parameter_or None name (under (within env ps) ts).parameters ≡ in_turns (parameter_or None name (map parameter_of ps)) name ts
+unfolding within
+parameter-in env ps ts name = under-value (within env ps) name ts
+
+pub position-of : (env : code.Environment) (ps : List parameters.Parameter) (ts : List Turn) (place : ℕ) → (under (within env ps) ts).position place ≡ position_in env.positions place
+unfolding within
+position-of env ps ts place = ap (λ f. f place) (under-position (within env ps) ts)

@@ -1,3 +1,4 @@
+pub mod Aggregates
 pub mod Choices
 pub mod Different
 pub mod Evals
@@ -9,6 +10,7 @@ pub mod Loops
 pub mod Meanings
 pub mod NoMemory
 pub mod NumberLaws
+pub mod Pending
 pub mod SetElements
 pub mod Sized
 pub mod Sizes

@@ -2,9 +2,11 @@ pub mod Arithmetic
 pub mod ArrayKeys
 pub mod Compare
 pub mod Evaluation
+pub mod Gathered
 pub mod LatestPlaces
 pub mod Laws
 pub mod Scopes
+pub mod Turns
 pub mod Visible
 pub mod Visits
 pub mod Weights

@@ -1,9 +1,8 @@
 -- What the program's values stand for in the definitions, and what its functions answer.
-use Rattle.std.specs.Prelude.{◌≡◌, ◌≢◌, ◌-◌, ◌++◌, ℕ, zero, suc, List, [], ◌∷◌, map, nat_eq, Option, Some, None, Result, Ok, Err}
+use Rattle.std.specs.Prelude.{◌≡◌, ◌≢◌, ℕ, zero, suc, List, [], ◌∷◌, map, nat_eq, Option, Some, None, Result, Ok, Err}
 use Rattle.std.specs.HashMap.{get_by}
 use Rattle.opl_value.specs.declared.value.Value.{Value}
 use Rattle.opl_value.specs.declared.value.Value.TheVariants as values
-use Rattle.opl_value.specs.Places.{numbers_between}
 use Rattle.opl_eval.specs.declared.entry.Entry.{Entry}
 use Rattle.opl_eval.specs.declared.environment.Environment as code
 use Rattle.opl_eval.specs.declared.environment.Parameter as parameters
@@ -11,8 +10,6 @@ use Rattle.opl_eval.specs.declared.fault.EvalFault.{EvalFault}
 use Rattle.opl_eval.specs.declared.fault.EvalFault.TheVariants.{OutOfMemory}
 use Rattle.opl_eval.specs.declared.held.Held.{Held}
 use Rattle.opl_eval.specs.declared.held.Held.TheVariants.{Borrowed, Owned}
-use Rattle.opl_eval.specs.declared.elements.Elements.{Elements}
-use Rattle.opl_eval.specs.declared.elements.Elements.TheVariants as elements
 use Rattle.opl_eval.specs.declared.positions.Positions.{Positions}
 use Rattle.opl_eval.specs.Evaluation.{Item, Parameter, Environment, Found, found, with_parameters}
 
@@ -22,11 +19,6 @@ use Rattle.opl_eval.specs.Evaluation.{Item, Parameter, Environment, Found, found
 abbrev pub Gives : {A B : Type 0} → (B → A) → Found A → Result B EvalFault → Type 0
 Gives reading found (Ok b) = found ≡ Ok (reading b)
 Gives reading found (Err e) = e ≢ OutOfMemory → found ≡ Err e
-
--- what a function answers that adds what is found behind what was there
-abbrev pub Adds : {A : Type 0} → Found (List A) → List A → List A → Result (Unit {0}) EvalFault → Type 0
-Adds more before after (Ok u) = found (λ xs. before ++ xs) more ≡ Ok after
-Adds more before after (Err e) = e ≢ OutOfMemory → more ≡ Err e
 
 -- ---- values
 
@@ -39,12 +31,6 @@ held (Owned v) = v
 abbrev pub names_on : ℕ → ℕ → ℕ → List Value
 names_on declaration p zero = []
 names_on declaration p (suc n) = values.Enum declaration p ∷ names_on declaration (suc p) n
-
--- the elements that are left
-abbrev pub left : Elements → List Value
-left (elements.Listed vs) = vs.now
-left (elements.Between low high) = numbers_between low high
-left (elements.Named declaration p end) = names_on declaration p (end - p)
 
 -- ---- names
 

@@ -4,8 +4,8 @@ use opl_tree::{AddTree, Boxed, OpenTree, ParamsTree, Seq, SignTree};
 /// What may stand behind a sign, and what a product begins with.
 #[derive(Drop)]
 pub enum Operand {
-    Open(OpenTree),
-    Sign(SignTree),
+    Open(Boxed<OpenTree>),
+    Sign(Boxed<SignTree>),
 }
 
 /// What stands in the braces of a set: its elements, or one element for each choice of the parameters.

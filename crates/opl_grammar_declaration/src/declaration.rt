@@ -9,13 +9,23 @@ use opl_grammar::Cursor;
 use opl_grammar::list::{Part, many};
 use opl_grammar::tables::{schedule_end, starts_decl, starts_type};
 use opl_level::{Below, Level, keep, name};
-use opl_list::Seq;
+use opl_list::{Boxed, Seq};
 use opl_token::Sign;
 use opl_tree::{
-    ActivityTree, BoundsTree, DataTree, DeclTree, DimsTree, DiscreteTree, EnumNamesTree, EnumTree,
-    InitialTree, Keyword, RangeTree, ScheduleTree, StructTree, SyntaxFault, UnaryTree,
+    ActivityTree, AddTree, BoundsTree, DataTree, DeclTree, DimsTree, DiscreteTree, EnumNamesTree,
+    EnumTree, InitialTree, Keyword, RangeTree, ScheduleTree, StructTree, SyntaxFault, UnaryTree,
     VariableTree, VariableTypeTree,
 };
+
+/// A tree without its box.
+fn unboxed(t: Option<Boxed<AddTree>>) -> Option<AddTree>
+    ensures { result ≡ t }
+{
+    match t {
+        Some(inner) => Some(inner.into_inner()),
+        None => None,
+    }
+}
 
 /// `[DIM, DIM, ..]`
 #[tactic(auto, unfolding(opl_grammar::specs::Declarations::dims_tree))]
@@ -66,7 +76,7 @@ fn initial<B: Below>(level: &Level<B>, cursor: &mut Cursor<'_>) -> Result<Initia
     if cursor.sees_sign(Sign::Ellipsis) {
         external(level, cursor)
     } else {
-        Ok(InitialTree::Written(level.add(cursor)?))
+        Ok(InitialTree::Written(level.add(cursor)?.into_inner()))
     }
 }
 
@@ -107,8 +117,8 @@ fn range_decl<B: Below>(level: &Level<B>, cursor: &mut Cursor<'_>) -> Result<Ran
     Ok(RangeTree {
         at,
         name,
-        low,
-        high,
+        low: low.into_inner(),
+        high: high.into_inner(),
     })
 }
 
@@ -237,7 +247,11 @@ fn bounds<B: Below>(level: &Level<B>, cursor: &mut Cursor<'_>) -> Result<BoundsT
     cursor.expect_word(Keyword::In)?;
     let low = level.add(cursor)?;
     let (low, high) = keep(low, level.upper(cursor))?;
-    Ok(BoundsTree { at, low, high })
+    Ok(BoundsTree {
+        at,
+        low: low.into_inner(),
+        high: high.into_inner(),
+    })
 }
 
 /// `in ADD..ADD` or nothing
@@ -302,8 +316,8 @@ fn activity_decl<B: Below>(
         at,
         name,
         dims,
-        shortest,
-        longest,
+        shortest: shortest.into_inner(),
+        longest: unboxed(longest),
     })
 }
 
@@ -343,7 +357,7 @@ fn discrete_decl<B: Below>(
         at,
         name,
         dims,
-        capacity,
+        capacity: capacity.into_inner(),
     })
 }
 
@@ -361,7 +375,11 @@ fn schedule_decl<B: Below>(
     cursor.expect_sign(Sign::Equal)?;
     let value = level.add(cursor)?;
     let (value, ()) = keep(value, cursor.expect_sign(Sign::Semicolon))?;
-    Ok(ScheduleTree { at, end, value })
+    Ok(ScheduleTree {
+        at,
+        end,
+        value: value.into_inner(),
+    })
 }
 
 /// An activity, a resource or an end of the schedule.

@@ -1,11 +1,12 @@
 //! Items, their lists and the instruction.
 ghost use Rattle.std.specs.Prelude.{◌≡◌};
 ghost use Rattle.opl_grammar.specs.Input as steps;
-ghost use Rattle.opl_grammar.specs.Input.{Reads};
+ghost use Rattle.opl_grammar.specs.Input.{Reads, ◌<$>◌};
 ghost use Rattle.opl_grammar.specs.Items as rules;
 ghost use Rattle.opl_grammar.specs.Items.{ItemRules};
 ghost use Rattle.opl_grammar.specs.Rules as phrases;
 ghost use Rattle.opl_grammar.specs.Tables as tables;
+ghost use Rattle.opl_tree.specs.declared.instruction.ItemTree.TheVariants as items_are;
 
 use opl_grammar::Cursor;
 use opl_grammar::list::{Part, behind};
@@ -43,12 +44,13 @@ pub trait Inner {
         &self,
         cursor: &mut Cursor<'_>,
         at: u32,
-    ) -> Result<(ExprTree, ItemsTree, Option<ItemsTree>), SyntaxFault>
+    ) -> Result<(Boxed<ExprTree>, ItemsTree, Option<ItemsTree>), SyntaxFault>
         requires { is_ready self.now }
         ensures { Reads ((rules self.now).branches at cursor.old) result cursor.new };
 }
 
-/// The rules of items of one level.
+/// The rules of items of one level. Each form of an item is read by a function that is not inlined, so that a level of
+/// nesting takes the stack of one form and not that of all.
 #[derive(Drop)]
 pub struct Items<B, I> {
     pub level: Level<B>,
@@ -71,9 +73,21 @@ impl<B: Below, I: Inner> Items<B, I> {
         Ok(BlockTree { at, items })
     }
 
+    /// `{ITEMS}` as an item
+    #[inline(never)]
+    fn block_item(&self, cursor: &mut Cursor<'_>) -> Result<Boxed<ItemTree>, SyntaxFault>
+        requires level { B.is_ready self.now.level.below }
+        requires inner { I.is_ready self.now.inner }
+        ensures { Reads ((items_are.Block <$> rules.block (B.rules self.now.level.below) (I.rules self.now.inner)) cursor.old) result cursor.new }
+    {
+        let item = ItemTree::Block(self.block(cursor)?);
+        Ok(Boxed::new(self.level.alloc, item)?)
+    }
+
     /// `forall (PARAMS) ITEM`
     #[tactic(auto, unfolding(opl_grammar::specs::Items::for_all))]
-    fn for_all(&self, cursor: &mut Cursor<'_>) -> Result<ItemTree, SyntaxFault>
+    #[inline(never)]
+    fn for_all(&self, cursor: &mut Cursor<'_>) -> Result<Boxed<ItemTree>, SyntaxFault>
         requires level { B.is_ready self.now.level.below }
         requires inner { I.is_ready self.now.inner }
         ensures { Reads (rules.for_all (B.rules self.now.level.below) (I.rules self.now.inner) cursor.old) result cursor.new }
@@ -81,12 +95,14 @@ impl<B: Below, I: Inner> Items<B, I> {
         let at = cursor.place();
         cursor.expect_word(Keyword::ForAll)?;
         let (params, body) = self.inner.for_all(cursor, at)?;
-        Ok(ItemTree::ForAll(at, params.into_inner(), body))
+        let item = ItemTree::ForAll(at, params.into_inner(), body);
+        Ok(Boxed::new(self.level.alloc, item)?)
     }
 
     /// `if EXPR then ITEMS endif`, or with `else ITEMS` before `endif`
     #[tactic(auto, unfolding(opl_grammar::specs::Items::if_item))]
-    fn if_item(&self, cursor: &mut Cursor<'_>) -> Result<ItemTree, SyntaxFault>
+    #[inline(never)]
+    fn if_item(&self, cursor: &mut Cursor<'_>) -> Result<Boxed<ItemTree>, SyntaxFault>
         requires level { B.is_ready self.now.level.below }
         requires inner { I.is_ready self.now.inner }
         ensures { Reads (rules.if_item (B.rules self.now.level.below) (I.rules self.now.inner) cursor.old) result cursor.new }
@@ -94,7 +110,8 @@ impl<B: Below, I: Inner> Items<B, I> {
         let at = cursor.place();
         cursor.expect_word(Keyword::If)?;
         let (condition, body, other) = self.inner.branches(cursor, at)?;
-        Ok(ItemTree::If(at, condition, body, other))
+        let item = ItemTree::If(at, condition.into_inner(), body, other);
+        Ok(Boxed::new(self.level.alloc, item)?)
     }
 
     /// `precedes POST`, where what stands before is just a post
@@ -103,7 +120,7 @@ impl<B: Below, I: Inner> Items<B, I> {
         cursor: &mut Cursor<'_>,
         at: u32,
         before: Option<PostTree>,
-    ) -> Result<ItemTree, SyntaxFault>
+    ) -> Result<Boxed<ItemTree>, SyntaxFault>
         requires level { B.is_ready self.now.level.below }
         requires inner { I.is_ready self.now.inner }
         ensures { Reads (rules.precedes (B.rules self.now.level.below) (I.rules self.now.inner) at before cursor.old) result cursor.new }
@@ -113,12 +130,13 @@ impl<B: Below, I: Inner> Items<B, I> {
         };
         let (before, ()) = keep(before, cursor.expect_word(Keyword::Precedes))?;
         let (before, after) = keep(before, self.level.post(cursor))?;
-        Ok(ItemTree::Precedes(at, before, after))
+        let item = ItemTree::Precedes(at, before, after);
+        Ok(Boxed::new(self.level.alloc, item)?)
     }
 
     /// `(ADD)`
     #[tactic(auto, unfolding(opl_grammar::specs::Items::demand))]
-    fn demand(&self, cursor: &mut Cursor<'_>) -> Result<AddTree, SyntaxFault>
+    fn demand(&self, cursor: &mut Cursor<'_>) -> Result<Boxed<AddTree>, SyntaxFault>
         requires level { B.is_ready self.now.level.below }
         requires inner { I.is_ready self.now.inner }
         ensures { Reads (rules.demand (B.rules self.now.level.below) (I.rules self.now.inner) cursor.old) result cursor.new }
@@ -137,7 +155,7 @@ impl<B: Below, I: Inner> Items<B, I> {
         ensures { Reads (steps.maybe (steps.is_sign Sign.OpenParenthesis) (rules.demand (B.rules self.now.level.below) (I.rules self.now.inner)) cursor.old) result cursor.new }
     {
         if cursor.sees_sign(Sign::OpenParenthesis) {
-            Ok(Some(self.demand(cursor)?))
+            Ok(Some(self.demand(cursor)?.into_inner()))
         } else {
             Ok(None)
         }
@@ -190,13 +208,16 @@ impl<B: Below, I: Inner> Items<B, I> {
         cursor: &mut Cursor<'_>,
         at: u32,
         activity: Option<PostTree>,
-    ) -> Result<ItemTree, SyntaxFault>
+    ) -> Result<Boxed<ItemTree>, SyntaxFault>
         requires level { B.is_ready self.now.level.below }
         requires inner { I.is_ready self.now.inner }
         ensures { Reads (rules.required (B.rules self.now.level.below) (I.rules self.now.inner) at activity cursor.old) result cursor.new }
     {
         match activity {
-            Some(activity) => Ok(ItemTree::Requires(self.requires_tree(cursor, at, activity)?)),
+            Some(activity) => {
+                let item = ItemTree::Requires(self.requires_tree(cursor, at, activity)?);
+                Ok(Boxed::new(self.level.alloc, item)?)
+            }
             None => Err(cursor.refuse()),
         }
     }
@@ -207,24 +228,26 @@ impl<B: Below, I: Inner> Items<B, I> {
         &self,
         cursor: &mut Cursor<'_>,
         at: u32,
-        t: ExprTree,
-    ) -> Result<ItemTree, SyntaxFault>
+        t: Boxed<ExprTree>,
+    ) -> Result<Boxed<ItemTree>, SyntaxFault>
         requires level { B.is_ready self.now.level.below }
         requires inner { I.is_ready self.now.inner }
         ensures { Reads (rules.stated_of (B.rules self.now.level.below) (I.rules self.now.inner) at t cursor.old) result cursor.new }
     {
         if cursor.sees_word(Keyword::Precedes) {
-            self.precedes(cursor, at, into_post(t))
+            self.precedes(cursor, at, into_post(t.into_inner()))
         } else if cursor.sees_word(Keyword::Requires) {
-            self.required(cursor, at, into_post(t))
+            self.required(cursor, at, into_post(t.into_inner()))
         } else {
-            Ok(ItemTree::Constraint(t))
+            let item = ItemTree::Constraint(t.into_inner());
+            Ok(Boxed::new(self.level.alloc, item)?)
         }
     }
 
     /// `EXPR`, `POST precedes POST` or `POST requires ..`
     #[tactic(auto, unfolding(opl_grammar::specs::Items::stated))]
-    fn stated(&self, cursor: &mut Cursor<'_>) -> Result<ItemTree, SyntaxFault>
+    #[inline(never)]
+    fn stated(&self, cursor: &mut Cursor<'_>) -> Result<Boxed<ItemTree>, SyntaxFault>
         requires level { B.is_ready self.now.level.below }
         requires inner { I.is_ready self.now.inner }
         ensures { Reads (rules.stated (B.rules self.now.level.below) (I.rules self.now.inner) cursor.old) result cursor.new }
@@ -236,13 +259,13 @@ impl<B: Below, I: Inner> Items<B, I> {
 
     /// An item.
     #[tactic(auto, unfolding(opl_grammar::specs::Items::item))]
-    fn item(&self, cursor: &mut Cursor<'_>) -> Result<ItemTree, SyntaxFault>
+    fn item(&self, cursor: &mut Cursor<'_>) -> Result<Boxed<ItemTree>, SyntaxFault>
         requires level { B.is_ready self.now.level.below }
         requires inner { I.is_ready self.now.inner }
         ensures { Reads (rules.item (B.rules self.now.level.below) (I.rules self.now.inner) cursor.old) result cursor.new }
     {
         if cursor.sees_sign(Sign::OpenBrace) {
-            Ok(ItemTree::Block(self.block(cursor)?))
+            self.block_item(cursor)
         } else if cursor.sees_word(Keyword::ForAll) {
             self.for_all(cursor)
         } else if cursor.sees_word(Keyword::If) {
@@ -260,7 +283,7 @@ impl<B: Below, I: Inner> Items<B, I> {
         ensures { Reads (rules.several_items (B.rules self.now.level.below) (I.rules self.now.inner) cursor.old) result cursor.new }
     {
         let at = cursor.place();
-        let first = Boxed::new(self.level.alloc, self.item(cursor)?)?;
+        let first = self.item(cursor)?;
         let more = behind(self.level.alloc, cursor, Sign::Semicolon, self);
         let (first, (rest, is_closed)) = keep(first, more)?;
         Ok(ItemsTree::Several(at, first, rest, is_closed))
@@ -290,9 +313,8 @@ impl<B: Below, I: Inner> Items<B, I> {
         requires inner { I.is_ready self.now.inner }
         ensures { Reads (rules.quantified (B.rules self.now.level.below) (I.rules self.now.inner) cursor.old) result cursor.new }
     {
-        let params = Boxed::new(self.level.alloc, self.level.chosen(cursor)?)?;
-        let (params, body) = keep(params, self.item(cursor))?;
-        Ok(keep(params, Boxed::new(self.level.alloc, body))?)
+        let params = self.level.chosen(cursor)?;
+        keep(params, self.item(cursor))
     }
 
     /// `else ITEMS`
@@ -324,7 +346,7 @@ impl<B: Below, I: Inner> Items<B, I> {
     pub fn branches(
         &self,
         cursor: &mut Cursor<'_>,
-    ) -> Result<(ExprTree, ItemsTree, Option<ItemsTree>), SyntaxFault>
+    ) -> Result<(Boxed<ExprTree>, ItemsTree, Option<ItemsTree>), SyntaxFault>
         requires level { B.is_ready self.now.level.below }
         requires inner { I.is_ready self.now.inner }
         ensures { Reads (rules.branches (B.rules self.now.level.below) (I.rules self.now.inner) cursor.old) result cursor.new }
@@ -365,7 +387,7 @@ impl<B: Below, I: Inner> Items<B, I> {
         let (objective, ()) = keep(objective, cursor.expect_word(Keyword::To))?;
         let parts = keep(objective, self.block(cursor))?;
         let ((objective, block), ()) = keep(parts, cursor.expect_sign(Sign::Semicolon))?;
-        Ok(InstrTree::Optimize(at, best, objective, block))
+        Ok(InstrTree::Optimize(at, best, objective.into_inner(), block))
     }
 
     /// The instruction.
@@ -395,6 +417,6 @@ impl<B: Below, I: Inner> Part<ItemTree> for Items<B, I> {
     }
 
     fn read(&self, cursor: &mut Cursor<'_>) -> Result<ItemTree, SyntaxFault> {
-        self.item(cursor)
+        Ok(self.item(cursor)?.into_inner())
     }
 }

@@ -70,7 +70,7 @@ impl<F: Fn(Global, &mut Cursor<'_>, u32, u32, WantedItems) -> Result<FoundItems,
         &self,
         cursor: &mut Cursor<'_>,
         at: u32,
-    ) -> Result<(ExprTree, ItemsTree, Option<ItemsTree>), SyntaxFault> {
+    ) -> Result<(Boxed<ExprTree>, ItemsTree, Option<ItemsTree>), SyntaxFault> {
         match self.ask(cursor, at, WantedItems::Branches)? {
             FoundItems::Branches(first, second, third) => Ok((first, second, third)),
             _ => unreachable!(),

@@ -15,5 +15,5 @@ pub enum WantedItems {
 pub enum FoundItems {
     Items(ItemsTree),
     ForAll(Boxed<ParamsTree>, Boxed<ItemTree>),
-    Branches(ExprTree, ItemsTree, Option<ItemsTree>),
+    Branches(Boxed<ExprTree>, ItemsTree, Option<ItemsTree>),
 }

@@ -107,7 +107,7 @@ impl<
         &self,
         cursor: &mut Cursor<'_>,
         at: u32,
-    ) -> Result<(ExprTree, Boxed<StatementTree>), SyntaxFault> {
+    ) -> Result<(Boxed<ExprTree>, Boxed<StatementTree>), SyntaxFault> {
         match self.ask(cursor, at, WantedStatements::Loop)? {
             FoundStatements::Loop(first, second) => Ok((first, second)),
             _ => unreachable!(),
@@ -119,7 +119,7 @@ impl<
         &self,
         cursor: &mut Cursor<'_>,
         at: u32,
-    ) -> Result<(ExprTree, StatementsTree, Option<StatementsTree>), SyntaxFault> {
+    ) -> Result<(Boxed<ExprTree>, StatementsTree, Option<StatementsTree>), SyntaxFault> {
         match self.ask(cursor, at, WantedStatements::Choice)? {
             FoundStatements::Choice(first, second, third) => Ok((first, second, third)),
             _ => unreachable!(),
@@ -154,7 +154,7 @@ impl<B: Below, I: Beneath> Statements<B, I> {
             }
             WantedStatements::Statement => {
                 let found = self.statement(cursor)?;
-                Ok(FoundStatements::Statement(Boxed::new(self.level.alloc, found)?))
+                Ok(FoundStatements::Statement(found))
             }
             WantedStatements::Loop => {
                 let (condition, body) = self.repeated(cursor)?;

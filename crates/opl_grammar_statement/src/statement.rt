@@ -1,10 +1,11 @@
 //! Statements, their lists and the search section.
 ghost use Rattle.std.specs.Prelude.{◌≡◌};
 ghost use Rattle.opl_grammar.specs.Input as steps;
-ghost use Rattle.opl_grammar.specs.Input.{Reads};
+ghost use Rattle.opl_grammar.specs.Input.{Reads, ◌<$>◌};
 ghost use Rattle.opl_grammar.specs.Search as rules;
 ghost use Rattle.opl_grammar.specs.Search.{StatementRules};
 ghost use Rattle.opl_grammar.specs.Tables as tables;
+ghost use Rattle.opl_tree.specs.declared.search.StatementTree.TheVariants as statements_are;
 
 use opl_grammar::Cursor;
 use opl_grammar::list::{Part, Phrase, after_each, behind};
@@ -60,7 +61,7 @@ pub trait Beneath {
         &self,
         cursor: &mut Cursor<'_>,
         at: u32,
-    ) -> Result<(ExprTree, Boxed<StatementTree>), SyntaxFault>
+    ) -> Result<(Boxed<ExprTree>, Boxed<StatementTree>), SyntaxFault>
         requires { is_ready self.now }
         ensures { Reads ((rules self.now).repeated at cursor.old) result cursor.new };
 
@@ -69,12 +70,13 @@ pub trait Beneath {
         &self,
         cursor: &mut Cursor<'_>,
         at: u32,
-    ) -> Result<(ExprTree, StatementsTree, Option<StatementsTree>), SyntaxFault>
+    ) -> Result<(Boxed<ExprTree>, StatementsTree, Option<StatementsTree>), SyntaxFault>
         requires { is_ready self.now }
         ensures { Reads ((rules self.now).choice at cursor.old) result cursor.new };
 }
 
-/// The rules of statements of one level.
+/// The rules of statements of one level. Each form of a statement is read by a function that is not inlined, so that a level
+/// of nesting takes the stack of one form and not that of all.
 #[derive(Drop)]
 pub struct Statements<B, I> {
     pub level: Level<B>,
@@ -97,9 +99,21 @@ impl<B: Below, I: Beneath> Statements<B, I> {
         Ok(SearchBlockTree { at, statements })
     }
 
+    /// `{STATEMENTS}` as a statement
+    #[inline(never)]
+    fn block_statement(&self, cursor: &mut Cursor<'_>) -> Result<Boxed<StatementTree>, SyntaxFault>
+        requires level { B.is_ready self.now.level.below }
+        requires inner { I.is_ready self.now.inner }
+        ensures { Reads ((statements_are.Block <$> rules.search_block (B.rules self.now.level.below) (I.rules self.now.inner)) cursor.old) result cursor.new }
+    {
+        let tree = StatementTree::Block(self.search_block(cursor)?);
+        Ok(Boxed::new(self.level.alloc, tree)?)
+    }
+
     /// `try STATEMENTS | STATEMENTS | .. endtry`
     #[tactic(auto, unfolding(opl_grammar::specs::Search::try_statement))]
-    fn try_statement(&self, cursor: &mut Cursor<'_>) -> Result<StatementTree, SyntaxFault>
+    #[inline(never)]
+    fn try_statement(&self, cursor: &mut Cursor<'_>) -> Result<Boxed<StatementTree>, SyntaxFault>
         requires level { B.is_ready self.now.level.below }
         requires inner { I.is_ready self.now.inner }
         ensures { Reads (rules.try_statement (B.rules self.now.level.below) (I.rules self.now.inner) cursor.old) result cursor.new }
@@ -107,12 +121,14 @@ impl<B: Below, I: Beneath> Statements<B, I> {
         let at = cursor.place();
         cursor.expect_word(Keyword::Try)?;
         let (first, second, rest) = self.inner.alternatives(cursor, at)?;
-        Ok(StatementTree::Try(at, first, second, rest))
+        let tree = StatementTree::Try(at, first, second, rest);
+        Ok(Boxed::new(self.level.alloc, tree)?)
     }
 
     /// `tryall (PARAMS) STATEMENT` and the like
     #[tactic(auto, unfolding(opl_grammar::specs::Search::branch_statement))]
-    fn branch_statement(&self, cursor: &mut Cursor<'_>) -> Result<StatementTree, SyntaxFault>
+    #[inline(never)]
+    fn branch_statement(&self, cursor: &mut Cursor<'_>) -> Result<Boxed<StatementTree>, SyntaxFault>
         requires level { B.is_ready self.now.level.below }
         requires inner { I.is_ready self.now.inner }
         ensures { Reads (rules.branch_statement (B.rules self.now.level.below) (I.rules self.now.inner) cursor.old) result cursor.new }
@@ -120,12 +136,14 @@ impl<B: Below, I: Beneath> Statements<B, I> {
         let at = cursor.place();
         let op = cursor.take_found(branch_op(cursor.look()))?;
         let (params, body) = self.inner.branch(cursor, at)?;
-        Ok(StatementTree::Branch(at, op, params.into_inner(), body))
+        let tree = StatementTree::Branch(at, op, params.into_inner(), body);
+        Ok(Boxed::new(self.level.alloc, tree)?)
     }
 
     /// `once STATEMENT`
     #[tactic(auto, unfolding(opl_grammar::specs::Search::once_statement))]
-    fn once_statement(&self, cursor: &mut Cursor<'_>) -> Result<StatementTree, SyntaxFault>
+    #[inline(never)]
+    fn once_statement(&self, cursor: &mut Cursor<'_>) -> Result<Boxed<StatementTree>, SyntaxFault>
         requires level { B.is_ready self.now.level.below }
         requires inner { I.is_ready self.now.inner }
         ensures { Reads (rules.once_statement (B.rules self.now.level.below) (I.rules self.now.inner) cursor.old) result cursor.new }
@@ -133,12 +151,13 @@ impl<B: Below, I: Beneath> Statements<B, I> {
         let at = cursor.place();
         cursor.expect_word(Keyword::Once)?;
         let body = self.inner.statement(cursor, at)?;
-        Ok(StatementTree::Once(at, body))
+        Ok(Boxed::new(self.level.alloc, StatementTree::Once(at, body))?)
     }
 
     /// `while EXPR do STATEMENT`
     #[tactic(auto, unfolding(opl_grammar::specs::Search::while_statement))]
-    fn while_statement(&self, cursor: &mut Cursor<'_>) -> Result<StatementTree, SyntaxFault>
+    #[inline(never)]
+    fn while_statement(&self, cursor: &mut Cursor<'_>) -> Result<Boxed<StatementTree>, SyntaxFault>
         requires level { B.is_ready self.now.level.below }
         requires inner { I.is_ready self.now.inner }
         ensures { Reads (rules.while_statement (B.rules self.now.level.below) (I.rules self.now.inner) cursor.old) result cursor.new }
@@ -146,12 +165,14 @@ impl<B: Below, I: Beneath> Statements<B, I> {
         let at = cursor.place();
         cursor.expect_word(Keyword::While)?;
         let (condition, body) = self.inner.repeated(cursor, at)?;
-        Ok(StatementTree::While(at, condition, body))
+        let tree = StatementTree::While(at, condition.into_inner(), body);
+        Ok(Boxed::new(self.level.alloc, tree)?)
     }
 
     /// `if EXPR then STATEMENTS endif`, or with `else STATEMENTS` before `endif`
     #[tactic(auto, unfolding(opl_grammar::specs::Search::if_statement))]
-    fn if_statement(&self, cursor: &mut Cursor<'_>) -> Result<StatementTree, SyntaxFault>
+    #[inline(never)]
+    fn if_statement(&self, cursor: &mut Cursor<'_>) -> Result<Boxed<StatementTree>, SyntaxFault>
         requires level { B.is_ready self.now.level.below }
         requires inner { I.is_ready self.now.inner }
         ensures { Reads (rules.if_statement (B.rules self.now.level.below) (I.rules self.now.inner) cursor.old) result cursor.new }
@@ -159,12 +180,14 @@ impl<B: Below, I: Beneath> Statements<B, I> {
         let at = cursor.place();
         cursor.expect_word(Keyword::If)?;
         let (condition, body, other) = self.inner.choice(cursor, at)?;
-        Ok(StatementTree::If(at, condition, body, other))
+        let tree = StatementTree::If(at, condition.into_inner(), body, other);
+        Ok(Boxed::new(self.level.alloc, tree)?)
     }
 
     /// `generate (POST)` or `rank (POST)`
     #[tactic(auto, unfolding(opl_grammar::specs::Search::label))]
-    fn label(&self, cursor: &mut Cursor<'_>) -> Result<StatementTree, SyntaxFault>
+    #[inline(never)]
+    fn label(&self, cursor: &mut Cursor<'_>) -> Result<Boxed<StatementTree>, SyntaxFault>
         requires level { B.is_ready self.now.level.below }
         requires inner { I.is_ready self.now.inner }
         ensures { Reads (rules.label (B.rules self.now.level.below) (I.rules self.now.inner) cursor.old) result cursor.new }
@@ -172,7 +195,8 @@ impl<B: Below, I: Beneath> Statements<B, I> {
         let at = cursor.place();
         let op = cursor.take_found(label_op(cursor.look()))?;
         let inner = self.level.asked(cursor)?;
-        Ok(StatementTree::Label(at, op, inner))
+        let tree = StatementTree::Label(at, op, inner.into_inner());
+        Ok(Boxed::new(self.level.alloc, tree)?)
     }
 
     /// `precedes POST`, where what stands before is just a post
@@ -181,7 +205,7 @@ impl<B: Below, I: Beneath> Statements<B, I> {
         cursor: &mut Cursor<'_>,
         at: u32,
         before: Option<PostTree>,
-    ) -> Result<StatementTree, SyntaxFault>
+    ) -> Result<Boxed<StatementTree>, SyntaxFault>
         requires level { B.is_ready self.now.level.below }
         requires inner { I.is_ready self.now.inner }
         ensures { Reads (rules.posted_precedes (B.rules self.now.level.below) (I.rules self.now.inner) at before cursor.old) result cursor.new }
@@ -191,7 +215,8 @@ impl<B: Below, I: Beneath> Statements<B, I> {
         };
         let (before, ()) = keep(before, cursor.expect_word(Keyword::Precedes))?;
         let (before, after) = keep(before, self.level.post(cursor))?;
-        Ok(StatementTree::Precedes(at, before, after))
+        let tree = StatementTree::Precedes(at, before, after);
+        Ok(Boxed::new(self.level.alloc, tree)?)
     }
 
     /// What a statement that begins with this expression at this place is.
@@ -200,22 +225,24 @@ impl<B: Below, I: Beneath> Statements<B, I> {
         &self,
         cursor: &mut Cursor<'_>,
         at: u32,
-        t: ExprTree,
-    ) -> Result<StatementTree, SyntaxFault>
+        t: Boxed<ExprTree>,
+    ) -> Result<Boxed<StatementTree>, SyntaxFault>
         requires level { B.is_ready self.now.level.below }
         requires inner { I.is_ready self.now.inner }
         ensures { Reads (rules.posted_of (B.rules self.now.level.below) (I.rules self.now.inner) at t cursor.old) result cursor.new }
     {
         if cursor.sees_word(Keyword::Precedes) {
-            self.posted_precedes(cursor, at, into_post(t))
+            self.posted_precedes(cursor, at, into_post(t.into_inner()))
         } else {
-            Ok(StatementTree::Constraint(t))
+            let tree = StatementTree::Constraint(t.into_inner());
+            Ok(Boxed::new(self.level.alloc, tree)?)
         }
     }
 
     /// `EXPR` or `POST precedes POST`
     #[tactic(auto, unfolding(opl_grammar::specs::Search::posted))]
-    fn posted(&self, cursor: &mut Cursor<'_>) -> Result<StatementTree, SyntaxFault>
+    #[inline(never)]
+    fn posted(&self, cursor: &mut Cursor<'_>) -> Result<Boxed<StatementTree>, SyntaxFault>
         requires level { B.is_ready self.now.level.below }
         requires inner { I.is_ready self.now.inner }
         ensures { Reads (rules.posted (B.rules self.now.level.below) (I.rules self.now.inner) cursor.old) result cursor.new }
@@ -227,7 +254,7 @@ impl<B: Below, I: Beneath> Statements<B, I> {
 
     /// A statement that begins with a word of its own, or with an expression.
     #[tactic(auto, unfolding(opl_grammar::specs::Search::word_statement))]
-    fn word_statement(&self, cursor: &mut Cursor<'_>) -> Result<StatementTree, SyntaxFault>
+    fn word_statement(&self, cursor: &mut Cursor<'_>) -> Result<Boxed<StatementTree>, SyntaxFault>
         requires level { B.is_ready self.now.level.below }
         requires inner { I.is_ready self.now.inner }
         ensures { Reads (rules.word_statement (B.rules self.now.level.below) (I.rules self.now.inner) cursor.old) result cursor.new }
@@ -247,13 +274,13 @@ impl<B: Below, I: Beneath> Statements<B, I> {
 
     /// A statement.
     #[tactic(auto, unfolding(opl_grammar::specs::Search::statement))]
-    pub fn statement(&self, cursor: &mut Cursor<'_>) -> Result<StatementTree, SyntaxFault>
+    pub fn statement(&self, cursor: &mut Cursor<'_>) -> Result<Boxed<StatementTree>, SyntaxFault>
         requires level { B.is_ready self.now.level.below }
         requires inner { I.is_ready self.now.inner }
         ensures { Reads (rules.statement (B.rules self.now.level.below) (I.rules self.now.inner) cursor.old) result cursor.new }
     {
         if cursor.sees_sign(Sign::OpenBrace) {
-            Ok(StatementTree::Block(self.search_block(cursor)?))
+            self.block_statement(cursor)
         } else if cursor.sees_word(Keyword::Try) {
             self.try_statement(cursor)
         } else if branch_op(cursor.look()).is_some() {
@@ -271,7 +298,7 @@ impl<B: Below, I: Beneath> Statements<B, I> {
         ensures { Reads (rules.several_statements (B.rules self.now.level.below) (I.rules self.now.inner) cursor.old) result cursor.new }
     {
         let at = cursor.place();
-        let first = Boxed::new(self.level.alloc, self.statement(cursor)?)?;
+        let first = self.statement(cursor)?;
         let more = behind(self.level.alloc, cursor, Sign::Semicolon, self);
         let (first, (rest, is_closed)) = keep(first, more)?;
         Ok(StatementsTree::Several(at, first, rest, is_closed))
@@ -321,7 +348,10 @@ impl<B: Below, I: Beneath> Statements<B, I> {
 
     /// `(PARAMS)`
     #[tactic(auto, unfolding(opl_grammar::specs::Search::ordered_chosen))]
-    fn ordered_chosen(&self, cursor: &mut Cursor<'_>) -> Result<OrderedParamsTree, SyntaxFault>
+    fn ordered_chosen(
+        &self,
+        cursor: &mut Cursor<'_>,
+    ) -> Result<Boxed<OrderedParamsTree>, SyntaxFault>
         requires level { B.is_ready self.now.level.below }
         requires inner { I.is_ready self.now.inner }
         ensures { Reads (rules.ordered_chosen (B.rules self.now.level.below) (I.rules self.now.inner) cursor.old) result cursor.new }
@@ -343,9 +373,8 @@ impl<B: Below, I: Beneath> Statements<B, I> {
         requires inner { I.is_ready self.now.inner }
         ensures { Reads (rules.branch (B.rules self.now.level.below) (I.rules self.now.inner) cursor.old) result cursor.new }
     {
-        let params = Boxed::new(self.level.alloc, self.ordered_chosen(cursor)?)?;
-        let (params, body) = keep(params, self.statement(cursor))?;
-        Ok(keep(params, Boxed::new(self.level.alloc, body))?)
+        let params = self.ordered_chosen(cursor)?;
+        keep(params, self.statement(cursor))
     }
 
     /// `EXPR do STATEMENT`
@@ -353,15 +382,14 @@ impl<B: Below, I: Beneath> Statements<B, I> {
     pub fn repeated(
         &self,
         cursor: &mut Cursor<'_>,
-    ) -> Result<(ExprTree, Boxed<StatementTree>), SyntaxFault>
+    ) -> Result<(Boxed<ExprTree>, Boxed<StatementTree>), SyntaxFault>
         requires level { B.is_ready self.now.level.below }
         requires inner { I.is_ready self.now.inner }
         ensures { Reads (rules.repeated (B.rules self.now.level.below) (I.rules self.now.inner) cursor.old) result cursor.new }
     {
         let condition = self.level.expr(cursor)?;
         let (condition, ()) = keep(condition, cursor.expect_word(Keyword::Do))?;
-        let (condition, body) = keep(condition, self.statement(cursor))?;
-        Ok(keep(condition, Boxed::new(self.level.alloc, body))?)
+        keep(condition, self.statement(cursor))
     }
 
     /// `else STATEMENTS`
@@ -396,7 +424,7 @@ impl<B: Below, I: Beneath> Statements<B, I> {
     pub fn choice(
         &self,
         cursor: &mut Cursor<'_>,
-    ) -> Result<(ExprTree, StatementsTree, Option<StatementsTree>), SyntaxFault>
+    ) -> Result<(Boxed<ExprTree>, StatementsTree, Option<StatementsTree>), SyntaxFault>
         requires level { B.is_ready self.now.level.below }
         requires inner { I.is_ready self.now.inner }
         ensures { Reads (rules.choice (B.rules self.now.level.below) (I.rules self.now.inner) cursor.old) result cursor.new }
@@ -436,7 +464,7 @@ impl<B: Below, I: Beneath> Part<StatementTree> for Statements<B, I> {
     }
 
     fn read(&self, cursor: &mut Cursor<'_>) -> Result<StatementTree, SyntaxFault> {
-        self.statement(cursor)
+        Ok(self.statement(cursor)?.into_inner())
     }
 }
 

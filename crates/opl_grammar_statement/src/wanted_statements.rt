@@ -20,6 +20,6 @@ pub enum FoundStatements {
     Alternatives(StatementsTree, StatementsTree, Seq<StatementsTree>),
     Branch(Boxed<OrderedParamsTree>, Boxed<StatementTree>),
     Statement(Boxed<StatementTree>),
-    Loop(ExprTree, Boxed<StatementTree>),
-    Choice(ExprTree, StatementsTree, Option<StatementsTree>),
+    Loop(Boxed<ExprTree>, Boxed<StatementTree>),
+    Choice(Boxed<ExprTree>, StatementsTree, Option<StatementsTree>),
 }

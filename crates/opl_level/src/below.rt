@@ -17,27 +17,31 @@ pub trait Below {
     ghost is_ready: { Self → Type 0 };
 
     /// Behind `(`.
-    fn expr(&self, cursor: &mut Cursor<'_>, at: u32) -> Result<ExprTree, SyntaxFault>
+    fn expr(&self, cursor: &mut Cursor<'_>, at: u32) -> Result<Boxed<ExprTree>, SyntaxFault>
         requires { is_ready self.now }
         ensures { Reads ((rules self.now).expr at cursor.old) result cursor.new };
 
     /// Behind `(`.
-    fn add(&self, cursor: &mut Cursor<'_>, at: u32) -> Result<AddTree, SyntaxFault>
+    fn add(&self, cursor: &mut Cursor<'_>, at: u32) -> Result<Boxed<AddTree>, SyntaxFault>
         requires { is_ready self.now }
         ensures { Reads ((rules self.now).add at cursor.old) result cursor.new };
 
     /// Behind `(`.
-    fn post(&self, cursor: &mut Cursor<'_>, at: u32) -> Result<PostTree, SyntaxFault>
+    fn post(&self, cursor: &mut Cursor<'_>, at: u32) -> Result<Boxed<PostTree>, SyntaxFault>
         requires { is_ready self.now }
         ensures { Reads ((rules self.now).post at cursor.old) result cursor.new };
 
     /// Behind `(`.
-    fn params(&self, cursor: &mut Cursor<'_>, at: u32) -> Result<ParamsTree, SyntaxFault>
+    fn params(&self, cursor: &mut Cursor<'_>, at: u32) -> Result<Boxed<ParamsTree>, SyntaxFault>
         requires { is_ready self.now }
         ensures { Reads ((rules self.now).params at cursor.old) result cursor.new };
 
     /// Behind `(`.
-    fn ordered(&self, cursor: &mut Cursor<'_>, at: u32) -> Result<OrderedParamsTree, SyntaxFault>
+    fn ordered(
+        &self,
+        cursor: &mut Cursor<'_>,
+        at: u32,
+    ) -> Result<Boxed<OrderedParamsTree>, SyntaxFault>
         requires { is_ready self.now }
         ensures { Reads ((rules self.now).ordered at cursor.old) result cursor.new };
 
@@ -46,12 +50,12 @@ pub trait Below {
         &self,
         cursor: &mut Cursor<'_>,
         at: u32,
-    ) -> Result<(AddTree, Option<AddTree>), SyntaxFault>
+    ) -> Result<(Boxed<AddTree>, Option<Boxed<AddTree>>), SyntaxFault>
         requires { is_ready self.now }
         ensures { Reads ((rules self.now).ends at cursor.old) result cursor.new };
 
     /// Behind `=>`.
-    fn imp(&self, cursor: &mut Cursor<'_>, at: u32) -> Result<ImpTree, SyntaxFault>
+    fn imp(&self, cursor: &mut Cursor<'_>, at: u32) -> Result<Boxed<ImpTree>, SyntaxFault>
         requires { is_ready self.now }
         ensures { Reads ((rules self.now).imp at cursor.old) result cursor.new };
 
@@ -75,7 +79,11 @@ pub trait Below {
         ensures { Reads ((rules self.now).aggregate at cursor.old) result cursor.new };
 
     /// Behind the `[` of subscripts and the `<` of a record.
-    fn adds(&self, cursor: &mut Cursor<'_>, at: u32) -> Result<(AddTree, Seq<AddTree>), SyntaxFault>
+    fn adds(
+        &self,
+        cursor: &mut Cursor<'_>,
+        at: u32,
+    ) -> Result<(Boxed<AddTree>, Seq<AddTree>), SyntaxFault>
         requires { is_ready self.now }
         ensures { Reads ((rules self.now).adds at cursor.old) result cursor.new };
 

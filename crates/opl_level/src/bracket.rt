@@ -20,11 +20,12 @@ use opl_tree::{
 use std::alloc::{AllocError, Global};
 
 /// A list of one part, then the others.
-fn with_first<T: Drop>(alloc: Global, first: T, rest: Seq<T>) -> Result<Seq<T>, AllocError>
+#[inline(never)]
+fn with_first<T: Drop>(alloc: Global, first: Boxed<T>, rest: Seq<T>) -> Result<Seq<T>, AllocError>
     ensures { IfOk result (λ all. all ≡ first ∷ rest) }
 {
     let mut all = Vec::new(alloc);
-    all.push(first)?;
+    all.push(first.into_inner())?;
     all.append(&mut rest.into_vec())?;
     Ok(Seq::from_vec(all))
 }
@@ -39,9 +40,8 @@ impl<B: Below> Level<B> {
         requires { B.is_ready self.now.below }
         ensures { Reads (rules.aggregated (B.rules self.now.below) cursor.old) result cursor.new }
     {
-        let params = Boxed::new(self.alloc, self.chosen(cursor)?)?;
-        let (params, body) = keep(params, self.mul(cursor))?;
-        Ok(keep(params, Boxed::new(self.alloc, body))?)
+        let params = self.chosen(cursor)?;
+        keep(params, self.mul(cursor))
     }
 
     /// `ADD, ADD, ..` or nothing
@@ -69,13 +69,16 @@ impl<B: Below> Level<B> {
     {
         let (first, ()) = keep(first, cursor.expect_sign(Sign::Bar))?;
         let (first, params) = keep(first, self.params(cursor))?;
-        let (first, params) = keep(first, Boxed::new(self.alloc, params))?;
         Ok(Braced::Described(first, params))
     }
 
     /// `, ADD, ..`
     #[tactic(auto, unfolding(opl_grammar::specs::Rules::listed_behind))]
-    fn listed_behind(&self, cursor: &mut Cursor<'_>, first: AddTree) -> Result<Braced, SyntaxFault>
+    fn listed_behind(
+        &self,
+        cursor: &mut Cursor<'_>,
+        first: Boxed<AddTree>,
+    ) -> Result<Braced, SyntaxFault>
         requires { B.is_ready self.now.below }
         ensures { Reads (rules.listed_behind (B.rules self.now.below) first cursor.old) result cursor.new }
     {
@@ -91,7 +94,7 @@ impl<B: Below> Level<B> {
     {
         let first = self.add(cursor)?;
         if cursor.sees_sign(Sign::Bar) {
-            self.described(cursor, Boxed::new(self.alloc, first)?)
+            self.described(cursor, first)
         } else {
             self.listed_behind(cursor, first)
         }
@@ -112,14 +115,18 @@ impl<B: Below> Level<B> {
 
     /// `ADD:ADD`
     #[tactic(auto, unfolding(opl_grammar::specs::Rules::keyed_part))]
-    fn keyed_part(&self, cursor: &mut Cursor<'_>) -> Result<KeyedTree, SyntaxFault>
+    fn keyed_part(&self, cursor: &mut Cursor<'_>) -> Result<Boxed<KeyedTree>, SyntaxFault>
         requires { B.is_ready self.now.below }
         ensures { Reads (rules.keyed_part (B.rules self.now.below) cursor.old) result cursor.new }
     {
         let key = self.add(cursor)?;
         let (key, ()) = keep(key, cursor.expect_sign(Sign::Colon))?;
         let (key, value) = keep(key, self.add(cursor))?;
-        Ok(KeyedTree { key, value })
+        let part = KeyedTree {
+            key: key.into_inner(),
+            value: value.into_inner(),
+        };
+        Ok(Boxed::new(self.alloc, part)?)
     }
 
     /// `ADD:ADD, ADD:ADD, ..`
@@ -148,7 +155,10 @@ impl<B: Below> Level<B> {
 
     /// `ADD` or `ADD..ADD`, as two ends
     #[tactic(auto, unfolding(opl_grammar::specs::Rules::ends))]
-    pub fn ends(&self, cursor: &mut Cursor<'_>) -> Result<(AddTree, Option<AddTree>), SyntaxFault>
+    pub fn ends(
+        &self,
+        cursor: &mut Cursor<'_>,
+    ) -> Result<(Boxed<AddTree>, Option<Boxed<AddTree>>), SyntaxFault>
         requires { B.is_ready self.now.below }
         ensures { Reads (rules.ends (B.rules self.now.below) cursor.old) result cursor.new }
     {
@@ -223,7 +233,12 @@ impl<B: Below> Level<B> {
 
     /// What a dimension that begins with this set at this place is.
     #[tactic(auto, unfolding(opl_grammar::specs::Rules::dim_of))]
-    fn dim_of(&self, cursor: &mut Cursor<'_>, at: u32, set: SetTree) -> Result<DimTree, SyntaxFault>
+    fn dim_of(
+        &self,
+        cursor: &mut Cursor<'_>,
+        at: u32,
+        set: Boxed<SetTree>,
+    ) -> Result<DimTree, SyntaxFault>
         requires { B.is_ready self.now.below }
         ensures { Reads (rules.dim_of (B.rules self.now.below) at set cursor.old) result cursor.new }
     {
@@ -231,14 +246,14 @@ impl<B: Below> Level<B> {
             return Ok(DimTree {
                 at,
                 name: None,
-                set,
+                set: set.into_inner(),
             });
         }
-        let Some(name) = into_name(set) else {
+        let Some(name) = into_name(set.into_inner()) else {
             return Err(cursor.refuse());
         };
         cursor.expect_word(Keyword::In)?;
-        let set = self.set(cursor)?;
+        let set = self.set(cursor)?.into_inner();
         Ok(DimTree {
             at,
             name: Some(name),
@@ -274,7 +289,7 @@ impl<B: Below> Phrase<KeyedTree> for Level<B> {
     ghost is_ready = { λ l. B.is_ready l.below };
 
     fn phrase(&self, cursor: &mut Cursor<'_>) -> Result<KeyedTree, SyntaxFault> {
-        self.keyed_part(cursor)
+        Ok(self.keyed_part(cursor)?.into_inner())
     }
 }
 

@@ -1,11 +1,26 @@
 //! Phrases that are just a name, or just a prim with its suffixes.
-ghost use Rattle.std.specs.Prelude.{◌≡◌};
+ghost use Rattle.std.specs.Prelude.{◌≡◌, None};
 ghost use Rattle.opl_grammar.specs.Just as just;
 
 use opl_tree::{
     AddTree, AndTree, CompareTree, ExprTree, ImpTree, MulTree, NameTree, NegTree, OrTree, PostTree,
     PrimTree, SetTree, SignTree,
 };
+
+/// Nothing, in place of what is more than was asked for. So the type that is let go of is a parameter, and each such place
+/// is short to prove.
+fn no_more<T: Drop, U>(_value: T) -> Option<U>
+    ensures { result ≡ None }
+{
+    None
+}
+
+/// A value without what stands beside it.
+fn without<T, U: Drop>(value: T, _beside: U) -> T
+    ensures { result ≡ value }
+{
+    value
+}
 
 /// A factor without a sign.
 #[tactic(auto, unfolding(opl_grammar::specs::Just::post_of_sign))]
@@ -14,7 +29,7 @@ fn post_of_sign(t: SignTree) -> Option<PostTree>
 {
     match t {
         SignTree::Postfix(inner) => Some(inner),
-        SignTree::Negative(..) => None,
+        SignTree::Negative(_, inner) => no_more(inner),
     }
 }
 
@@ -26,12 +41,12 @@ fn post_of_mul(t: MulTree) -> Option<PostTree>
     match t {
         MulTree::Product(_, first, steps, last) => {
             if steps.is_empty() && last.is_none() {
-                post_of_sign(first)
+                post_of_sign(without(first, (steps, last)))
             } else {
-                None
+                no_more((first, steps, last))
             }
         }
-        MulTree::Opened(_) => None,
+        MulTree::Opened(inner) => no_more(inner),
     }
 }
 
@@ -43,7 +58,7 @@ fn post_of_add(t: AddTree) -> Option<PostTree>
     if t.rest.is_empty() {
         post_of_mul(t.first)
     } else {
-        None
+        no_more(t)
     }
 }
 
@@ -54,7 +69,8 @@ fn post_of_compare(t: CompareTree) -> Option<PostTree>
 {
     match t {
         CompareTree::Single(_, inner) => post_of_add(inner.into_inner()),
-        _ => None,
+        CompareTree::Related(_, left, _, right) => no_more((left, right)),
+        CompareTree::Member(_, left, set) => no_more((left, set)),
     }
 }
 
@@ -65,7 +81,7 @@ fn post_of_neg(t: NegTree) -> Option<PostTree>
 {
     match t {
         NegTree::Compare(inner) => post_of_compare(inner),
-        NegTree::Not(..) => None,
+        NegTree::Not(_, inner) => no_more(inner),
     }
 }
 
@@ -77,7 +93,7 @@ fn post_of_and(t: AndTree) -> Option<PostTree>
     if t.rest.is_empty() {
         post_of_neg(t.first)
     } else {
-        None
+        no_more(t)
     }
 }
 
@@ -89,7 +105,7 @@ fn post_of_or(t: OrTree) -> Option<PostTree>
     if t.rest.is_empty() {
         post_of_and(t.first)
     } else {
-        None
+        no_more(t)
     }
 }
 
@@ -101,7 +117,7 @@ fn post_of_imp(t: ImpTree) -> Option<PostTree>
     if t.conclusion.is_none() {
         post_of_or(t.premise)
     } else {
-        None
+        no_more(t)
     }
 }
 
@@ -113,7 +129,7 @@ pub fn into_post(t: ExprTree) -> Option<PostTree>
     if t.rest.is_empty() {
         post_of_imp(t.first)
     } else {
-        None
+        no_more(t)
     }
 }
 
@@ -124,7 +140,7 @@ fn name_of_prim(t: PrimTree) -> Option<NameTree>
 {
     match t {
         PrimTree::Named(inner) => Some(inner),
-        _ => None,
+        other => no_more(other),
     }
 }
 
@@ -136,7 +152,17 @@ fn name_of_post(t: PostTree) -> Option<NameTree>
     if t.suffixes.is_empty() {
         name_of_prim(t.prim)
     } else {
-        None
+        no_more(t)
+    }
+}
+
+/// The name that what was found is.
+fn name_of_found(found: Option<PostTree>) -> Option<NameTree>
+    ensures { result ≡ just.name_of_found found }
+{
+    match found {
+        Some(inner) => name_of_post(inner),
+        None => None,
     }
 }
 
@@ -146,10 +172,8 @@ pub fn into_name(t: SetTree) -> Option<NameTree>
     ensures { result ≡ just.name_of t }
 {
     if t.high.is_some() {
-        return None;
-    }
-    match post_of_add(t.low) {
-        Some(inner) => name_of_post(inner),
-        None => None,
+        no_more(t)
+    } else {
+        name_of_found(post_of_add(t.low))
     }
 }

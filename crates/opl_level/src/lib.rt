@@ -14,5 +14,4 @@ mod word;
 pub use below::{Below, Level};
 pub use just::{into_name, into_post};
 pub use keeping::keep;
-pub use product::boxed;
 pub use word::{field_name, name, names};

@@ -47,7 +47,7 @@ impl<B: Below> Level<B> {
 
     /// `PATTERN, PATTERN, .. in SET`, with or without `ordered` before it
     #[tactic(auto, unfolding(opl_grammar::specs::Rules::group))]
-    fn group(&self, cursor: &mut Cursor<'_>) -> Result<GroupTree, SyntaxFault>
+    fn group(&self, cursor: &mut Cursor<'_>) -> Result<Boxed<GroupTree>, SyntaxFault>
         requires { B.is_ready self.now.below }
         ensures { Reads (rules.group (B.rules self.now.below) cursor.old) result cursor.new }
     {
@@ -57,13 +57,14 @@ impl<B: Below> Level<B> {
         let patterns = keep(first, after_each(self.alloc, cursor, Sign::Comma, self))?;
         let (patterns, ()) = keep(patterns, cursor.expect_word(Keyword::In))?;
         let ((first, rest), set) = keep(patterns, self.set(cursor))?;
-        Ok(GroupTree {
+        let group = GroupTree {
             at,
             is_ordered,
             first,
             rest,
-            set,
-        })
+            set: set.into_inner(),
+        };
+        Ok(Boxed::new(self.alloc, group)?)
     }
 
     /// `, GROUP` or `& GROUP`
@@ -73,13 +74,13 @@ impl<B: Below> Level<B> {
         ensures { Reads (rules.group_step (B.rules self.now.below) cursor.old) result cursor.new }
     {
         let separator = cursor.take_found(separator(cursor.look()))?;
-        let group = self.group(cursor)?;
+        let group = self.group(cursor)?.into_inner();
         Ok(GroupStep { separator, group })
     }
 
     /// `: EXPR`
     #[tactic(auto, unfolding(opl_grammar::specs::Rules::condition))]
-    fn condition(&self, cursor: &mut Cursor<'_>) -> Result<ExprTree, SyntaxFault>
+    fn condition(&self, cursor: &mut Cursor<'_>) -> Result<Boxed<ExprTree>, SyntaxFault>
         requires { B.is_ready self.now.below }
         ensures { Reads (rules.condition (B.rules self.now.below) cursor.old) result cursor.new }
     {
@@ -96,7 +97,7 @@ impl<B: Below> Level<B> {
         ensures { Reads (steps.maybe (steps.is_sign Sign.Colon) (rules.condition (B.rules self.now.below)) cursor.old) result cursor.new }
     {
         if cursor.sees_sign(Sign::Colon) {
-            Ok(Some(Boxed::new(self.alloc, self.condition(cursor)?)?))
+            Ok(Some(self.condition(cursor)?))
         } else {
             Ok(None)
         }
@@ -104,7 +105,7 @@ impl<B: Below> Level<B> {
 
     /// `GROUP, GROUP & ..`, with or without `: EXPR`
     #[tactic(auto, unfolding(opl_grammar::specs::Rules::params))]
-    pub fn params(&self, cursor: &mut Cursor<'_>) -> Result<ParamsTree, SyntaxFault>
+    pub fn params(&self, cursor: &mut Cursor<'_>) -> Result<Boxed<ParamsTree>, SyntaxFault>
         requires { B.is_ready self.now.below }
         ensures { Reads (rules.params (B.rules self.now.below) cursor.old) result cursor.new }
     {
@@ -112,17 +113,18 @@ impl<B: Below> Level<B> {
         let first = self.group(cursor)?;
         let groups = keep(first, many(self.alloc, cursor, self))?;
         let ((first, rest), condition) = keep(groups, self.optional_condition(cursor))?;
-        Ok(ParamsTree {
+        let params = ParamsTree {
             at,
-            first,
+            first: first.into_inner(),
             rest,
             condition,
-        })
+        };
+        Ok(Boxed::new(self.alloc, params)?)
     }
 
     /// `(PARAMS)`
     #[tactic(auto, unfolding(opl_grammar::specs::Rules::chosen))]
-    pub fn chosen(&self, cursor: &mut Cursor<'_>) -> Result<ParamsTree, SyntaxFault>
+    pub fn chosen(&self, cursor: &mut Cursor<'_>) -> Result<Boxed<ParamsTree>, SyntaxFault>
         requires { B.is_ready self.now.below }
         ensures { Reads (rules.chosen (B.rules self.now.below) cursor.old) result cursor.new }
     {
@@ -143,7 +145,7 @@ impl<B: Below> Level<B> {
         cursor.expect_word(Keyword::Ordered)?;
         cursor.expect_word(Keyword::By)?;
         let is_increasing = cursor.take_found(direction(cursor.look()))?;
-        let key = self.add(cursor)?;
+        let key = self.add(cursor)?.into_inner();
         Ok(OrderTree {
             at,
             is_increasing,
@@ -165,14 +167,23 @@ impl<B: Below> Level<B> {
 
     /// `PARAMS` or `PARAMS ORDER`
     #[tactic(auto, unfolding(opl_grammar::specs::Rules::ordered_params))]
-    pub fn ordered_params(&self, cursor: &mut Cursor<'_>) -> Result<OrderedParamsTree, SyntaxFault>
+    #[inline(never)]
+    pub fn ordered_params(
+        &self,
+        cursor: &mut Cursor<'_>,
+    ) -> Result<Boxed<OrderedParamsTree>, SyntaxFault>
         requires { B.is_ready self.now.below }
         ensures { Reads (rules.ordered_params (B.rules self.now.below) cursor.old) result cursor.new }
     {
         let at = cursor.place();
         let params = self.params(cursor)?;
         let (params, order) = keep(params, self.optional_order(cursor))?;
-        Ok(OrderedParamsTree { at, params, order })
+        let ordered = OrderedParamsTree {
+            at,
+            params: params.into_inner(),
+            order,
+        };
+        Ok(Boxed::new(self.alloc, ordered)?)
     }
 }
 

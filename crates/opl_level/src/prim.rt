@@ -47,7 +47,7 @@ impl<B: Below> Level<B> {
         cursor.expect_sign(Sign::OpenParenthesis)?;
         let inner = self.below.expr(cursor, at)?;
         let (inner, ()) = keep(inner, cursor.expect_sign(Sign::CloseParenthesis))?;
-        Ok(PrimTree::Bracket(at, Boxed::new(self.alloc, inner)?))
+        Ok(PrimTree::Bracket(at, inner))
     }
 
     /// `<ADD, ADD, ..>`
@@ -60,7 +60,6 @@ impl<B: Below> Level<B> {
         cursor.expect_sign(Sign::Less)?;
         let parts = self.below.adds(cursor, at)?;
         let ((first, rest), ()) = keep(parts, cursor.expect_sign(Sign::Greater))?;
-        let (rest, first) = keep(rest, Boxed::new(self.alloc, first))?;
         Ok(PrimTree::Record(at, first, rest))
     }
 
@@ -115,7 +114,7 @@ impl<B: Below> Level<B> {
         cursor.expect_sign(Sign::OpenParenthesis)?;
         let inner = self.below.add(cursor, opener)?;
         let (inner, ()) = keep(inner, cursor.expect_sign(Sign::CloseParenthesis))?;
-        Ok(PrimTree::AllDifferent(at, Boxed::new(self.alloc, inner)?))
+        Ok(PrimTree::AllDifferent(at, inner))
     }
 
     /// `abs (EXPR)` or `card (EXPR)`
@@ -130,12 +129,12 @@ impl<B: Below> Level<B> {
         cursor.expect_sign(Sign::OpenParenthesis)?;
         let inner = self.below.expr(cursor, opener)?;
         let (inner, ()) = keep(inner, cursor.expect_sign(Sign::CloseParenthesis))?;
-        Ok(PrimTree::Call(at, op, Boxed::new(self.alloc, inner)?))
+        Ok(PrimTree::Call(at, op, inner))
     }
 
     /// `(POST)`
     #[tactic(auto, unfolding(opl_grammar::specs::Rules::asked))]
-    pub fn asked(&self, cursor: &mut Cursor<'_>) -> Result<PostTree, SyntaxFault>
+    pub fn asked(&self, cursor: &mut Cursor<'_>) -> Result<Boxed<PostTree>, SyntaxFault>
         requires { B.is_ready self.now.below }
         ensures { Reads (rules.asked (B.rules self.now.below) cursor.old) result cursor.new }
     {
@@ -155,7 +154,7 @@ impl<B: Below> Level<B> {
         let at = cursor.place();
         let op = cursor.take_found(question_op(cursor.look()))?;
         let inner = self.asked(cursor)?;
-        Ok(PrimTree::Question(at, op, Boxed::new(self.alloc, inner)?))
+        Ok(PrimTree::Question(at, op, inner))
     }
 
     /// What begins with a word of the language.
@@ -219,7 +218,6 @@ impl<B: Below> Level<B> {
         cursor.expect_sign(Sign::OpenBracket)?;
         let parts = self.below.adds(cursor, at)?;
         let ((first, rest), ()) = keep(parts, cursor.expect_sign(Sign::CloseBracket))?;
-        let (rest, first) = keep(rest, Boxed::new(self.alloc, first))?;
         Ok(SubscriptsTree { at, first, rest })
     }
 

@@ -17,29 +17,19 @@ use opl_tree::{
 };
 use std::alloc::{AllocError, Global};
 
-/// A tree in a box.
-pub fn boxed(alloc: Global, t: Option<AddTree>) -> Result<Option<Boxed<AddTree>>, AllocError>
-    ensures { IfOk result (λ inner. inner ≡ t) }
-{
-    match t {
-        Some(inner) => Ok(Some(Boxed::new(alloc, inner)?)),
-        None => Ok(None),
-    }
-}
-
 /// A sign before an operand, whichever it is.
 fn negative(alloc: Global, at: u32, operand: Operand) -> Result<Operand, AllocError>
     ensures { IfOk result (λ t. t ≡ rules.negative at operand) }
 {
     match operand {
-        Operand::Open(inner) => Ok(Operand::Open(OpenTree::NegativeOpen(
-            at,
-            Boxed::new(alloc, inner)?,
-        ))),
-        Operand::Sign(inner) => Ok(Operand::Sign(SignTree::Negative(
-            at,
-            Boxed::new(alloc, inner)?,
-        ))),
+        Operand::Open(inner) => Ok(Operand::Open(Boxed::new(
+            alloc,
+            OpenTree::NegativeOpen(at, inner),
+        )?)),
+        Operand::Sign(inner) => Ok(Operand::Sign(Boxed::new(
+            alloc,
+            SignTree::Negative(at, inner),
+        )?)),
     }
 }
 
@@ -65,7 +55,8 @@ impl<B: Below> Level<B> {
         let at = cursor.place();
         let op = cursor.take_found(aggregate_op(cursor.look()))?;
         let (params, body) = self.below.aggregate(cursor, at)?;
-        Ok(Operand::Open(OpenTree::Aggregate(at, op, params, body)))
+        let aggregate = OpenTree::Aggregate(at, op, params, body);
+        Ok(Operand::Open(Boxed::new(self.alloc, aggregate)?))
     }
 
     /// An aggregate or a factor, with signs before it.
@@ -79,7 +70,8 @@ impl<B: Below> Level<B> {
         } else if aggregate_op(cursor.look()).is_some() {
             self.aggregate(cursor)
         } else {
-            Ok(Operand::Sign(SignTree::Postfix(self.post(cursor)?)))
+            let factor = SignTree::Postfix(self.post(cursor)?);
+            Ok(Operand::Sign(Boxed::new(self.alloc, factor)?))
         }
     }
 
@@ -99,8 +91,14 @@ impl<B: Below> Level<B> {
             };
             cursor.take_found(Some(op))?;
             match self.operand(cursor)? {
-                Operand::Open(factor) => return Ok((found, Some(LastStep { op, factor }))),
-                Operand::Sign(factor) => found.push(MulStep { op, factor })?,
+                Operand::Open(factor) => {
+                    let factor = factor.into_inner();
+                    return Ok((found, Some(LastStep { op, factor })));
+                }
+                Operand::Sign(factor) => {
+                    let factor = factor.into_inner();
+                    found.push(MulStep { op, factor })?;
+                }
             }
         }
         Err(cursor.refuse())
@@ -108,16 +106,20 @@ impl<B: Below> Level<B> {
 
     /// `OPERAND`, or `FACTOR * FACTOR div .. OPERAND`
     #[tactic(auto, unfolding(opl_grammar::specs::Rules::mul))]
-    pub fn mul(&self, cursor: &mut Cursor<'_>) -> Result<MulTree, SyntaxFault>
+    pub fn mul(&self, cursor: &mut Cursor<'_>) -> Result<Boxed<MulTree>, SyntaxFault>
         requires { B.is_ready self.now.below }
         ensures { Reads (rules.mul (B.rules self.now.below) cursor.old) result cursor.new }
     {
         let at = cursor.place();
         match self.operand(cursor)? {
-            Operand::Open(inner) => Ok(MulTree::Opened(inner)),
+            Operand::Open(inner) => Ok(Boxed::new(
+                self.alloc,
+                MulTree::Opened(inner.into_inner()),
+            )?),
             Operand::Sign(first) => {
                 let (first, (steps, last)) = keep(first, self.steps(cursor))?;
-                Ok(MulTree::Product(at, first, steps, last))
+                let product = MulTree::Product(at, first.into_inner(), steps, last);
+                Ok(Boxed::new(self.alloc, product)?)
             }
         }
     }
@@ -129,25 +131,33 @@ impl<B: Below> Level<B> {
         ensures { Reads (rules.add_step (B.rules self.now.below) cursor.old) result cursor.new }
     {
         let op = cursor.take_found(add_op(cursor.look()))?;
-        let term = self.mul(cursor)?;
+        let term = self.mul(cursor)?.into_inner();
         Ok(AddStep { op, term })
     }
 
     /// `MUL + MUL - ..`
     #[tactic(auto, unfolding(opl_grammar::specs::Rules::add))]
-    pub fn add(&self, cursor: &mut Cursor<'_>) -> Result<AddTree, SyntaxFault>
+    pub fn add(&self, cursor: &mut Cursor<'_>) -> Result<Boxed<AddTree>, SyntaxFault>
         requires { B.is_ready self.now.below }
         ensures { Reads (rules.add (B.rules self.now.below) cursor.old) result cursor.new }
     {
         let at = cursor.place();
         let first = self.mul(cursor)?;
         let (first, rest) = keep(first, many(self.alloc, cursor, self))?;
-        Ok(AddTree { at, first, rest })
+        let sum = AddTree {
+            at,
+            first: first.into_inner(),
+            rest,
+        };
+        Ok(Boxed::new(self.alloc, sum)?)
     }
 
     /// `ADD, ADD, ..`
     #[tactic(auto, unfolding(opl_grammar::specs::Rules::adds))]
-    pub fn adds(&self, cursor: &mut Cursor<'_>) -> Result<(AddTree, Seq<AddTree>), SyntaxFault>
+    pub fn adds(
+        &self,
+        cursor: &mut Cursor<'_>,
+    ) -> Result<(Boxed<AddTree>, Seq<AddTree>), SyntaxFault>
         requires { B.is_ready self.now.below }
         ensures { Reads (rules.adds (B.rules self.now.below) cursor.old) result cursor.new }
     {
@@ -157,7 +167,7 @@ impl<B: Below> Level<B> {
 
     /// `..ADD`
     #[tactic(auto, unfolding(opl_grammar::specs::Rules::upper))]
-    pub fn upper(&self, cursor: &mut Cursor<'_>) -> Result<AddTree, SyntaxFault>
+    pub fn upper(&self, cursor: &mut Cursor<'_>) -> Result<Boxed<AddTree>, SyntaxFault>
         requires { B.is_ready self.now.below }
         ensures { Reads (rules.upper (B.rules self.now.below) cursor.old) result cursor.new }
     {
@@ -166,7 +176,10 @@ impl<B: Below> Level<B> {
     }
 
     /// `..ADD` or nothing
-    pub fn optional_upper(&self, cursor: &mut Cursor<'_>) -> Result<Option<AddTree>, SyntaxFault>
+    pub fn optional_upper(
+        &self,
+        cursor: &mut Cursor<'_>,
+    ) -> Result<Option<Boxed<AddTree>>, SyntaxFault>
         requires { B.is_ready self.now.below }
         ensures { Reads (steps.maybe (steps.is_sign Sign.Range) (rules.upper (B.rules self.now.below)) cursor.old) result cursor.new }
     {
@@ -179,15 +192,19 @@ impl<B: Below> Level<B> {
 
     /// `ADD` or `ADD..ADD`
     #[tactic(auto, unfolding(opl_grammar::specs::Rules::set))]
-    pub fn set(&self, cursor: &mut Cursor<'_>) -> Result<SetTree, SyntaxFault>
+    pub fn set(&self, cursor: &mut Cursor<'_>) -> Result<Boxed<SetTree>, SyntaxFault>
         requires { B.is_ready self.now.below }
         ensures { Reads (rules.set (B.rules self.now.below) cursor.old) result cursor.new }
     {
         let at = cursor.place();
         let low = self.add(cursor)?;
         let (low, high) = keep(low, self.optional_upper(cursor))?;
-        let (low, high) = keep(low, boxed(self.alloc, high))?;
-        Ok(SetTree { at, low, high })
+        let set = SetTree {
+            at,
+            low: low.into_inner(),
+            high,
+        };
+        Ok(Boxed::new(self.alloc, set)?)
     }
 }
 
@@ -213,6 +230,6 @@ impl<B: Below> Phrase<AddTree> for Level<B> {
     ghost is_ready = { λ l. B.is_ready l.below };
 
     fn phrase(&self, cursor: &mut Cursor<'_>) -> Result<AddTree, SyntaxFault> {
-        self.add(cursor)
+        Ok(self.add(cursor)?.into_inner())
     }
 }

@@ -29,7 +29,6 @@ impl<B: Below> Level<B> {
     {
         let (left, op) = keep(left, cursor.take_found(relation(cursor.look())))?;
         let (left, right) = keep(left, self.add(cursor))?;
-        let (left, right) = keep(left, Boxed::new(self.alloc, right))?;
         Ok(CompareTree::Related(at, left, op, right))
     }
 
@@ -46,7 +45,6 @@ impl<B: Below> Level<B> {
     {
         let (left, ()) = keep(left, cursor.expect_word(Keyword::In))?;
         let (left, set) = keep(left, self.set(cursor))?;
-        let (left, set) = keep(left, Boxed::new(self.alloc, set))?;
         Ok(CompareTree::Member(at, left, set))
     }
 
@@ -77,7 +75,7 @@ impl<B: Below> Level<B> {
         ensures { Reads (rules.compare (B.rules self.now.below) cursor.old) result cursor.new }
     {
         let at = cursor.place();
-        let left = Boxed::new(self.alloc, self.add(cursor)?)?;
+        let left = self.add(cursor)?;
         self.compare_of(cursor, at, left)
     }
 
@@ -132,7 +130,7 @@ impl<B: Below> Level<B> {
 
     /// `=> IMP`
     #[tactic(auto, unfolding(opl_grammar::specs::Rules::conclusion))]
-    fn conclusion(&self, cursor: &mut Cursor<'_>) -> Result<ImpTree, SyntaxFault>
+    fn conclusion(&self, cursor: &mut Cursor<'_>) -> Result<Boxed<ImpTree>, SyntaxFault>
         requires { B.is_ready self.now.below }
         ensures { Reads (rules.conclusion (B.rules self.now.below) cursor.old) result cursor.new }
     {
@@ -150,7 +148,7 @@ impl<B: Below> Level<B> {
         ensures { Reads (steps.maybe (steps.is_sign Sign.Implies) (rules.conclusion (B.rules self.now.below)) cursor.old) result cursor.new }
     {
         if cursor.sees_sign(Sign::Implies) {
-            Ok(Some(Boxed::new(self.alloc, self.conclusion(cursor)?)?))
+            Ok(Some(self.conclusion(cursor)?))
         } else {
             Ok(None)
         }
@@ -158,23 +156,24 @@ impl<B: Below> Level<B> {
 
     /// `OR` or `OR => IMP`
     #[tactic(auto, unfolding(opl_grammar::specs::Rules::imp))]
-    pub fn imp(&self, cursor: &mut Cursor<'_>) -> Result<ImpTree, SyntaxFault>
+    pub fn imp(&self, cursor: &mut Cursor<'_>) -> Result<Boxed<ImpTree>, SyntaxFault>
         requires { B.is_ready self.now.below }
         ensures { Reads (rules.imp (B.rules self.now.below) cursor.old) result cursor.new }
     {
         let at = cursor.place();
         let premise = self.or(cursor)?;
         let (premise, conclusion) = keep(premise, self.optional_conclusion(cursor))?;
-        Ok(ImpTree {
+        let implication = ImpTree {
             at,
             premise,
             conclusion,
-        })
+        };
+        Ok(Boxed::new(self.alloc, implication)?)
     }
 
     /// `IMP <=> IMP <=> ..`
     #[tactic(auto, unfolding(opl_grammar::specs::Rules::expr))]
-    pub fn expr(&self, cursor: &mut Cursor<'_>) -> Result<ExprTree, SyntaxFault>
+    pub fn expr(&self, cursor: &mut Cursor<'_>) -> Result<Boxed<ExprTree>, SyntaxFault>
         requires { B.is_ready self.now.below }
         ensures { Reads (rules.expr (B.rules self.now.below) cursor.old) result cursor.new }
     {
@@ -184,7 +183,12 @@ impl<B: Below> Level<B> {
             first,
             after_each(self.alloc, cursor, Sign::Equivalent, self),
         )?;
-        Ok(ExprTree { at, first, rest })
+        let equivalence = ExprTree {
+            at,
+            first: first.into_inner(),
+            rest,
+        };
+        Ok(Boxed::new(self.alloc, equivalence)?)
     }
 }
 
@@ -214,6 +218,6 @@ impl<B: Below> Phrase<ImpTree> for Level<B> {
     ghost is_ready = { λ l. B.is_ready l.below };
 
     fn phrase(&self, cursor: &mut Cursor<'_>) -> Result<ImpTree, SyntaxFault> {
-        self.imp(cursor)
+        Ok(self.imp(cursor)?.into_inner())
     }
 }

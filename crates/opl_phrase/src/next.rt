@@ -7,23 +7,13 @@ ghost use Rattle.opl_phrase.specs.Nests.{Nests};
 
 use crate::wanted::{Found, Wanted};
 use opl_grammar::{Braced, Cursor, Operand};
-use opl_level::{Below, Level, boxed, keep, names};
+use opl_level::{Below, Level, keep, names};
 use opl_list::{Boxed, Seq};
 use opl_tree::{
     AddTree, DimTree, ExprTree, FieldTree, ImpTree, KeyedTree, MulTree, NameTree, NegTree,
     OrderedParamsTree, ParamsTree, PostTree, SyntaxFault, TypeTree,
 };
 use std::alloc::Global;
-
-/// A tree without its box.
-fn unboxed(t: Option<Boxed<AddTree>>) -> Option<AddTree>
-    ensures { result ≡ t }
-{
-    match t {
-        Some(inner) => Some(inner.into_inner()),
-        None => None,
-    }
-}
 
 /// What is read with so many levels left, by a function that reads one level.
 #[derive(Drop)]
@@ -50,7 +40,7 @@ impl<F: Fn(Global, &mut Cursor<'_>, u32, u32, Wanted) -> Result<Found, SyntaxFau
     ghost is_ready = { λ n. Nests n.levels (F.pre n.read) (F.post n.read) };
 
     #[tactic(auto, unfolding(crate::specs::Nests::read))]
-    fn expr(&self, cursor: &mut Cursor<'_>, at: u32) -> Result<ExprTree, SyntaxFault> {
+    fn expr(&self, cursor: &mut Cursor<'_>, at: u32) -> Result<Boxed<ExprTree>, SyntaxFault> {
         match self.ask(cursor, at, Wanted::Expr)? {
             Found::Expr(found) => Ok(found),
             _ => unreachable!(),
@@ -58,7 +48,7 @@ impl<F: Fn(Global, &mut Cursor<'_>, u32, u32, Wanted) -> Result<Found, SyntaxFau
     }
 
     #[tactic(auto, unfolding(crate::specs::Nests::read))]
-    fn add(&self, cursor: &mut Cursor<'_>, at: u32) -> Result<AddTree, SyntaxFault> {
+    fn add(&self, cursor: &mut Cursor<'_>, at: u32) -> Result<Boxed<AddTree>, SyntaxFault> {
         match self.ask(cursor, at, Wanted::Add)? {
             Found::Add(found) => Ok(found),
             _ => unreachable!(),
@@ -66,7 +56,7 @@ impl<F: Fn(Global, &mut Cursor<'_>, u32, u32, Wanted) -> Result<Found, SyntaxFau
     }
 
     #[tactic(auto, unfolding(crate::specs::Nests::read))]
-    fn post(&self, cursor: &mut Cursor<'_>, at: u32) -> Result<PostTree, SyntaxFault> {
+    fn post(&self, cursor: &mut Cursor<'_>, at: u32) -> Result<Boxed<PostTree>, SyntaxFault> {
         match self.ask(cursor, at, Wanted::Post)? {
             Found::Post(found) => Ok(found),
             _ => unreachable!(),
@@ -74,17 +64,21 @@ impl<F: Fn(Global, &mut Cursor<'_>, u32, u32, Wanted) -> Result<Found, SyntaxFau
     }
 
     #[tactic(auto, unfolding(crate::specs::Nests::read))]
-    fn params(&self, cursor: &mut Cursor<'_>, at: u32) -> Result<ParamsTree, SyntaxFault> {
+    fn params(&self, cursor: &mut Cursor<'_>, at: u32) -> Result<Boxed<ParamsTree>, SyntaxFault> {
         match self.ask(cursor, at, Wanted::Params)? {
-            Found::Params(found) => Ok(found.into_inner()),
+            Found::Params(found) => Ok(found),
             _ => unreachable!(),
         }
     }
 
     #[tactic(auto, unfolding(crate::specs::Nests::read))]
-    fn ordered(&self, cursor: &mut Cursor<'_>, at: u32) -> Result<OrderedParamsTree, SyntaxFault> {
+    fn ordered(
+        &self,
+        cursor: &mut Cursor<'_>,
+        at: u32,
+    ) -> Result<Boxed<OrderedParamsTree>, SyntaxFault> {
         match self.ask(cursor, at, Wanted::Ordered)? {
-            Found::Ordered(found) => Ok(found.into_inner()),
+            Found::Ordered(found) => Ok(found),
             _ => unreachable!(),
         }
     }
@@ -94,15 +88,15 @@ impl<F: Fn(Global, &mut Cursor<'_>, u32, u32, Wanted) -> Result<Found, SyntaxFau
         &self,
         cursor: &mut Cursor<'_>,
         at: u32,
-    ) -> Result<(AddTree, Option<AddTree>), SyntaxFault> {
+    ) -> Result<(Boxed<AddTree>, Option<Boxed<AddTree>>), SyntaxFault> {
         match self.ask(cursor, at, Wanted::Ends)? {
-            Found::Ends(low, high) => Ok((low.into_inner(), unboxed(high))),
+            Found::Ends(low, high) => Ok((low, high)),
             _ => unreachable!(),
         }
     }
 
     #[tactic(auto, unfolding(crate::specs::Nests::read))]
-    fn imp(&self, cursor: &mut Cursor<'_>, at: u32) -> Result<ImpTree, SyntaxFault> {
+    fn imp(&self, cursor: &mut Cursor<'_>, at: u32) -> Result<Boxed<ImpTree>, SyntaxFault> {
         match self.ask(cursor, at, Wanted::Imp)? {
             Found::Imp(found) => Ok(found),
             _ => unreachable!(),
@@ -142,7 +136,7 @@ impl<F: Fn(Global, &mut Cursor<'_>, u32, u32, Wanted) -> Result<Found, SyntaxFau
         &self,
         cursor: &mut Cursor<'_>,
         at: u32,
-    ) -> Result<(AddTree, Seq<AddTree>), SyntaxFault> {
+    ) -> Result<(Boxed<AddTree>, Seq<AddTree>), SyntaxFault> {
         match self.ask(cursor, at, Wanted::Adds)? {
             Found::Adds(first, second) => Ok((first, second)),
             _ => unreachable!(),
@@ -200,7 +194,7 @@ impl<F: Fn(Global, &mut Cursor<'_>, u32, u32, Wanted) -> Result<Found, SyntaxFau
         at: u32,
     ) -> Result<(FieldTree, Seq<FieldTree>), SyntaxFault> {
         match self.ask(cursor, at, Wanted::Fields)? {
-            Found::Fields(first, second) => Ok((first, second)),
+            Found::Fields(first, rest) => Ok((first.into_inner(), rest)),
             _ => unreachable!(),
         }
     }
@@ -220,6 +214,7 @@ impl<F: Fn(Global, &mut Cursor<'_>, u32, u32, Wanted) -> Result<Found, SyntaxFau
 
 /// What stands behind `(`. Nothing else is asked of it.
 #[tactic(auto, unfolding(opl_grammar::specs::Rules::level))]
+#[inline(never)]
 fn parenthesized<B: Below>(
     level: &Level<B>,
     cursor: &mut Cursor<'_>,
@@ -233,19 +228,14 @@ fn parenthesized<B: Below>(
     match wanted {
         Wanted::Expr => Ok(Found::Expr(level.expr(cursor)?)),
         Wanted::Add => Ok(Found::Add(level.add(cursor)?)),
-        Wanted::Post => Ok(Found::Post(level.post(cursor)?)),
-        Wanted::Params => {
-            let found = level.params(cursor)?;
-            Ok(Found::Params(Boxed::new(level.alloc, found)?))
+        Wanted::Post => {
+            let found = level.post(cursor)?;
+            Ok(Found::Post(Boxed::new(level.alloc, found)?))
         }
-        Wanted::Ordered => {
-            let found = level.ordered_params(cursor)?;
-            Ok(Found::Ordered(Boxed::new(level.alloc, found)?))
-        }
+        Wanted::Params => Ok(Found::Params(level.params(cursor)?)),
+        Wanted::Ordered => Ok(Found::Ordered(level.ordered_params(cursor)?)),
         Wanted::Ends => {
             let (low, high) = level.ends(cursor)?;
-            let (high, low) = keep(high, Boxed::new(level.alloc, low))?;
-            let (low, high) = keep(low, boxed(level.alloc, high))?;
             Ok(Found::Ends(low, high))
         }
         _ => unreachable!(),
@@ -254,6 +244,7 @@ fn parenthesized<B: Below>(
 
 /// What stands behind an operator or the word of an aggregate. Nothing else is asked of it.
 #[tactic(auto, unfolding(opl_grammar::specs::Rules::level))]
+#[inline(never)]
 fn operated<B: Below>(
     level: &Level<B>,
     cursor: &mut Cursor<'_>,
@@ -278,6 +269,7 @@ fn operated<B: Below>(
 
 /// A list of expressions. Nothing else is asked of it.
 #[tactic(auto, unfolding(opl_grammar::specs::Rules::level))]
+#[inline(never)]
 fn listed_in<B: Below>(
     level: &Level<B>,
     cursor: &mut Cursor<'_>,
@@ -302,6 +294,7 @@ fn listed_in<B: Below>(
 
 /// What stands in the brackets of declarations. Nothing else is asked of it.
 #[tactic(auto, unfolding(opl_grammar::specs::Rules::level))]
+#[inline(never)]
 fn declared<B: Below>(
     level: &Level<B>,
     cursor: &mut Cursor<'_>,
@@ -319,8 +312,9 @@ fn declared<B: Below>(
         }
         Wanted::Type => Ok(Found::Type(level.type_tree(cursor)?)),
         Wanted::Fields => {
-            let (first, second) = level.fields(cursor)?;
-            Ok(Found::Fields(first, second))
+            let (first, rest) = level.fields(cursor)?;
+            let (rest, first) = keep(rest, Boxed::new(level.alloc, first))?;
+            Ok(Found::Fields(first, rest))
         }
         Wanted::Dims => {
             let (first, rest) = level.dims(cursor)?;

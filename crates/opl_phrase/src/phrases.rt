@@ -24,7 +24,7 @@ impl Below for Phrases {
 
     ghost is_ready = { λ _. ⊤ };
 
-    fn expr(&self, cursor: &mut Cursor<'_>, at: u32) -> Result<ExprTree, SyntaxFault> {
+    fn expr(&self, cursor: &mut Cursor<'_>, at: u32) -> Result<Boxed<ExprTree>, SyntaxFault> {
         Next {
             alloc: self.alloc,
             levels: self.levels,
@@ -33,7 +33,7 @@ impl Below for Phrases {
         .expr(cursor, at)
     }
 
-    fn add(&self, cursor: &mut Cursor<'_>, at: u32) -> Result<AddTree, SyntaxFault> {
+    fn add(&self, cursor: &mut Cursor<'_>, at: u32) -> Result<Boxed<AddTree>, SyntaxFault> {
         Next {
             alloc: self.alloc,
             levels: self.levels,
@@ -42,7 +42,7 @@ impl Below for Phrases {
         .add(cursor, at)
     }
 
-    fn post(&self, cursor: &mut Cursor<'_>, at: u32) -> Result<PostTree, SyntaxFault> {
+    fn post(&self, cursor: &mut Cursor<'_>, at: u32) -> Result<Boxed<PostTree>, SyntaxFault> {
         Next {
             alloc: self.alloc,
             levels: self.levels,
@@ -51,7 +51,7 @@ impl Below for Phrases {
         .post(cursor, at)
     }
 
-    fn params(&self, cursor: &mut Cursor<'_>, at: u32) -> Result<ParamsTree, SyntaxFault> {
+    fn params(&self, cursor: &mut Cursor<'_>, at: u32) -> Result<Boxed<ParamsTree>, SyntaxFault> {
         Next {
             alloc: self.alloc,
             levels: self.levels,
@@ -60,7 +60,11 @@ impl Below for Phrases {
         .params(cursor, at)
     }
 
-    fn ordered(&self, cursor: &mut Cursor<'_>, at: u32) -> Result<OrderedParamsTree, SyntaxFault> {
+    fn ordered(
+        &self,
+        cursor: &mut Cursor<'_>,
+        at: u32,
+    ) -> Result<Boxed<OrderedParamsTree>, SyntaxFault> {
         Next {
             alloc: self.alloc,
             levels: self.levels,
@@ -73,7 +77,7 @@ impl Below for Phrases {
         &self,
         cursor: &mut Cursor<'_>,
         at: u32,
-    ) -> Result<(AddTree, Option<AddTree>), SyntaxFault> {
+    ) -> Result<(Boxed<AddTree>, Option<Boxed<AddTree>>), SyntaxFault> {
         Next {
             alloc: self.alloc,
             levels: self.levels,
@@ -82,7 +86,7 @@ impl Below for Phrases {
         .ends(cursor, at)
     }
 
-    fn imp(&self, cursor: &mut Cursor<'_>, at: u32) -> Result<ImpTree, SyntaxFault> {
+    fn imp(&self, cursor: &mut Cursor<'_>, at: u32) -> Result<Boxed<ImpTree>, SyntaxFault> {
         Next {
             alloc: self.alloc,
             levels: self.levels,
@@ -126,7 +130,7 @@ impl Below for Phrases {
         &self,
         cursor: &mut Cursor<'_>,
         at: u32,
-    ) -> Result<(AddTree, Seq<AddTree>), SyntaxFault> {
+    ) -> Result<(Boxed<AddTree>, Seq<AddTree>), SyntaxFault> {
         Next {
             alloc: self.alloc,
             levels: self.levels,

@@ -32,22 +32,22 @@ pub enum Wanted {
 /// What was found there.
 #[derive(Drop)]
 pub enum Found {
-    Expr(ExprTree),
-    Add(AddTree),
-    Post(PostTree),
+    Expr(Boxed<ExprTree>),
+    Add(Boxed<AddTree>),
+    Post(Boxed<PostTree>),
     Params(Boxed<ParamsTree>),
     Ordered(Boxed<OrderedParamsTree>),
     Ends(Boxed<AddTree>, Option<Boxed<AddTree>>),
-    Imp(ImpTree),
+    Imp(Boxed<ImpTree>),
     Neg(NegTree),
     Operand(Operand),
     Aggregate(Boxed<ParamsTree>, Boxed<MulTree>),
-    Adds(AddTree, Seq<AddTree>),
+    Adds(Boxed<AddTree>, Seq<AddTree>),
     Listed(Seq<AddTree>),
     Keyed(Seq<KeyedTree>),
     Braced(Braced),
     Names(NameTree, Seq<NameTree>),
     Type(TypeTree),
-    Fields(FieldTree, Seq<FieldTree>),
+    Fields(Boxed<FieldTree>, Seq<FieldTree>),
     Dims(Boxed<DimTree>, Seq<DimTree>),
 }

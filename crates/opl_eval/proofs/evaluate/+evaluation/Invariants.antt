@@ -1,9 +1,11 @@
 use Rattle.std.proofs.Common.{◌≡◌, ℕ, ◌+◌, ◌*◌, ◌++◌, cond, drop, length, map}
 use Rattle.std.specs.Option.{option_copied, option_map}
-use Rattle.opl_eval.specs.Evaluation.{all, bound, eval, found, step_meaning, with_parameters}
-use Rattle.opl_eval.specs.Scopes.{chosen, names_in, turns}
-use Rattle.opl_eval.specs.Visible.{left}
-use Rattle.opl_eval.specs.Visits.{bodies_of}
+use Rattle.opl_eval.specs.Evaluation.{all, eval, found, step_meaning}
+use Rattle.opl_eval.specs.Gathered.{with_more}
+use Rattle.opl_eval.specs.Scopes.{names_in}
+use Rattle.opl_eval.specs.Turns.{pending}
+use Rattle.opl_eval.specs.Visible.{within}
+use Rattle.opl_eval.specs.Visits.{bodies_at, bodies_of}
 use Rattle.opl_eval.specs.Weights.{weight, step_weight, set_weight, group_weight, visit_weight, if_any, total}
 use Rattle.opl_term.specs.declared.term.Term.TheVariants as terms
 use Rattle.opl_eval.proofs.evaluate.+evaluation.Given as goal
@@ -26,8 +28,17 @@ decreases-operation l = step_weight l.step.now + 5
 abbrev pub decreases-described : goal.decreases-described
 decreases-described l = weight (terms.Described l.at l.body.now l.groups.now l.condition.now) + 3
 
+abbrev pub decreases-aggregated : goal.decreases-aggregated
+decreases-aggregated l = total (map group_weight l.groups.now) + if_any (option_map weight l.condition.now) + weight l.body.now + 17
+
 abbrev pub decreases-bodies : goal.decreases-bodies
 decreases-bodies l = total (map group_weight l.groups.now) + if_any (option_map weight l.condition.now) + weight l.body.now + 16
+
+abbrev pub decreases-visit_all : goal.decreases-visit_all
+decreases-visit_all l = visit_weight l.visit + 10
+
+abbrev pub decreases-step : goal.decreases-step
+decreases-step l = visit_weight l.visit + 9
 
 abbrev pub decreases-visit_groups : goal.decreases-visit_groups
 decreases-visit_groups l = visit_weight l.visit + 8
@@ -36,16 +47,10 @@ abbrev pub decreases-visit_body : goal.decreases-visit_body
 decreases-visit_body l = if_any (option_map weight (option_copied l.condition)) + weight l.body.now + 6
 
 abbrev pub decreases-visit_group : goal.decreases-visit_group
-decreases-visit_group l = group_weight l.group.now + visit_weight l.later + 7
+decreases-visit_group l = group_weight l.group.now + 7
 
 abbrev pub decreases-visit_over : goal.decreases-visit_over
-decreases-visit_over l = 2 * length l.patterns.now + set_weight l.over.now + visit_weight l.later + 15
-
-abbrev pub decreases-choose : goal.decreases-choose
-decreases-choose l = 2 * length l.patterns.now + visit_weight l.later + 10
-
-abbrev pub decreases-take_turn : goal.decreases-take_turn
-decreases-take_turn l = 2 * length l.others.now + visit_weight l.later + 11
+decreases-visit_over l = set_weight l.over.now + 6
 
 abbrev pub invariant-values-loop-term : goal.invariant-values-loop-term
 invariant-values-loop-term l =
@@ -57,10 +62,7 @@ invariant-operations-loop-step l =
     all (map (λ s. step_meaning s (names_in l.scope)) l.steps)
     ≡ found (λ os. l.found.items ++ os) (all (map (λ s. step_meaning s (names_in l.scope)) (drop l.step-index l.steps)))
 
-abbrev pub decreases-choose-loop-element : goal.decreases-choose-loop-element
-decreases-choose-loop-element l = length (left l.rest)
-
-abbrev pub invariant-choose-loop-element : goal.invariant-choose-loop-element
-invariant-choose-loop-element l =
-    found (λ xs. l.initial.found.items ++ xs) (chosen l.is_ordered l.patterns (left l.elements) (bodies_of l.later) (names_in l.scope))
-    ≡ found (λ xs. l.found.items ++ xs) (turns (λ behind v. chosen l.is_ordered l.others (cond l.is_ordered behind (left l.elements)) (bodies_of l.later) (with_parameters (bound l.pattern v) (names_in l.scope))) (left l.rest))
+abbrev pub invariant-visit_all-loop : goal.invariant-visit_all-loop
+invariant-visit_all-loop l =
+    with_more l.initial.gathered (bodies_of l.visit (names_in l.scope))
+    ≡ with_more l.gathered (pending (bodies_at l.visit) (within l.base.environment.now l.base.parameters.now) l.ahead l.turns.items)

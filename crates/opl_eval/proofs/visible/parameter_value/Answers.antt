@@ -1,9 +1,14 @@
-use Rattle.std.proofs.Common.{map, sym, ◌∙◌}
-use Rattle.std.specs.Option.{option_copied}
-use Rattle.std.proofs.lemmas.List.{at_drop_all}
+use Rattle.std.proofs.Common.{map, None, ap, sym, ◌∙◌}
 use Rattle.opl_eval.specs.Evaluation.{parameter_or}
+use Rattle.opl_eval.specs.Turns.{in_turns}
 use Rattle.opl_eval.specs.Visible.{parameter_of}
+use Rattle.opl_eval.proofs.Latest.{parameter-in}
 use Rattle.opl_eval.proofs.visible.parameter_value.Goals as goal
 
-pub returns : goal.returns
-returns c = sym (c.loop-parameter.invariant ∙ at_drop_all (λ ps. parameter_or (option_copied c.loop-parameter.found) c.args.name.now (map parameter_of ps)) c.args.parameters.now c.loop-parameter.parameter-index c.loop-parameter-test.false)
+pub returns-in-Some : goal.returns-in-Some
+returns-in-Some c = sym (parameter-in c.args.scope.environment.now c.args.scope.parameters.now c.args.scope.turns.now c.args.name.now ∙ c.in-Some.ensures (parameter_or None c.args.name.now (map parameter_of c.args.scope.parameters.now)))
+
+pub returns-in-None : goal.returns-in-None
+returns-in-None c =
+    c.given_value.ensures
+    ∙ sym (parameter-in c.args.scope.environment.now c.args.scope.parameters.now c.args.scope.turns.now c.args.name.now ∙ c.in-None.ensures (parameter_or None c.args.name.now (map parameter_of c.args.scope.parameters.now)))

@@ -14,16 +14,16 @@ pub returns-then-not-eat_sign : goal.returns-then-not-eat_sign
 unfolding behind_from
 returns-then-not-eat_sign g c =
     let e = one_more (λ n. behind_from c.args.sign (g.P.Part.begins c.args.part.now) (g.P.Part.part c.args.part.now) n c.loop-turn.found c.loop-turn.cursor) _ c.loop-turn._turn c.loop-turn-test.true c.loop-turn.invariant in
-    first_of (search rules, grind (arith, common_steps))
+    grind (arith, common_steps)
 
 pub returns-in_err-read : goal.returns-in_err-read
 unfolding behind_from
 returns-in_err-read g c =
     let e = one_more (λ n. behind_from c.args.sign (g.P.Part.begins c.args.part.now) (g.P.Part.part c.args.part.now) n c.loop-turn.found c.loop-turn.cursor) _ c.loop-turn._turn c.loop-turn-test.true c.loop-turn.invariant in
-    first_of (search rules, grind (arith, common_steps))
+    grind (arith, common_steps)
 
 pub loop-turn-preserved : goal.loop-turn-preserved
 unfolding behind_from
 loop-turn-preserved g c =
     let e = one_more (λ n. behind_from c.args.sign (g.P.Part.begins c.args.part.now) (g.P.Part.part c.args.part.now) n c.loop-turn.found c.loop-turn.cursor) _ c.loop-turn._turn c.loop-turn-test.true c.loop-turn.invariant in
-    first_of (search rules, grind (arith, common_steps))
+    grind (arith, common_steps)

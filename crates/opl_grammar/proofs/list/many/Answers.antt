@@ -14,4 +14,4 @@ pub loop-turn-preserved : goal.loop-turn-preserved
 unfolding many_from
 loop-turn-preserved g c =
     let e = one_more (λ n. many_from (g.P.Part.begins c.args.part.now) (g.P.Part.part c.args.part.now) n c.loop-turn.found c.loop-turn.cursor) _ c.loop-turn._turn c.loop-turn-test.true c.loop-turn.invariant in
-    first_of (search rules, grind (arith, common_steps))
+    grind (arith, common_steps)

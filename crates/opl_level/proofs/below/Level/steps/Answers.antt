@@ -15,16 +15,16 @@ pub returns-in_err-factor : goal.returns-in_err-factor
 unfolding steps_from
 returns-in_err-factor g c =
     let e = one_more (λ n. steps_from (g.B.Below.rules c.args.self.now.below) n c.loop-turn.found c.loop-turn.cursor) _ c.loop-turn._turn c.loop-turn-test.true c.loop-turn.invariant in
-    first_of (search rules, grind (arith, common_steps))
+    grind (arith, common_steps)
 
 pub returns-in-Open : goal.returns-in-Open
 unfolding steps_from
 returns-in-Open g c =
     let e = one_more (λ n. steps_from (g.B.Below.rules c.args.self.now.below) n c.loop-turn.found c.loop-turn.cursor) _ c.loop-turn._turn c.loop-turn-test.true c.loop-turn.invariant in
-    first_of (search rules, grind (arith, common_steps))
+    grind (arith, common_steps)
 
 pub loop-turn-preserved : goal.loop-turn-preserved
 unfolding steps_from
 loop-turn-preserved g c =
     let e = one_more (λ n. steps_from (g.B.Below.rules c.args.self.now.below) n c.loop-turn.found c.loop-turn.cursor) _ c.loop-turn._turn c.loop-turn-test.true c.loop-turn.invariant in
-    first_of (search rules, grind (arith, common_steps))
+    grind (arith, common_steps)
