@@ -296,6 +296,20 @@ fn block(
     items(alloc, model, locals, &t.items, kinds)
 }
 
+/// A block of items outside of all parameters.
+#[tactic(auto, using(crate::proofs::Items::outside))]
+fn outer_block(
+    alloc: Global,
+    model: &Names<'_>,
+    t: &BlockTree,
+    kinds: &mut Seq<Ty>,
+) -> Result<(), TypeFault>
+    ensures { Gives (λ u. map sort kinds.new) (front (map sort kinds.old) (spec.block t.now (scope_of model.now))) result }
+{
+    let outside = Locals::new(alloc);
+    block(alloc, model, &outside, t, kinds)
+}
+
 /// The instruction, with its objective before its items.
 #[tactic(auto, using(crate::proofs::Items::outside))]
 pub(crate) fn instr(
@@ -306,12 +320,11 @@ pub(crate) fn instr(
 ) -> Result<(), TypeFault>
     ensures { Gives (λ u. map sort kinds.new) (front (map sort kinds.old) (spec.instr t.now (scope_of model.now))) result }
 {
-    let outside = Locals::new(alloc);
     match t {
-        InstrTree::Solve(_, inner) => block(alloc, model, &outside, inner, kinds),
+        InstrTree::Solve(_, inner) => outer_block(alloc, model, inner, kinds),
         InstrTree::Optimize(_, _, objective, inner) => {
             optimized(alloc, model, objective, kinds)?;
-            block(alloc, model, &outside, inner, kinds)?;
+            outer_block(alloc, model, inner, kinds)?;
             Ok(())
         }
     }
