@@ -5,19 +5,19 @@ use Rattle.std.specs.Option.{option_map}
 use Rattle.std.proofs.lemmas.List.{at_drop_more, map-append, map-set}
 use Rattle.std.proofs.lemmas.Option.{slice_get-map}
 use Rattle.opl_term.specs.declared.term.Term.{Term}
-use Rattle.opl_bind.specs.declared.fault.BindFault.{BindFault}
-use Rattle.opl_bind.specs.declared.fault.BindFault.TheVariants.{Given, Twice, Missing, Shape, Outside, Override, Eval, OutOfMemory}
+use Rattle.opl_given.specs.declared.fault.BindFault.{BindFault}
+use Rattle.opl_given.specs.declared.fault.BindFault.TheVariants.{Given, Twice, Missing, Shape, Outside, Override, Eval, OutOfMemory}
 use Rattle.opl_value.specs.declared.value.Value.{Value}
 use Rattle.opl_value.specs.Places.{place_in}
 use Rattle.opl_eval.specs.Evaluation.{Environment, meaning}
-use Rattle.opl_bind.specs.declared.form.Form.{Form}
-use Rattle.opl_bind.specs.Arrays.{Axis, is_free, values_of}
+use Rattle.opl_given.specs.declared.form.Form.{Form}
+use Rattle.opl_given.specs.Arrays.{Axis, is_free, values_of}
 use Rattle.opl_bind.specs.Cells.{fits, fits_at, key_place, terms_at}
 use Rattle.opl_bind.specs.Dimensions.{evaluated}
-use Rattle.opl_bind.specs.Faults.{Bound, Gives, found, provided, then}
-use Rattle.opl_bind.specs.Forms.{Known}
-use Rattle.opl_bind.specs.Readings.{lent}
-use Rattle.opl_bind.specs.Values.{all_by_form}
+use Rattle.opl_given.specs.Faults.{Bound, Gives, found, provided, then}
+use Rattle.opl_given.specs.Forms.{Known}
+use Rattle.opl_given.specs.Readings.{lent}
+use Rattle.opl_given.specs.Values.{all_by_form}
 use Rattle.opl_bind.specs.Written.{Fit, first_token, free_slots, gathered, laid, listed_cells, slot_at, with_slot, written}
 use Rattle.opl_bind.proofs.WrittenLayers.{written-at, written-meaning}
 use Rattle.opl_bind.proofs.WrittenScopes.{then_fault}

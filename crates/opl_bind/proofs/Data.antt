@@ -6,8 +6,8 @@ use Rattle.opl_value.specs.declared.value.Value.{Value}
 use Rattle.opl_value.specs.declared.value.Value.TheVariants as values
 use Rattle.opl_eval.specs.Evaluation.{Environment, declared}
 use Rattle.opl_bind.specs.Bind.{Data, with_ends, with_known, with_listed, with_names, with_value, with_values}
-use Rattle.opl_bind.specs.Forms.{Known, number_of, with_declaration, with_enumeration, with_range}
-use Rattle.opl_bind.specs.Names.{Text}
+use Rattle.opl_given.specs.Forms.{Known, number_of, with_declaration, with_enumeration, with_range}
+use Rattle.opl_given.specs.Names.{Text}
 
 abbrev both : Known → Environment → Data
 both known environment = record { known = known; environment = environment }

@@ -6,7 +6,7 @@ use Rattle.opl_eval.specs.declared.fault.EvalFault.TheVariants as eval
 use Rattle.opl_eval.specs.Evaluation.{Found}
 use Rattle.opl_eval.specs.Visible.{seen, within}
 use Rattle.opl_bind.specs.Dimensions.{evaluated, fault_of}
-use Rattle.opl_bind.specs.Faults.{Gives}
+use Rattle.opl_given.specs.Faults.{Gives}
 
 -- without parameters
 pub within-none : (env : Environment) → within env [] ≡ seen env

@@ -21,23 +21,23 @@ use Rattle.opl_value.specs.declared.value.Dimension.TheViews.{out-Value}
 use Rattle.opl_value.specs.declared.value.IndexSpace.{IndexSpace}
 use Rattle.opl_value.specs.Places.{dimension_values, elements, lists, place_of, space_of}
 use Rattle.opl_eval.specs.Evaluation.{Environment, Item, declared}
-use Rattle.opl_bind.specs.declared.assigned.Override.{Override}
-use Rattle.opl_bind.specs.declared.fault.BindFault.TheVariants as faults
-use Rattle.opl_bind.specs.declared.form.Form.{Form}
-use Rattle.opl_bind.specs.Arrays.{Axis, elements_in, values_of}
-use Rattle.opl_bind.specs.Assigned.{all_assigned, assigned, is_assigned, is_within, overridden, placed}
+use Rattle.opl_given.specs.declared.assigned.Override.{Override}
+use Rattle.opl_given.specs.declared.fault.BindFault.TheVariants as faults
+use Rattle.opl_given.specs.declared.form.Form.{Form}
+use Rattle.opl_given.specs.Arrays.{Axis, elements_in, values_of}
+use Rattle.opl_given.specs.Assigned.{all_assigned, assigned, is_assigned, is_within, overridden, placed}
 use Rattle.opl_bind.specs.Bind.{Data, alone, bound, external_value, initial_value, item_value, model_value, no_data, with_decl, with_decls, with_ends, with_known, with_listed, with_names, with_value, with_values, with_written}
 use Rattle.opl_bind.specs.Dimensions.{axes_in, axis_in, dims_of, number_in}
-use Rattle.opl_bind.specs.Faults.{Bound, then}
-use Rattle.opl_bind.specs.Forms.{Known, form_of, number_of}
-use Rattle.opl_bind.specs.Given.{Given, GivenValue, all_given, given_to}
-use Rattle.opl_bind.specs.Items.{array_layer, array_over, array_value, given_array, is_array, lists_of}
+use Rattle.opl_given.specs.Faults.{Bound, then}
+use Rattle.opl_given.specs.Forms.{Known, form_of, number_of}
+use Rattle.opl_given.specs.Given.{Given, GivenValue, all_given, given_to}
+use Rattle.opl_given.specs.Items.{array_layer, array_over, array_value, given_array, is_array, lists_of}
 use Rattle.opl_bind.specs.Laws.{AreFilled, ArraysAreFilled, IsFilled, filled_layer}
-use Rattle.opl_bind.specs.Names.{Text}
+use Rattle.opl_given.specs.Names.{Text}
 use Rattle.opl_bind.specs.Written.{written_cells, written_value}
-use Rattle.opl_bind.proofs.CellLaws.{cells_fill, passed, same_ok, went, went_first}
-use Rattle.opl_bind.proofs.Plain.{plain_single, IsPlain}
-use Rattle.opl_bind.proofs.Spaces.{dimensions-space_of}
+use Rattle.opl_given.proofs.CellLaws.{cells_fill, passed, same_ok, went, went_first}
+use Rattle.opl_given.proofs.Plain.{plain_single, IsPlain}
+use Rattle.opl_given.proofs.Spaces.{dimensions-space_of}
 use Rattle.opl_bind.proofs.WrittenLengths.{either, length-written_cells}
 
 -- ---- values

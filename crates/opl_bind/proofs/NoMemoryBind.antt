@@ -13,18 +13,19 @@ use Rattle.opl_tree.specs.declared.expression.AddTree.{AddTree, out-AddTree}
 use Rattle.opl_data.specs.declared.tree.DataFile.{DataFile}
 use Rattle.opl_term.specs.Terms.{add_term}
 use Rattle.opl_value.specs.declared.value.Value.{Value}
-use Rattle.opl_bind.specs.declared.assigned.Override.{Override}
-use Rattle.opl_bind.specs.declared.fault.BindFault.TheVariants.{Missing, Shape}
-use Rattle.opl_bind.specs.declared.form.Form.{Form}
+use Rattle.opl_given.specs.declared.assigned.Override.{Override}
+use Rattle.opl_given.specs.declared.fault.BindFault.TheVariants.{Missing, Shape}
+use Rattle.opl_given.specs.declared.form.Form.{Form}
 use Rattle.opl_bind.specs.Bind.{Data, external_value, alone, model_value, initial_value, item_value, names_given, enumeration_names, with_value, with_ends, with_names, with_known, with_listed, range_declared, with_decl, with_decls, no_data, bound}
 use Rattle.opl_bind.specs.Dimensions.{axes_in, dims_of, number_in}
-use Rattle.opl_bind.specs.Forms.{form_of, listed_names, with_declaration, with_struct}
-use Rattle.opl_bind.specs.Given.{Given, GivenValue, all_given, given_to}
-use Rattle.opl_bind.specs.Items.{array_over, is_array}
+use Rattle.opl_given.specs.Forms.{form_of, listed_names, with_declaration, with_struct}
+use Rattle.opl_given.specs.Given.{Given, GivenValue, all_given, given_to}
+use Rattle.opl_given.specs.Items.{array_over, is_array}
 use Rattle.opl_bind.specs.Laws.{NeverMemory}
-use Rattle.opl_bind.specs.Names.{Text}
+use Rattle.opl_given.specs.Names.{Text}
 use Rattle.opl_bind.specs.Written.{written_cells, written_value}
-use Rattle.opl_bind.proofs.NoMemory.{Real, real_ok, real_err, real_never, real_never_evaluating, real_then, real_found, real_provided, real_all_given, real_given_names, real_single_value, real_array_value, real_number_in, real_axes}
+use Rattle.opl_given.proofs.NoMemory.{Real, real_ok, real_err, real_never, real_never_evaluating, real_then, real_found, real_provided, real_all_given, real_given_names, real_single_value, real_array_value}
+use Rattle.opl_bind.proofs.NoMemoryDimensions.{real_number_in, real_axes}
 use Rattle.opl_bind.proofs.NoMemoryWritten.{real_written_value, real_written_cells}
 
 real_external : (given : Given) (os : List Override) (d : Data) (form : Form) (name : Text) (dims : Option DimsTree) → Real (external_value given os d form name dims)

@@ -18,18 +18,19 @@ use Rattle.opl_value.specs.declared.value.Dimension.TheViews.{out-Value}
 use Rattle.opl_value.specs.Places.{lists, place_in, value_at}
 use Rattle.opl_eval.specs.Evaluation.{Environment, Group, Meaning}
 use Rattle.opl_eval.proofs.NoMemory as evaluation
-use Rattle.opl_bind.specs.declared.fault.BindFault.{BindFault}
-use Rattle.opl_bind.specs.declared.fault.BindFault.TheVariants.{Outside, Shape}
-use Rattle.opl_bind.specs.declared.form.Form.{Form}
-use Rattle.opl_bind.specs.Arrays.{Axis, is_free, values_of}
+use Rattle.opl_given.specs.declared.fault.BindFault.{BindFault}
+use Rattle.opl_given.specs.declared.fault.BindFault.TheVariants.{Outside, Shape}
+use Rattle.opl_given.specs.declared.form.Form.{Form}
+use Rattle.opl_given.specs.Arrays.{Axis, is_free, values_of}
 use Rattle.opl_bind.specs.Dimensions.{evaluated}
-use Rattle.opl_bind.specs.Faults.{Bound, then}
-use Rattle.opl_bind.specs.Forms.{Known}
-use Rattle.opl_bind.specs.Inside.{is_inside}
-use Rattle.opl_bind.specs.Values.{parts_of, element_of, each_by_form, all_by_form, set_of}
+use Rattle.opl_given.specs.Faults.{Bound, then}
+use Rattle.opl_given.specs.Forms.{Known}
+use Rattle.opl_given.specs.Inside.{is_inside}
+use Rattle.opl_given.specs.Values.{parts_of, element_of, each_by_form, all_by_form, set_of}
 use Rattle.opl_bind.specs.Written.{Fit, Run, Written, whole, under, record_parts, set_parts, fit_layer, slot_at, with_slot, opened, laid, free_slots, gathered, cells_layer, at_layer, term_means, step_means, set_means, group_means, written_layer, written, written_value, with_name, over, each_cell, placed, matched, further, places_among, taken_layer, has_name, listed_cells, taken_cells, cells_by_form, written_cells}
 use Rattle.opl_bind.proofs.WrittenLayers.{written-meaning}
-use Rattle.opl_bind.proofs.NoMemory.{IsReal, Comes, Real, FitsReal, comes_ok, comes_err, comes_then, comes_cond, real_ok, real_err, real_then, real_found, real_cond, real_provided, real_found_evaluating, real_each_by_form, real_all_by_form}
+use Rattle.opl_given.proofs.NoMemory.{IsReal, Comes, Real, FitsReal, comes_ok, comes_err, comes_then, comes_cond, real_ok, real_err, real_then, real_found, real_cond, real_provided, real_each_by_form, real_all_by_form}
+use Rattle.opl_bind.proofs.NoMemoryDimensions.{real_found_evaluating}
 
 -- ---- the parts of an expression as initial values
 

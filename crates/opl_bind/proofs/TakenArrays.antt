@@ -6,12 +6,12 @@ use Rattle.opl_value.specs.declared.value.Value.TheVariants as values
 use Rattle.opl_value.specs.declared.value.IndexSpace.{IndexSpace}
 use Rattle.opl_value.specs.declared.value.Dimension.TheViews.{out-Value}
 use Rattle.opl_value.specs.Places.{lists, value_at}
-use Rattle.opl_bind.specs.declared.fault.BindFault.{BindFault}
-use Rattle.opl_bind.specs.declared.fault.BindFault.TheVariants.{Shape}
-use Rattle.opl_bind.specs.declared.form.Form.{Form}
-use Rattle.opl_bind.specs.Arrays.{Axis, values_of}
-use Rattle.opl_bind.specs.Faults.{Bound, Does, Gives, then}
-use Rattle.opl_bind.specs.Forms.{Known}
+use Rattle.opl_given.specs.declared.fault.BindFault.{BindFault}
+use Rattle.opl_given.specs.declared.fault.BindFault.TheVariants.{Shape}
+use Rattle.opl_given.specs.declared.form.Form.{Form}
+use Rattle.opl_given.specs.Arrays.{Axis, values_of}
+use Rattle.opl_given.specs.Faults.{Bound, Does, Gives, then}
+use Rattle.opl_given.specs.Forms.{Known}
 use Rattle.opl_bind.specs.Written.{further, matched, places_among, taken_layer, tested}
 use Rattle.opl_bind.proofs.WrittenLayers.{written-at, written-meaning}
 

@@ -7,13 +7,13 @@ use Rattle.opl_value.specs.declared.value.Dimension.TheVariants as dimensions
 use Rattle.opl_value.proofs.Places.{values-Whole}
 use Rattle.opl_eval.specs.Evaluation.{Environment}
 use Rattle.opl_eval.proofs.Meanings.{meaning-Number}
-use Rattle.opl_bind.specs.declared.fault.BindFault.TheVariants.{Shape, Outside}
-use Rattle.opl_bind.specs.declared.form.Form.TheVariants as forms
-use Rattle.opl_bind.specs.Arrays.{Axis}
-use Rattle.opl_bind.specs.Forms.{nothing_known}
+use Rattle.opl_given.specs.declared.fault.BindFault.TheVariants.{Shape, Outside}
+use Rattle.opl_given.specs.declared.form.Form.TheVariants as forms
+use Rattle.opl_given.specs.Arrays.{Axis}
+use Rattle.opl_given.specs.Forms.{nothing_known}
 use Rattle.opl_bind.specs.Written.{listed_cells, written}
-use Rattle.opl_bind.proofs.Insides.{insides}
-use Rattle.opl_bind.proofs.Layers.{forms_say}
+use Rattle.opl_given.proofs.Insides.{insides}
+use Rattle.opl_given.proofs.Layers.{forms_say}
 use Rattle.opl_bind.proofs.WrittenLayers.{cells-Array, first_tokens, fit-Listed, fit-Number, fit-Record, written-at}
 
 abbrev number : ℕ → ℤ → Term

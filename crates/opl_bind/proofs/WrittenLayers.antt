@@ -16,12 +16,12 @@ use Rattle.opl_term.specs.declared.term.Term.{Term}
 use Rattle.opl_term.specs.declared.term.Term.TheVariants as terms
 use Rattle.opl_eval.specs.Evaluation.{Environment, Group, Meaning, group_layer, group_meaning, meaning, set_layer, set_meaning, step_layer, step_meaning, term_layer}
 use Rattle.opl_eval.proofs.Weights.{weight-Listed, weight-Record, weight-at}
-use Rattle.opl_bind.specs.declared.fault.BindFault.{BindFault}
-use Rattle.opl_bind.specs.declared.form.Form.{Form}
-use Rattle.opl_bind.specs.Arrays.{Axis, values_of}
-use Rattle.opl_bind.specs.Faults.{provided, then}
-use Rattle.opl_bind.specs.Forms.{Known}
-use Rattle.opl_bind.specs.Values.{element_of, parts_of}
+use Rattle.opl_given.specs.declared.fault.BindFault.{BindFault}
+use Rattle.opl_given.specs.declared.form.Form.{Form}
+use Rattle.opl_given.specs.Arrays.{Axis, values_of}
+use Rattle.opl_given.specs.Faults.{provided, then}
+use Rattle.opl_given.specs.Forms.{Known}
+use Rattle.opl_given.specs.Values.{element_of, parts_of}
 use Rattle.opl_bind.specs.Written.{Run, Written, at_layer, cells_layer, first_token, fit_layer, free_slots, gathered, group_means, has_cells, has_cells_layer, laid, opened, record_parts, set_means, set_parts, step_means, term_means, whole, written, written_layer}
 
 -- ---- the other kinds of terms beside expressions

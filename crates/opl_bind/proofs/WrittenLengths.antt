@@ -19,16 +19,16 @@ use Rattle.opl_value.specs.declared.value.Dimension.TheOpen.{Value-F}
 use Rattle.opl_value.specs.declared.value.Dimension.TheViews.{out-Value}
 use Rattle.opl_value.specs.Places.{elements, lists, place_in, value_at}
 use Rattle.opl_eval.specs.Evaluation.{Environment, Group, Meaning}
-use Rattle.opl_bind.specs.declared.fault.BindFault.{BindFault}
-use Rattle.opl_bind.specs.declared.form.Form.{Form}
-use Rattle.opl_bind.specs.Arrays.{Axis, is_free, values_of}
+use Rattle.opl_given.specs.declared.fault.BindFault.{BindFault}
+use Rattle.opl_given.specs.declared.form.Form.{Form}
+use Rattle.opl_given.specs.Arrays.{Axis, is_free, values_of}
 use Rattle.opl_bind.specs.Dimensions.{evaluated}
-use Rattle.opl_bind.specs.Faults.{Bound}
-use Rattle.opl_bind.specs.Forms.{Known}
-use Rattle.opl_bind.specs.Inside.{is_inside}
-use Rattle.opl_bind.specs.Values.{all_by_form}
+use Rattle.opl_given.specs.Faults.{Bound}
+use Rattle.opl_given.specs.Forms.{Known}
+use Rattle.opl_given.specs.Inside.{is_inside}
+use Rattle.opl_given.specs.Values.{all_by_form}
 use Rattle.opl_bind.specs.Written.{Fit, Run, Written, cells_by_form, cells_layer, each_cell, free_slots, further, gathered, group_means, has_name, laid, listed_cells, matched, opened, over, placed, places_among, set_means, slot_at, step_means, taken_cells, taken_layer, tested, with_name, with_slot, written, written_cells, written_layer}
-use Rattle.opl_bind.proofs.CellLaws.{length-all_by_form, passed, same_number, same_ok, went, went_first}
+use Rattle.opl_given.proofs.CellLaws.{length-all_by_form, passed, same_number, same_ok, went, went_first}
 
 -- ---- the cells of `[..]` and `#[..]#`
 

@@ -9,13 +9,13 @@ use Rattle.opl_eval.specs.declared.environment.Environment as code
 use Rattle.opl_eval.specs.declared.environment.Parameter as parameters
 use Rattle.opl_eval.specs.Visible.{item_of, parameter_of, position_in, seen, within}
 use Rattle.opl_eval.proofs.Loops.{within-more}
-use Rattle.opl_bind.specs.declared.fault.BindFault.{BindFault}
-use Rattle.opl_bind.specs.declared.fault.BindFault.TheVariants.{Given, Twice, Missing, Shape, Outside, Override, Eval, OutOfMemory}
-use Rattle.opl_bind.specs.declared.form.Form.{Form}
-use Rattle.opl_bind.specs.Forms.{Known}
-use Rattle.opl_bind.specs.Arrays.{Axis}
-use Rattle.opl_bind.specs.Faults.{Bound, Gives, then}
-use Rattle.opl_bind.specs.Scopes.{named}
+use Rattle.opl_given.specs.declared.fault.BindFault.{BindFault}
+use Rattle.opl_given.specs.declared.fault.BindFault.TheVariants.{Given, Twice, Missing, Shape, Outside, Override, Eval, OutOfMemory}
+use Rattle.opl_given.specs.declared.form.Form.{Form}
+use Rattle.opl_given.specs.Forms.{Known}
+use Rattle.opl_given.specs.Arrays.{Axis}
+use Rattle.opl_given.specs.Faults.{Bound, Gives, then}
+use Rattle.opl_given.specs.Turns.{named}
 use Rattle.opl_bind.specs.Written.{cells_by_form, over, with_name, written, written_cells, written_value}
 
 -- without parameters the declared names alone are seen

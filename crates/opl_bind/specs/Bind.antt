@@ -15,16 +15,16 @@ use Rattle.opl_term.specs.Terms.{add_term}
 use Rattle.opl_value.specs.declared.value.Value.{Value}
 use Rattle.opl_value.specs.declared.value.Value.TheVariants as values
 use Rattle.opl_eval.specs.Evaluation.{Environment, declared}
-use Rattle.opl_bind.specs.declared.assigned.Override.{Override}
-use Rattle.opl_bind.specs.declared.fault.BindFault.TheVariants.{Missing, Shape}
-use Rattle.opl_bind.specs.declared.form.Form.{Form}
+use Rattle.opl_given.specs.declared.assigned.Override.{Override}
+use Rattle.opl_given.specs.declared.fault.BindFault.TheVariants.{Missing, Shape}
+use Rattle.opl_given.specs.declared.form.Form.{Form}
 use Rattle.opl_bind.specs.Dimensions.{axes_in, dims_of, number_in}
-use Rattle.opl_bind.specs.Enumerations.{given_names}
-use Rattle.opl_bind.specs.Faults.{Bound, then, found, provided}
-use Rattle.opl_bind.specs.Forms.{Known, form_of, listed_names, nothing_known, number_of, with_declaration, with_enumeration, with_range, with_struct}
-use Rattle.opl_bind.specs.Given.{Given, GivenValue, all_given, given_to}
-use Rattle.opl_bind.specs.Items.{array_over, array_value, is_array, single_value}
-use Rattle.opl_bind.specs.Names.{Text}
+use Rattle.opl_given.specs.Enumerations.{given_names}
+use Rattle.opl_given.specs.Faults.{Bound, then, found, provided}
+use Rattle.opl_given.specs.Forms.{Known, form_of, listed_names, nothing_known, number_of, with_declaration, with_enumeration, with_range, with_struct}
+use Rattle.opl_given.specs.Given.{Given, GivenValue, all_given, given_to}
+use Rattle.opl_given.specs.Items.{array_over, array_value, is_array, single_value}
+use Rattle.opl_given.specs.Names.{Text}
 use Rattle.opl_bind.specs.Written.{written_cells, written_value}
 
 -- what the declarations so far come to: what they say of types, and the declared names with their values

@@ -5,11 +5,11 @@ use Rattle.std.specs.Option.{option_map}
 use Rattle.opl_term.specs.declared.term.Term.{Term}
 use Rattle.opl_value.specs.declared.value.Value.{Value}
 use Rattle.opl_value.specs.Places.{place_in}
-use Rattle.opl_bind.specs.declared.fault.BindFault.{BindFault}
-use Rattle.opl_bind.specs.Arrays.{Axis, is_free, values_of}
-use Rattle.opl_bind.specs.Faults.{Bound, provided, then}
-use Rattle.opl_bind.specs.Forms.{Known}
-use Rattle.opl_bind.specs.Readings.{lent}
+use Rattle.opl_given.specs.declared.fault.BindFault.{BindFault}
+use Rattle.opl_given.specs.Arrays.{Axis, is_free, values_of}
+use Rattle.opl_given.specs.Faults.{Bound, provided, then}
+use Rattle.opl_given.specs.Forms.{Known}
+use Rattle.opl_given.specs.Readings.{lent}
 use Rattle.opl_bind.specs.Written.{Fit, slot_at, written}
 
 -- the cells that are lent at each place

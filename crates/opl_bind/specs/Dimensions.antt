@@ -12,11 +12,11 @@ use Rattle.opl_eval.specs.declared.fault.EvalFault.{EvalFault}
 use Rattle.opl_eval.specs.declared.fault.EvalFault.TheVariants as eval_faults
 use Rattle.opl_eval.specs.Compare.{number}
 use Rattle.opl_eval.specs.Evaluation.{Environment, Found, declaration_of, eval, set_meaning}
-use Rattle.opl_bind.specs.declared.fault.BindFault.{BindFault}
-use Rattle.opl_bind.specs.declared.fault.BindFault.TheVariants.{Eval, OutOfMemory}
-use Rattle.opl_bind.specs.Arrays.{Axis}
-use Rattle.opl_bind.specs.Axes.{axis_of_set}
-use Rattle.opl_bind.specs.Faults.{Bound, found, then}
+use Rattle.opl_given.specs.declared.fault.BindFault.{BindFault}
+use Rattle.opl_given.specs.declared.fault.BindFault.TheVariants.{Eval, OutOfMemory}
+use Rattle.opl_given.specs.Arrays.{Axis}
+use Rattle.opl_given.specs.Axes.{axis_of_set}
+use Rattle.opl_given.specs.Faults.{Bound, found, then}
 use Rattle.opl_value.specs.Places.{space_of}
 
 -- what is found by evaluation, its fault as one of a declaration

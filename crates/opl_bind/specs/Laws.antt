@@ -1,8 +1,7 @@
 -- Laws of the data values of a model.
-use Rattle.std.specs.Prelude.{◌≡◌, ◌≢◌, ℕ, List, [], ◌∷◌, length, map, Ok, Err}
+use Rattle.std.specs.Prelude.{◌≡◌, ◌≢◌, ℕ, List, [], ◌∷◌, length, Ok, Err}
 use Rattle.opl_tree.specs.declared.declaration.DeclTree.{DeclTree}
 use Rattle.opl_data.specs.declared.tree.DataFile.{DataFile}
-use Rattle.opl_data.specs.declared.tree.DataValue.{DataValue}
 use Rattle.opl_value.specs.declared.value.Value.{Value}
 use Rattle.opl_value.specs.declared.value.IndexSpace.{IndexSpace}
 use Rattle.opl_value.specs.declared.value.Dimension.TheOpen.{Value-F}
@@ -10,18 +9,9 @@ use Rattle.opl_value.specs.declared.value.Dimension.TheViews.{out-Value}
 use Rattle.opl_value.specs.Places.{elements, lists}
 use Rattle.opl_eval.specs.declared.fault.EvalFault.TheVariants as evaluation
 use Rattle.opl_eval.specs.Evaluation.{Item}
-use Rattle.opl_bind.specs.declared.assigned.Override.{Override}
-use Rattle.opl_bind.specs.declared.fault.BindFault.{BindFault}
-use Rattle.opl_bind.specs.declared.fault.BindFault.TheVariants.{Eval, OutOfMemory}
-use Rattle.opl_bind.specs.declared.form.Form.{Form}
-use Rattle.opl_bind.specs.Arrays.{Axis, elements_in, values_of}
+use Rattle.opl_given.specs.declared.assigned.Override.{Override}
+use Rattle.opl_given.specs.declared.fault.BindFault.TheVariants.{Eval, OutOfMemory}
 use Rattle.opl_bind.specs.Bind.{Data, bound}
-use Rattle.opl_bind.specs.Forms.{Known}
-
--- an array that is given has as many cells as its index space has keys
-abbrev pub CellsFillTheSpace : Type 0
-CellsFillTheSpace = (known : Known) (file : ℕ) (wrong : BindFault) (axes : List Axis) (form : Form) (value : DataValue) (cells : List Value) →
-    elements_in known file wrong axes form value ≡ Ok cells → length cells ≡ elements (map values_of axes)
 
 -- an array has as many cells as its index space has keys
 abbrev pub filled_layer : {A : Type 0} → Value-F A Value IndexSpace → Type 0

@@ -15,15 +15,15 @@ use Rattle.opl_value.specs.declared.value.Dimension.TheViews.{out-Value}
 use Rattle.opl_value.specs.Places.{lists, place_in, value_at}
 use Rattle.opl_eval.specs.declared.arithmetic.Operation.{Operation}
 use Rattle.opl_eval.specs.Evaluation.{Environment, Found, Group, Meaning, group_layer, set_layer, step_layer, term_layer, with_parameters}
-use Rattle.opl_bind.specs.declared.fault.BindFault.{BindFault}
-use Rattle.opl_bind.specs.declared.fault.BindFault.TheVariants.{Outside, Shape}
-use Rattle.opl_bind.specs.declared.form.Form.{Form}
-use Rattle.opl_bind.specs.Arrays.{Axis, is_free, values_of}
+use Rattle.opl_given.specs.declared.fault.BindFault.{BindFault}
+use Rattle.opl_given.specs.declared.fault.BindFault.TheVariants.{Outside, Shape}
+use Rattle.opl_given.specs.declared.form.Form.{Form}
+use Rattle.opl_given.specs.Arrays.{Axis, is_free, values_of}
 use Rattle.opl_bind.specs.Dimensions.{evaluated}
-use Rattle.opl_bind.specs.Faults.{Bound, then, found, provided}
-use Rattle.opl_bind.specs.Forms.{Known}
-use Rattle.opl_bind.specs.Inside.{is_inside}
-use Rattle.opl_bind.specs.Values.{parts_of, element_of, each_by_form, all_by_form, set_of}
+use Rattle.opl_given.specs.Faults.{Bound, then, found, provided}
+use Rattle.opl_given.specs.Forms.{Known}
+use Rattle.opl_given.specs.Inside.{is_inside}
+use Rattle.opl_given.specs.Values.{parts_of, element_of, each_by_form, all_by_form, set_of}
 
 -- ---- what an expression is as an initial value
 

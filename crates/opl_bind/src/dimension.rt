@@ -2,14 +2,11 @@
 ghost use Rattle.std.specs.Prelude.{◌≡◌, [], IfErr, map};
 ghost use Rattle.opl_eval.specs.Visible.{seen};
 ghost use Rattle.opl_bind.specs.Dimensions as spec;
-ghost use Rattle.opl_bind.specs.Faults.{Binds, Gives};
-ghost use Rattle.opl_bind.specs.Readings.{axis_of};
+ghost use Rattle.opl_given.specs.Faults.{Binds, Gives};
+ghost use Rattle.opl_given.specs.Readings.{axis_of};
 
-use crate::axis::Axis;
-use crate::fault::BindFault;
-use crate::index::index_set;
-use crate::space::keys_of;
 use opl_eval::{Environment, EvalFault, eval, eval_set, number};
+use opl_given::{Axis, BindFault, index_set, keys_of};
 use opl_list::Seq;
 use opl_term::{SetTerm, Term, add_term, set_term};
 use opl_tree::{AddTree, DimTree, DimsTree};
@@ -51,7 +48,7 @@ pub(crate) fn number_in(
     ensures { Binds (spec.number_in (seen environment.now) t.now) result }
 {
     let term = add_term(alloc, t)?;
-    let value = value_of(alloc, environment, &term)?;
+    let value = value_of(alloc, environment, term.get())?;
     Ok(number(&value))
 }
 
@@ -100,7 +97,7 @@ pub(crate) fn axes_in(
 }
 
 /// The index space of dimensions, whose sets are evaluated in order. For more than 2^64 - 1 keys memory is wanting.
-#[tactic(auto, unfolding(crate::specs::Dimensions::space_in), using(crate::proofs::Spaces::spaces))]
+#[tactic(auto, unfolding(crate::specs::Dimensions::space_in), using(opl_given::proofs::Spaces::spaces))]
 pub fn index_space(
     alloc: Global,
     environment: &Environment<'_>,

@@ -1,20 +1,17 @@
 //! Arrays whose dimensions have names: the expression for each key.
 ghost use Rattle.std.specs.Prelude.{◌≡◌, ◌∷◌, ◌++◌, [], IfOk, map, Ok};
 ghost use Rattle.opl_eval.specs.Visible.{parameter_of};
-ghost use Rattle.opl_bind.specs.Arrays.{values_of};
-ghost use Rattle.opl_bind.specs.Faults.{Binds, then};
-ghost use Rattle.opl_bind.specs.Readings.{axis_of, known_of};
-ghost use Rattle.opl_bind.specs.Scopes.{named, names_in};
+ghost use Rattle.opl_given.specs.Arrays.{values_of};
+ghost use Rattle.opl_given.specs.Faults.{Binds, then};
+ghost use Rattle.opl_given.specs.Readings.{axis_of, known_of};
+ghost use Rattle.opl_given.specs.Turns.{named};
+ghost use Rattle.opl_bind.specs.Scopes.{names_in};
 ghost use Rattle.opl_bind.specs.Written as spec;
 
-use crate::axis::Axis;
-use crate::elements::elements_of;
-use crate::fault::BindFault;
 use crate::fitted::fitted;
-use crate::form::Form;
 use crate::scope::Scope;
-use crate::types::Types;
 use opl_eval::Parameter;
+use opl_given::{Axis, BindFault, Form, Types, elements_of};
 use opl_list::Seq;
 use opl_term::Term;
 use opl_tree::DimTree;

@@ -5,7 +5,7 @@ ghost use Rattle.std.specs.Option.{option_or};
 ghost use Rattle.opl_value.specs.declared.value.Value.{Value};
 ghost use Rattle.opl_value.specs.Order.{value_eq};
 ghost use Rattle.opl_value.specs.Places.{dimension_values, place_in};
-ghost use Rattle.opl_bind.specs.Elements.{listed_values};
+ghost use Rattle.opl_given.specs.Elements.{listed_values};
 
 use crate::lookup::Lookup;
 use opl_value::{Dimension, Value};
@@ -23,7 +23,7 @@ impl<'d> Lookup<'d> {
     }
 
     /// The first place of a value, if it is there. It takes no memory.
-    #[tactic(auto, using(crate::proofs::DimensionElements::dimension_elements))]
+    #[tactic(auto, using(opl_given::proofs::DimensionElements::dimension_elements))]
     pub(crate) fn place(&self, wanted: &Value) -> Option<u64>
         ensures { result ≡ place_in wanted.now (dimension_values self.now.dimension.now) }
     {
@@ -35,7 +35,7 @@ impl<'d> Lookup<'d> {
 }
 
 /// The values that an index set lists: none where it is a range, in which places are found by arithmetic.
-#[tactic(auto, using(crate::proofs::DimensionElements::dimension_elements))]
+#[tactic(auto, using(opl_given::proofs::DimensionElements::dimension_elements))]
 fn listed(dimension: &Dimension) -> &[Value]
     ensures { result.now ≡ listed_values dimension.now }
 {

@@ -1,18 +1,14 @@
 //! Expressions as initial values: each taken by the form of its type.
 ghost use Rattle.std.specs.Prelude.{◌≡◌, [], map};
 ghost use Rattle.opl_eval.specs.Evaluation.{meaning};
-ghost use Rattle.opl_bind.specs.Faults.{Binds};
-ghost use Rattle.opl_bind.specs.Readings.{known_of};
+ghost use Rattle.opl_given.specs.Faults.{Binds};
+ghost use Rattle.opl_given.specs.Readings.{known_of};
 ghost use Rattle.opl_bind.specs.Scopes.{names_in};
-ghost use Rattle.opl_bind.specs.Values.{all_by_form, each_by_form};
+ghost use Rattle.opl_given.specs.Values.{all_by_form, each_by_form};
 ghost use Rattle.opl_bind.specs.Written as spec;
 
-use crate::fault::BindFault;
-use crate::form::Form;
-use crate::inside::is_inside;
 use crate::scope::{Scope, evaluated};
-use crate::types::Types;
-use crate::value::{element_of, parts_of, set_of};
+use opl_given::{BindFault, Form, Types, element_of, is_inside, parts_of, set_of};
 use opl_list::Seq;
 use opl_term::Term;
 use opl_value::Value;

@@ -1,11 +1,5 @@
 //! Laws of the data values of a model, as contracts of functions without effect.
-ghost use Rattle.opl_bind.specs.Laws.{ArraysAreFilled, CellsFillTheSpace, NeverMemory};
-
-/// An array that is given has as many cells as its index space has keys.
-#[tactic(auto, using(crate::proofs::CellLaws::cells_fill))]
-pub fn cells_fill_the_space()
-    ensures { CellsFillTheSpace }
-{}
+ghost use Rattle.opl_bind.specs.Laws.{ArraysAreFilled, NeverMemory};
 
 /// Each declared array has as many cells as its index space has keys.
 #[tactic(auto, using(crate::proofs::FilledArrays::arrays_filled))]

@@ -5,7 +5,7 @@ ghost use Rattle.std.proofs.Props.{props};
 ghost use Rattle.opl_value.specs.declared.value.Value.{Value};
 ghost use Rattle.opl_value.specs.Order.{value_eq};
 ghost use Rattle.opl_value.specs.Places.{dimension_values, place_in};
-ghost use Rattle.opl_bind.specs.Elements.{listed_values};
+ghost use Rattle.opl_given.specs.Elements.{listed_values};
 
 use opl_value::{Dimension, Value};
 use std::collections::HashMap;

@@ -5,29 +5,23 @@ ghost use Rattle.opl_eval.specs.ArrayKeys.{IsKeyed};
 ghost use Rattle.opl_eval.specs.Visible.{position_in, seen};
 ghost use Rattle.opl_bind.specs.Bind as spec;
 ghost use Rattle.opl_bind.specs.Dimensions.{axes_in, dims_of};
-ghost use Rattle.opl_bind.specs.Faults.{Binds, Does, Gives};
-ghost use Rattle.opl_bind.specs.Forms.{names_of, number_of, with_declaration, with_struct};
-ghost use Rattle.opl_bind.specs.Items.{array_value};
+ghost use Rattle.opl_given.specs.Faults.{Binds, Does, Gives};
+ghost use Rattle.opl_given.specs.Forms.{names_of, number_of, with_declaration, with_struct};
+ghost use Rattle.opl_given.specs.Items.{array_value};
 ghost use Rattle.opl_term.specs.Terms.{add_term};
 ghost use Rattle.opl_bind.specs.Written.{written_cells};
-ghost use Rattle.opl_bind.specs.Readings.{axis_of, data_of, given_of, given_value_of, known_of, texts_lent, texts_of};
+ghost use Rattle.opl_given.specs.Readings.{axis_of, given_of, given_value_of, known_of, texts_lent, texts_of};
+ghost use Rattle.opl_bind.specs.Readings.{data_of};
 
-use crate::assigned::Override;
-use crate::axis::Axis;
-use crate::declare::{copies, form_of, listed_names};
 use crate::dimension::{axes_in, number_in};
-use crate::enumeration::given_names;
-use crate::fault::BindFault;
-use crate::form::Form;
-use crate::given::{Given, GivenValue, all_given};
-use crate::index::position_of;
-use crate::item::{given_array, is_array, missing, single_value};
-use crate::names::Names;
-use crate::space::{array_over, keys_of};
-use crate::types::Types;
 use crate::written::{written_cells, written_value};
 use opl_data::DataFile;
 use opl_eval::{Environment, Positions};
+use opl_given::{
+    Axis, BindFault, Form, Given, GivenValue, Names, Override, Types, all_given, array_over,
+    copied_names, form_of, given_array, given_names, is_array, keys_of, listed_names, missing,
+    position_of, single_value,
+};
 use opl_list::Seq;
 use opl_term::add_term;
 use opl_token::Name;
@@ -94,7 +88,7 @@ fn array_given(
 }
 
 /// One value, and no array. Typing rules out that an item without dimensions is one.
-#[tactic(auto, using(crate::proofs::Plain::plain))]
+#[tactic(auto, using(opl_given::proofs::Plain::plain))]
 fn alone(at: u32, value: Value) -> Result<Value, BindFault>
     ensures value { Binds (spec.alone at value) result }
     ensures keyed { IfOk result IsKeyed }
@@ -133,7 +127,7 @@ fn value_written(
     ensures keyed { IfOk result IsKeyed }
 {
     let term = add_term(alloc, e)?;
-    let value = written_value(alloc, &before.types, &before.environment, form, &term)?;
+    let value = written_value(alloc, &before.types, &before.environment, form, term.get())?;
     alone(e.at, value)
 }
 
@@ -157,12 +151,12 @@ fn cells_written(
         &dims.first,
         dims.rest.as_slice(),
         axes,
-        &term,
+        term.get(),
     )
 }
 
 /// The array whose cells expressions come to.
-#[tactic(auto, using(crate::proofs::Spaces::spaces))]
+#[tactic(auto, using(opl_given::proofs::Spaces::spaces))]
 fn array_written(
     alloc: Global,
     before: &DataValues<'_>,
@@ -243,7 +237,7 @@ impl<'a> DataValues<'a> {
     }
 
     /// The names of each enumeration, by the number of its declaration; none for what is no enumeration.
-    #[tactic(auto, unfolding(crate::specs::Readings::known_of))]
+    #[tactic(auto, unfolding(opl_given::specs::Readings::known_of))]
     pub fn enumerations(&self, alloc: Global) -> Result<Seq<Seq<&'a [u8]>>, AllocError>
         ensures { IfOk result (λ all. map (λ names. map (λ name. name.now) names) all ≡ (data_of self.now).known.enumerations) }
     {
@@ -341,7 +335,7 @@ impl<'a> DataValues<'a> {
             mut environment,
             types,
         } = self;
-        let value = Value::Names(copies(alloc, &names)?);
+        let value = Value::Names(copied_names(alloc, &names)?);
         environment.declare(alloc, name, value, types.number())?;
         let types = types.with_enumeration(alloc, name, names)?;
         Ok(DataValues { environment, types })

@@ -2,21 +2,18 @@
 ghost use Rattle.std.specs.Prelude.{◌≡◌, ◌<◌, ◌∷◌, ◌++◌, ◌^◌, [], IfOk, None, Some, length, map, nat_eq, set};
 ghost use Rattle.opl_value.specs.Places.{place_in};
 ghost use Rattle.opl_eval.specs.Evaluation.{meaning};
-ghost use Rattle.opl_bind.specs.Arrays as arrays;
+ghost use Rattle.opl_given.specs.Arrays as arrays;
 ghost use Rattle.opl_bind.specs.Cells.{fits, fits_at, key_place, terms_at};
 ghost use Rattle.opl_bind.specs.Dimensions.{evaluated};
-ghost use Rattle.opl_bind.specs.Faults.{Binds, Gives, provided, then};
-ghost use Rattle.opl_bind.specs.Readings.{axis_of, known_of, lent};
+ghost use Rattle.opl_given.specs.Faults.{Binds, Gives, provided, then};
+ghost use Rattle.opl_given.specs.Readings.{axis_of, known_of, lent};
 ghost use Rattle.opl_bind.specs.Scopes.{names_in};
-ghost use Rattle.opl_bind.specs.Values.{all_by_form};
+ghost use Rattle.opl_given.specs.Values.{all_by_form};
 ghost use Rattle.opl_bind.specs.Written as spec;
 
-use crate::axis::Axis;
-use crate::fault::BindFault;
 use crate::fitted::{first_token, fitted};
-use crate::form::Form;
 use crate::scope::{Scope, evaluated};
-use crate::types::Types;
+use opl_given::{Axis, BindFault, Form, Types};
 use opl_list::Seq;
 use opl_term::Term;
 use opl_value::Value;

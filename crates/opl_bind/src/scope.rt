@@ -2,11 +2,11 @@
 ghost use Rattle.std.specs.Prelude.{◌≡◌};
 ghost use Rattle.opl_eval.specs.Evaluation.{meaning};
 ghost use Rattle.opl_bind.specs.Dimensions as spec;
-ghost use Rattle.opl_bind.specs.Faults.{Binds};
+ghost use Rattle.opl_given.specs.Faults.{Binds};
 ghost use Rattle.opl_bind.specs.Scopes.{names_in};
 
-use crate::fault::BindFault;
 use opl_eval::{Environment, EvalFault, Parameter, eval};
+use opl_given::BindFault;
 use opl_term::Term;
 use opl_value::Value;
 use std::alloc::Global;

@@ -3,22 +3,17 @@ ghost use Rattle.std.specs.Prelude.{◌≡◌, ◌+◌, ◌*◌, ◌<◌, ◌∷
 ghost use Rattle.std.specs.List.{flat_map, list_all};
 ghost use Rattle.opl_value.specs.declared.value.Dimension.TheViews.{out-Value};
 ghost use Rattle.opl_value.specs.Places.{dimension_values, value_at};
-ghost use Rattle.opl_bind.specs.Arrays.{values_of};
-ghost use Rattle.opl_bind.specs.Faults.{Binds, Does, Gives, then};
-ghost use Rattle.opl_bind.specs.Inside as inside;
-ghost use Rattle.opl_bind.specs.Readings.{axis_of, known_of};
+ghost use Rattle.opl_given.specs.Arrays.{values_of};
+ghost use Rattle.opl_given.specs.Faults.{Binds, Does, Gives, then};
+ghost use Rattle.opl_given.specs.Inside as inside;
+ghost use Rattle.opl_given.specs.Readings.{axis_of, known_of};
 ghost use Rattle.opl_bind.specs.Scopes.{names_in};
 ghost use Rattle.opl_bind.specs.Written as spec;
 
-use crate::axis::Axis;
-use crate::elements::elements_of;
-use crate::fault::BindFault;
 use crate::fitted::first_token;
-use crate::form::Form;
-use crate::inside::is_inside;
 use crate::lookup::Lookup;
 use crate::scope::{Scope, evaluated};
-use crate::types::Types;
+use opl_given::{Axis, BindFault, Form, Types, elements_of, is_inside};
 use opl_list::Seq;
 use opl_term::Term;
 use opl_value::{Dimension, Value};

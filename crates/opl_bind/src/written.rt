@@ -2,21 +2,18 @@
 ghost use Rattle.std.specs.Prelude.{◌≡◌, ◌∷◌, map};
 ghost use Rattle.std.specs.List.{list_any};
 ghost use Rattle.opl_eval.specs.Visible.{seen};
-ghost use Rattle.opl_bind.specs.Faults.{Binds};
-ghost use Rattle.opl_bind.specs.Readings.{axis_of, known_of};
+ghost use Rattle.opl_given.specs.Faults.{Binds};
+ghost use Rattle.opl_given.specs.Readings.{axis_of, known_of};
 ghost use Rattle.opl_bind.specs.Scopes.{names_in};
 ghost use Rattle.opl_bind.specs.Written as spec;
 
-use crate::axis::Axis;
 use crate::each::each_key;
-use crate::fault::BindFault;
 use crate::fitted::fitted;
-use crate::form::Form;
 use crate::opened::listed_cells;
 use crate::scope::Scope;
 use crate::taken::taken_cells;
-use crate::types::Types;
 use opl_eval::Environment;
+use opl_given::{Axis, BindFault, Form, Types};
 use opl_list::Seq;
 use opl_term::Term;
 use opl_tree::DimTree;

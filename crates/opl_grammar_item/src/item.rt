@@ -1,12 +1,12 @@
 //! Items, their lists and the instruction.
 ghost use Rattle.std.specs.Prelude.{◌≡◌};
 ghost use Rattle.opl_grammar.specs.Input as steps;
-ghost use Rattle.opl_grammar.specs.Input.{Reads, ◌<$>◌};
+ghost use Rattle.opl_grammar.specs.Input.{Reads};
 ghost use Rattle.opl_grammar.specs.Items as rules;
 ghost use Rattle.opl_grammar.specs.Items.{ItemRules};
 ghost use Rattle.opl_grammar.specs.Rules as phrases;
 ghost use Rattle.opl_grammar.specs.Tables as tables;
-ghost use Rattle.opl_tree.specs.declared.instruction.ItemTree.TheVariants as items_are;
+ghost use Rattle.opl_grammar_item.specs.Blocks.{block_item};
 
 use opl_grammar::Cursor;
 use opl_grammar::list::{Part, behind};
@@ -78,7 +78,7 @@ impl<B: Below, I: Inner> Items<B, I> {
     fn block_item(&self, cursor: &mut Cursor<'_>) -> Result<Boxed<ItemTree>, SyntaxFault>
         requires level { B.is_ready self.now.level.below }
         requires inner { I.is_ready self.now.inner }
-        ensures { Reads ((items_are.Block <$> rules.block (B.rules self.now.level.below) (I.rules self.now.inner)) cursor.old) result cursor.new }
+        ensures { Reads (block_item (B.rules self.now.level.below) (I.rules self.now.inner) cursor.old) result cursor.new }
     {
         let item = ItemTree::Block(self.block(cursor)?);
         Ok(Boxed::new(self.level.alloc, item)?)

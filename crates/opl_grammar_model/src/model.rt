@@ -1,5 +1,6 @@
 //! Whole models.
 ghost use Rattle.std.specs.Prelude.{◌≡◌};
+ghost use Rattle.opl_grammar.specs.Input as steps;
 ghost use Rattle.opl_grammar.specs.Input.{Input, Reads};
 ghost use Rattle.opl_grammar.specs.Items as items;
 ghost use Rattle.opl_grammar.specs.Model as rules;
@@ -11,14 +12,29 @@ use opl_grammar::Cursor;
 use opl_grammar_declaration::decls;
 use opl_grammar_item::instr;
 use opl_grammar_statement::search_section;
-use opl_level::Level;
+use opl_level::{Level, keep};
 use opl_phrase::Phrases;
 use opl_token::Token;
-use opl_tree::{Keyword, ModelTree, SyntaxFault};
+use opl_tree::{Keyword, ModelTree, SearchTree, SyntaxFault};
 use std::alloc::Global;
 
 /// How many levels a model may open one in another.
 pub const MAX_NESTING: u32 = 256;
+
+/// `SEARCH` or nothing, where so many levels may be opened
+fn optional_search(
+    alloc: Global,
+    levels: u32,
+    cursor: &mut Cursor<'_>,
+) -> Result<Option<SearchTree>, SyntaxFault>
+    ensures { Reads (steps.maybe (steps.is_word Keyword.Search) (statements.search_section (phrases.rules levels) (statements.statement_rules levels)) cursor.old) result cursor.new }
+{
+    if cursor.sees_word(Keyword::Search) {
+        Ok(Some(search_section(alloc, levels, cursor)?))
+    } else {
+        Ok(None)
+    }
+}
 
 /// `DECL* INSTR [SEARCH]`, where so many levels may be opened
 #[tactic(auto, unfolding(opl_grammar::specs::Model::model))]
@@ -31,12 +47,8 @@ fn model(alloc: Global, levels: u32, cursor: &mut Cursor<'_>) -> Result<ModelTre
     };
     let at = cursor.place();
     let decls = decls(&level, cursor)?;
-    let instr = instr(alloc, levels, cursor)?;
-    let search = if cursor.sees_word(Keyword::Search) {
-        Some(search_section(alloc, levels, cursor)?)
-    } else {
-        None
-    };
+    let parts = keep(decls, instr(alloc, levels, cursor))?;
+    let ((decls, instr), search) = keep(parts, optional_search(alloc, levels, cursor))?;
     Ok(ModelTree {
         at,
         decls,
@@ -51,7 +63,7 @@ fn whole(alloc: Global, cursor: &mut Cursor<'_>) -> Result<ModelTree, SyntaxFaul
     ensures { Reads (rules.whole cursor.old) result cursor.new }
 {
     let tree = model(alloc, MAX_NESTING, cursor)?;
-    cursor.finish()?;
+    let (tree, ()) = keep(tree, cursor.finish())?;
     Ok(tree)
 }
 

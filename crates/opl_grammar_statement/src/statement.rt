@@ -1,11 +1,11 @@
 //! Statements, their lists and the search section.
 ghost use Rattle.std.specs.Prelude.{◌≡◌};
 ghost use Rattle.opl_grammar.specs.Input as steps;
-ghost use Rattle.opl_grammar.specs.Input.{Reads, ◌<$>◌};
+ghost use Rattle.opl_grammar.specs.Input.{Reads};
 ghost use Rattle.opl_grammar.specs.Search as rules;
 ghost use Rattle.opl_grammar.specs.Search.{StatementRules};
 ghost use Rattle.opl_grammar.specs.Tables as tables;
-ghost use Rattle.opl_tree.specs.declared.search.StatementTree.TheVariants as statements_are;
+ghost use Rattle.opl_grammar_statement.specs.Blocks.{block_statement};
 
 use opl_grammar::Cursor;
 use opl_grammar::list::{Part, Phrase, after_each, behind};
@@ -104,7 +104,7 @@ impl<B: Below, I: Beneath> Statements<B, I> {
     fn block_statement(&self, cursor: &mut Cursor<'_>) -> Result<Boxed<StatementTree>, SyntaxFault>
         requires level { B.is_ready self.now.level.below }
         requires inner { I.is_ready self.now.inner }
-        ensures { Reads ((statements_are.Block <$> rules.search_block (B.rules self.now.level.below) (I.rules self.now.inner)) cursor.old) result cursor.new }
+        ensures { Reads (block_statement (B.rules self.now.level.below) (I.rules self.now.inner) cursor.old) result cursor.new }
     {
         let tree = StatementTree::Block(self.search_block(cursor)?);
         Ok(Boxed::new(self.level.alloc, tree)?)

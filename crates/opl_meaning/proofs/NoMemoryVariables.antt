@@ -16,11 +16,12 @@ use Rattle.opl_eval.specs.declared.fault.EvalFault.TheVariants as evaluation_fau
 use Rattle.opl_eval.specs.Compare.{number}
 use Rattle.opl_eval.specs.Evaluation.{Environment, Found, eval}
 use Rattle.opl_eval.proofs.NoMemory as evaluation
-use Rattle.opl_bind.specs.declared.fault.BindFault.{BindFault}
-use Rattle.opl_bind.specs.declared.fault.BindFault.TheVariants as faults
+use Rattle.opl_given.specs.declared.fault.BindFault.{BindFault}
+use Rattle.opl_given.specs.declared.fault.BindFault.TheVariants as faults
 use Rattle.opl_bind.specs.Dimensions.{space_in}
-use Rattle.opl_bind.specs.Faults.{Bound}
-use Rattle.opl_bind.proofs.NoMemory as binding
+use Rattle.opl_given.specs.Faults.{Bound}
+use Rattle.opl_given.proofs.NoMemory as binding
+use Rattle.opl_bind.proofs.NoMemoryDimensions.{evaluated_space}
 use Rattle.opl_meaning.specs.declared.fault.MeaningFault.{MeaningFault}
 use Rattle.opl_meaning.specs.declared.fault.MeaningFault.TheVariants.{Eval, TooFar, OutOfMemory}
 use Rattle.opl_meaning.specs.declared.variable.DeclaredSet.{DeclaredSet}
@@ -129,7 +130,7 @@ real_each_set t (d ∷ ds) (vs ∷ others) env before =
 real_item_over : (env : Environment) (t : VariableTree) (dims : Option DimsTree) → Real (item_over env t dims)
 real_item_over env t None = real_then (set_in t env) (λ set. Ok (item_with t env None (set ∷ []))) (real_set t env) (λ set. real_ok (item_with t env None (set ∷ [])))
 real_item_over env t (Some dims) =
-    real_then (spaced (space_in env dims)) _ (real_spaced (space_in env dims) (binding.evaluated_space env dims))
+    real_then (spaced (space_in env dims)) _ (real_spaced (space_in env dims) (evaluated_space env dims))
     (λ space. real_found (item_with t env (Some space)) (each_set t (dims.first ∷ dims.rest) (lists space) env []) (real_each_set t (dims.first ∷ dims.rest) (lists space) env []))
 
 pub real_item : (env : Environment) (t : VariableTree) → Real (item_in env t)

@@ -19,9 +19,9 @@ use Rattle.opl_value.specs.Places.{lists}
 use Rattle.opl_eval.specs.Compare.{number}
 use Rattle.opl_eval.specs.Evaluation.{Environment, Item, eval, item_named, with_parameters}
 use Rattle.opl_bind.specs.Dimensions.{space_in}
-use Rattle.opl_bind.specs.Faults.{Bound}
-use Rattle.opl_bind.specs.declared.fault.BindFault.{BindFault}
-use Rattle.opl_bind.specs.declared.fault.BindFault.TheVariants as binding
+use Rattle.opl_given.specs.Faults.{Bound}
+use Rattle.opl_given.specs.declared.fault.BindFault.{BindFault}
+use Rattle.opl_given.specs.declared.fault.BindFault.TheVariants as binding
 use Rattle.opl_meaning.specs.declared.fault.MeaningFault.{MeaningFault}
 use Rattle.opl_meaning.specs.declared.fault.MeaningFault.TheVariants.{Eval, TooFar, OutOfMemory}
 use Rattle.opl_meaning.specs.declared.variable.DeclaredSet.{DeclaredSet}

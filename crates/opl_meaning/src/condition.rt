@@ -21,7 +21,7 @@ fn item(alloc: Global, t: &ItemTree, found: &mut Seq<Term>) -> Result<(), AllocE
         ItemTree::If(..) => Ok(()),
         ItemTree::Precedes(..) => Ok(()),
         ItemTree::Requires(_) => Ok(()),
-        ItemTree::Constraint(t) => found.push(expr_term(alloc, t)?),
+        ItemTree::Constraint(t) => found.push(expr_term(alloc, t)?.into_inner()),
     }
 }
 

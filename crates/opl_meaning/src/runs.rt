@@ -22,7 +22,7 @@ fn condition(
     ensures { IfOk result (λ at. at ≡ (spec.use_of (known_of names.now) (expr_term t.now)).unrun) }
 {
     let term = expr_term(alloc, t)?;
-    Ok(unrun(names, &term))
+    Ok(unrun(names, term.get()))
 }
 
 /// In an item

@@ -39,7 +39,7 @@ pub(crate) fn end_in(alloc: Global, visible: Visible<'_>, t: &AddTree) -> Result
     ensures { Makes (spec.end_in (sees visible.entry) t.now) result }
 {
     let term = add_term(alloc, t)?;
-    let value = value_of(alloc, visible, &term)?;
+    let value = value_of(alloc, visible, term.get())?;
     Ok(number(&value))
 }
 

@@ -30,8 +30,8 @@ use Rattle.opl_tool.specs.Judged.{Named, Held, Scanned, Parsed, DataParsed, HasT
 use Rattle.opl_tool.specs.Data.{Comes as Made, HasData, HasFormulas, HasVariables, Posed, Prepared, Runs, formulas_of, positions, refusal_of_data, refusal_of_value, refusal_of_variables, subject_of}
 use Rattle.opl_tool.specs.Subject.{Subject}
 use Rattle.opl_bind.specs.Bind.{Data, bound}
-use Rattle.opl_bind.specs.declared.fault.BindFault.{BindFault}
-use Rattle.opl_bind.specs.declared.fault.BindFault.TheVariants as binding
+use Rattle.opl_given.specs.declared.fault.BindFault.{BindFault}
+use Rattle.opl_given.specs.declared.fault.BindFault.TheVariants as binding
 use Rattle.opl_eval.specs.declared.fault.EvalFault.{EvalFault}
 use Rattle.opl_eval.specs.declared.fault.EvalFault.TheVariants as evaluation
 use Rattle.opl_bind.proofs.NoMemoryBind.{never_memory as bound_never}

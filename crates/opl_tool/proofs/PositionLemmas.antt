@@ -1,10 +1,10 @@
 -- The positions of fields, as they are kept one after another.
 use Rattle.std.proofs.Common.{◌≡◌, refl, sym, ap, ◌∙◌, subst, ℕ, cond, nat_eq, List, [], ◌∷◌, map, Result, Ok, Err}
 use Rattle.opl_bind.specs.Bind.{Data, bound}
-use Rattle.opl_bind.specs.Faults as of_data
+use Rattle.opl_given.specs.Faults as of_data
 use Rattle.opl_bind.specs.Readings.{data_of}
-use Rattle.opl_bind.specs.declared.assigned.Override.{Override}
-use Rattle.opl_bind.specs.declared.fault.BindFault.{BindFault}
+use Rattle.opl_given.specs.declared.assigned.Override.{Override}
+use Rattle.opl_given.specs.declared.fault.BindFault.{BindFault}
 use Rattle.opl_data.specs.declared.tree.DataFile.{DataFile}
 use Rattle.opl_eval.specs.Visible.{seen}
 use Rattle.opl_eval.specs.declared.environment.Environment as code

@@ -1,9 +1,9 @@
 -- Why a call ends at a fault of its data, its variables or its conditions.
 use Rattle.std.proofs.Common.{◌≡◌, refl, sym, ap, ◌∙◌, subst, ℕ, List, [], map, Option, Some, None, Result, Ok, Err, inl, inr}
 use Rattle.opl_bind.specs.Bind.{Data, bound}
-use Rattle.opl_bind.specs.Faults as of_data
-use Rattle.opl_bind.specs.declared.fault.BindFault.{BindFault}
-use Rattle.opl_bind.specs.declared.fault.BindFault.TheVariants as binding
+use Rattle.opl_given.specs.Faults as of_data
+use Rattle.opl_given.specs.declared.fault.BindFault.{BindFault}
+use Rattle.opl_given.specs.declared.fault.BindFault.TheVariants as binding
 use Rattle.opl_data.specs.declared.tree.DataFile.{DataFile}
 use Rattle.opl_eval.specs.declared.fault.EvalFault.{EvalFault}
 use Rattle.opl_meaning.specs.Faults as of_meaning

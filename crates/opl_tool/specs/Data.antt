@@ -1,8 +1,8 @@
 -- From a model whose expressions have types and its data files to what is solved.
 use Rattle.std.specs.Prelude.{◌≡◌, ⊤, ℕ, cond, nat_eq, List, [], ◌∷◌, map, Option, Some, None, Result, Ok, Err}
 use Rattle.opl_bind.specs.Bind.{Data, bound}
-use Rattle.opl_bind.specs.declared.fault.BindFault.{BindFault}
-use Rattle.opl_bind.specs.declared.fault.BindFault.TheVariants as binding
+use Rattle.opl_given.specs.declared.fault.BindFault.{BindFault}
+use Rattle.opl_given.specs.declared.fault.BindFault.TheVariants as binding
 use Rattle.opl_data.specs.declared.tree.DataFile.{DataFile}
 use Rattle.opl_eval.specs.Evaluation.{Found, all}
 use Rattle.opl_eval.specs.declared.fault.EvalFault.{EvalFault}

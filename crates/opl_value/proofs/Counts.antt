@@ -1,5 +1,5 @@
 -- The number of keys, dimension after dimension.
-use Rattle.std.proofs.Common.{◌≡◌, suc, ◌*◌, ◌≤◌, true, false, List, [], ◌∷◌, length, sym, ap, ◌∙◌, arith, true≢false}
+use Rattle.std.proofs.Common.{◌≡◌, ℕ, suc, ◌*◌, ◌≤◌, true, false, List, [], ◌∷◌, length, sym, ap, ◌∙◌, arith, true≢false}
 use Rattle.std.proofs.Math.Nat.{mul-le-mul_left, mul-le-mul_right}
 use Rattle.std.specs.List.{list_any}
 use Rattle.opl_value.specs.declared.value.Value.{Value}
@@ -22,4 +22,11 @@ first-within d ds filled =
 pub others-within : (d : List Value) (ds : List (List Value)) → list_any has_none (d ∷ ds) ≡ false → elements ds ≤ elements (d ∷ ds)
 others-within d ds filled =
     let more : 1 * elements ds ≤ length d * elements ds = mul-le-mul_right (elements ds) (first-filled d ds filled) in
+    omega arith
+
+-- nor has a dimension more values than a number that isn't 0 times the keys
+pub times-within : (found : ℕ) (d : List Value) (ds : List (List Value)) → 1 ≤ found → list_any has_none (d ∷ ds) ≡ false → length d ≤ found * elements (d ∷ ds)
+times-within found d ds l filled =
+    let more : 1 * elements (d ∷ ds) ≤ found * elements (d ∷ ds) = mul-le-mul_right (elements (d ∷ ds)) l in
+    let first = first-within d ds filled in
     omega arith

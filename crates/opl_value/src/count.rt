@@ -37,10 +37,11 @@ fn product(dims: &[Dimension]) -> Option<u64>
     requires { list_any has_none (map dimension_values dims.now) ≡ false }
     ensures { SomeIff result (elements (map dimension_values dims.now) < 2 ^ 64) (elements (map dimension_values dims.now)) }
 {
-    let Some((dimension, others)) = dims.split_first() else {
-        return Some(1);
-    };
-    dimension.count()?.checked_mul(product(others)?)
+    let mut found = 1u64;
+    for dimension in dims {
+        found = found.checked_mul(dimension.count()?)?;
+    }
+    Some(found)
 }
 
 /// How many whole numbers there are from the first to the second; None exactly where it is past 2^64 - 1.

@@ -1,7 +1,7 @@
 use Rattle.std.proofs.Common.{◌≡◌, [], map, drop}
 use Rattle.opl_eval.specs.Visible.{seen}
 use Rattle.opl_bind.specs.Dimensions as spec
-use Rattle.opl_bind.specs.Readings.{axis_of}
+use Rattle.opl_given.specs.Readings.{axis_of}
 use Rattle.opl_bind.proofs.dimension.axes_in.Given as goal
 
 abbrev pub invariant-loop-t : goal.invariant-loop-t

@@ -1,7 +1,7 @@
 use Rattle.std.proofs.Common.{ap, subst, ◌∙◌, map}
 use Rattle.opl_eval.specs.Visible.{parameter_of}
-use Rattle.opl_bind.specs.Faults.{Binds}
-use Rattle.opl_bind.specs.Readings.{axis_of, known_of}
+use Rattle.opl_given.specs.Faults.{Binds}
+use Rattle.opl_given.specs.Readings.{axis_of, known_of}
 use Rattle.opl_bind.specs.Written as spec
 use Rattle.opl_bind.proofs.WrittenScopes.{within-named}
 use Rattle.opl_bind.proofs.each.+each.Goals as goal

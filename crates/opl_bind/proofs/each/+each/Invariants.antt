@@ -1,7 +1,7 @@
 use Rattle.std.proofs.Common.{◌≡◌, ◌+◌, ◌*◌, length, map}
-use Rattle.opl_bind.specs.Arrays.{values_of}
-use Rattle.opl_bind.specs.Elements.{left}
-use Rattle.opl_bind.specs.Readings.{axis_of, known_of}
+use Rattle.opl_given.specs.Arrays.{values_of}
+use Rattle.opl_given.specs.Elements.{left}
+use Rattle.opl_given.specs.Readings.{axis_of, known_of}
 use Rattle.opl_bind.specs.Scopes.{names_in}
 use Rattle.opl_bind.specs.Written as spec
 use Rattle.opl_bind.proofs.each.+each.Given as goal

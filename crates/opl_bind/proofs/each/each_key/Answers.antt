@@ -1,6 +1,6 @@
 use Rattle.std.proofs.Common.{[], ◌∷◌, ap, map, sym, ◌∙◌}
-use Rattle.opl_bind.specs.Arrays.{values_of}
-use Rattle.opl_bind.specs.Readings.{axis_of, known_of}
+use Rattle.opl_given.specs.Arrays.{values_of}
+use Rattle.opl_given.specs.Readings.{axis_of, known_of}
 use Rattle.opl_bind.specs.Scopes.{names_in}
 use Rattle.opl_bind.specs.Written as spec
 use Rattle.opl_bind.proofs.Answering.{gives_same}

@@ -1,4 +1,4 @@
-use Rattle.opl_bind.specs.Readings.{known_of}
+use Rattle.opl_given.specs.Readings.{known_of}
 use Rattle.opl_bind.specs.Scopes.{names_in}
 use Rattle.opl_bind.proofs.Answering.{gives_same}
 use Rattle.opl_bind.proofs.WrittenLayers.{fit-whole}

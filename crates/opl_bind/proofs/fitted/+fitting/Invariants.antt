@@ -1,8 +1,8 @@
 use Rattle.std.proofs.Common.{◌≡◌, ◌+◌, [], map, drop}
 use Rattle.opl_eval.specs.Weights.{total, weight}
-use Rattle.opl_bind.specs.Readings.{known_of}
+use Rattle.opl_given.specs.Readings.{known_of}
 use Rattle.opl_bind.specs.Scopes.{names_in}
-use Rattle.opl_bind.specs.Values.{all_by_form, each_by_form}
+use Rattle.opl_given.specs.Values.{all_by_form, each_by_form}
 use Rattle.opl_bind.specs.Written as spec
 use Rattle.opl_bind.proofs.fitted.+fitting.Given as goal
 

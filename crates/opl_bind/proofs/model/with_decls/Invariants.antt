@@ -1,6 +1,7 @@
 use Rattle.std.proofs.Common.{◌≡◌, drop}
 use Rattle.opl_bind.specs.Bind as spec
-use Rattle.opl_bind.specs.Readings.{data_of, given_of}
+use Rattle.opl_given.specs.Readings.{given_of}
+use Rattle.opl_bind.specs.Readings.{data_of}
 use Rattle.opl_bind.proofs.model.with_decls.Given as goal
 
 abbrev pub invariant-loop-t : goal.invariant-loop-t

@@ -2,11 +2,11 @@ use Rattle.std.proofs.Common.{◌+◌, ◌∷◌, [], Bor, Global, List, Ok, Opt
 use Rattle.opl_term.specs.declared.term.Term.{Term}
 use Rattle.std.proofs.lemmas.List.{nil_from_length}
 use Rattle.std.specs.Prelude.{nat_eq}
-use Rattle.opl_bind.specs.declared.fault.BindFault.TheVariants.{Shape}
-use Rattle.opl_bind.specs.Arrays.{values_of}
+use Rattle.opl_given.specs.declared.fault.BindFault.TheVariants.{Shape}
+use Rattle.opl_given.specs.Arrays.{values_of}
 use Rattle.opl_bind.specs.Cells.{fits, fits_at, terms_at}
-use Rattle.opl_bind.specs.Faults.{found, provided, then}
-use Rattle.opl_bind.specs.Readings.{axis_of, known_of, lent}
+use Rattle.opl_given.specs.Faults.{found, provided, then}
+use Rattle.opl_given.specs.Readings.{axis_of, known_of, lent}
 use Rattle.opl_bind.specs.Scopes.{names_in}
 use Rattle.opl_bind.specs.Written as spec
 use Rattle.opl_bind.proofs.Answering.{gives_same}

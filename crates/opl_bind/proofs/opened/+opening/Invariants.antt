@@ -1,7 +1,7 @@
 use Rattle.std.proofs.Common.{◌≡◌, ◌+◌, ◌*◌, [], drop, length, map}
-use Rattle.opl_bind.specs.declared.fault.BindFault.TheVariants.{Shape}
+use Rattle.opl_given.specs.declared.fault.BindFault.TheVariants.{Shape}
 use Rattle.opl_bind.specs.Cells.{fits, fits_at, terms_at}
-use Rattle.opl_bind.specs.Readings.{axis_of, known_of, lent}
+use Rattle.opl_given.specs.Readings.{axis_of, known_of, lent}
 use Rattle.opl_bind.specs.Scopes.{names_in}
 use Rattle.opl_bind.specs.Written as spec
 use Rattle.opl_bind.proofs.opened.+opening.Given as goal

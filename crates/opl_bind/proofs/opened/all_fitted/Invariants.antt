@@ -1,8 +1,8 @@
 use Rattle.std.proofs.Common.{◌≡◌, [], drop, map}
 use Rattle.opl_bind.specs.Cells.{fits}
-use Rattle.opl_bind.specs.Readings.{known_of, lent}
+use Rattle.opl_given.specs.Readings.{known_of, lent}
 use Rattle.opl_bind.specs.Scopes.{names_in}
-use Rattle.opl_bind.specs.Values.{all_by_form}
+use Rattle.opl_given.specs.Values.{all_by_form}
 use Rattle.opl_bind.proofs.opened.all_fitted.Given as goal
 
 abbrev pub invariant-loop-cell : goal.invariant-loop-cell

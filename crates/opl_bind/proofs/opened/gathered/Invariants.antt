@@ -1,7 +1,7 @@
 use Rattle.std.proofs.Common.{◌≡◌, [], drop}
-use Rattle.opl_bind.specs.declared.fault.BindFault.TheVariants.{Shape}
+use Rattle.opl_given.specs.declared.fault.BindFault.TheVariants.{Shape}
 use Rattle.opl_bind.specs.Cells.{terms_at}
-use Rattle.opl_bind.specs.Readings.{lent}
+use Rattle.opl_given.specs.Readings.{lent}
 use Rattle.opl_bind.specs.Written as spec
 use Rattle.opl_bind.proofs.opened.gathered.Given as goal
 

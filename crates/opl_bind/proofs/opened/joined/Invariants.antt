@@ -1,5 +1,5 @@
 use Rattle.std.proofs.Common.{◌≡◌, ◌++◌, drop}
-use Rattle.opl_bind.specs.Readings.{lent}
+use Rattle.opl_given.specs.Readings.{lent}
 use Rattle.opl_bind.proofs.opened.joined.Given as goal
 
 abbrev pub invariant-loop-cell : goal.invariant-loop-cell

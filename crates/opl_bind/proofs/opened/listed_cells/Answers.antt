@@ -1,7 +1,7 @@
 use Rattle.std.proofs.Common.{Bor, List, ap, map, rules}
 use Rattle.opl_term.specs.declared.term.Term.{Term}
 use Rattle.opl_bind.specs.Cells.{fits}
-use Rattle.opl_bind.specs.Readings.{axis_of, known_of, lent}
+use Rattle.opl_given.specs.Readings.{axis_of, known_of, lent}
 use Rattle.opl_bind.specs.Scopes.{names_in}
 use Rattle.opl_bind.proofs.Answering.{gives_same}
 use Rattle.opl_bind.proofs.CellSlots.{listed-fault, listed-found}

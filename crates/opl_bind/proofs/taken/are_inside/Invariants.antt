@@ -1,7 +1,7 @@
 use Rattle.std.proofs.Common.{◌≡◌, drop}
 use Rattle.std.specs.List.{list_all}
-use Rattle.opl_bind.specs.Inside.{is_inside}
-use Rattle.opl_bind.specs.Readings.{known_of}
+use Rattle.opl_given.specs.Inside.{is_inside}
+use Rattle.opl_given.specs.Readings.{known_of}
 use Rattle.opl_bind.proofs.taken.are_inside.Given as goal
 
 abbrev pub invariant-loop-cell : goal.invariant-loop-cell

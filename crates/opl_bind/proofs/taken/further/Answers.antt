@@ -2,9 +2,9 @@ use Rattle.std.proofs.Common.{◌≡◌, ◌+◌, ◌*◌, ap, length, map, subs
 use Rattle.std.specs.List.{flat_map}
 use Rattle.std.specs.Prelude.{IfSome, is_some}
 use Rattle.opl_value.specs.Places.{dimension_values}
-use Rattle.opl_bind.specs.declared.fault.BindFault.TheVariants.{Shape}
-use Rattle.opl_bind.specs.Arrays.{values_of}
-use Rattle.opl_bind.specs.Readings.{axis_of}
+use Rattle.opl_given.specs.declared.fault.BindFault.TheVariants.{Shape}
+use Rattle.opl_given.specs.Arrays.{values_of}
+use Rattle.opl_given.specs.Readings.{axis_of}
 use Rattle.opl_bind.specs.Written as spec
 use Rattle.opl_bind.proofs.TakenArrays.{further-found, gives_done}
 use Rattle.opl_bind.proofs.taken.further.Goals as goal

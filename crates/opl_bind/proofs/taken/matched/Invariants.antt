@@ -1,9 +1,9 @@
 use Rattle.std.proofs.Common.{◌≡◌, [], length}
 use Rattle.opl_value.specs.Places.{dimension_values}
-use Rattle.opl_bind.specs.declared.fault.BindFault.TheVariants.{Shape}
-use Rattle.opl_bind.specs.Arrays.{values_of}
-use Rattle.opl_bind.specs.Elements.{left}
-use Rattle.opl_bind.specs.Readings.{axis_of}
+use Rattle.opl_given.specs.declared.fault.BindFault.TheVariants.{Shape}
+use Rattle.opl_given.specs.Arrays.{values_of}
+use Rattle.opl_given.specs.Elements.{left}
+use Rattle.opl_given.specs.Readings.{axis_of}
 use Rattle.opl_bind.specs.Written as spec
 use Rattle.opl_bind.proofs.taken.matched.Given as goal
 

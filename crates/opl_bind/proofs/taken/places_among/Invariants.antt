@@ -1,8 +1,8 @@
 use Rattle.std.proofs.Common.{◌≡◌, [], ◌∷◌, drop, map}
 use Rattle.opl_value.specs.Places.{dimension_values}
-use Rattle.opl_bind.specs.declared.fault.BindFault.TheVariants.{Shape}
-use Rattle.opl_bind.specs.Arrays.{values_of}
-use Rattle.opl_bind.specs.Readings.{axis_of}
+use Rattle.opl_given.specs.declared.fault.BindFault.TheVariants.{Shape}
+use Rattle.opl_given.specs.Arrays.{values_of}
+use Rattle.opl_given.specs.Readings.{axis_of}
 use Rattle.opl_bind.specs.Written as spec
 use Rattle.opl_bind.proofs.taken.places_among.Given as goal
 

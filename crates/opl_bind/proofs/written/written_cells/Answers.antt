@@ -1,5 +1,5 @@
 use Rattle.std.proofs.Common.{◌∷◌, map}
-use Rattle.opl_bind.specs.Readings.{axis_of, known_of}
+use Rattle.opl_given.specs.Readings.{axis_of, known_of}
 use Rattle.opl_bind.proofs.Answering.{gives_same}
 use Rattle.opl_bind.proofs.WrittenScopes.{written_cells-is}
 use Rattle.opl_bind.proofs.written.written_cells.Goals as goal

@@ -1,5 +1,5 @@
 use Rattle.std.proofs.Common.{◌≡◌, ◌++◌, map, drop}
-use Rattle.opl_bind.specs.Readings.{texts_of}
+use Rattle.opl_given.specs.Readings.{texts_of}
 use Rattle.opl_bind.proofs.model.DataValues.enumerations.Given as goal
 
 abbrev pub invariant-loop-names : goal.invariant-loop-names

@@ -1,7 +1,7 @@
 use Rattle.std.proofs.Common.{ap, ◌∙◌}
 use Rattle.opl_eval.specs.Evaluation.{declared}
 use Rattle.opl_eval.specs.Visible.{seen}
-use Rattle.opl_bind.specs.Readings.{known_of}
+use Rattle.opl_given.specs.Readings.{known_of}
 use Rattle.opl_bind.proofs.Data.{ends-kept}
 use Rattle.opl_bind.proofs.model.DataValues.with_ends.Goals as goal
 

@@ -1,7 +1,8 @@
 use Rattle.std.proofs.Common.{◌≡◌, map, subst, sym}
 use Rattle.opl_eval.specs.Visible.{seen}
 use Rattle.opl_bind.specs.Bind.{with_listed}
-use Rattle.opl_bind.specs.Readings.{data_of, known_of}
+use Rattle.opl_given.specs.Readings.{known_of}
+use Rattle.opl_bind.specs.Readings.{data_of}
 use Rattle.opl_bind.proofs.Data.{listed-kept}
 use Rattle.opl_bind.proofs.Answering.{does_more}
 use Rattle.opl_bind.proofs.model.DataValues.with_listed.Goals as goal

@@ -1,7 +1,0 @@
-use Rattle.std.proofs.Common.{◌≡◌, drop}
-use Rattle.std.specs.List.{list_all}
-use Rattle.opl_bind.specs.Assigned as spec
-use Rattle.opl_bind.proofs.assigned.are_within.Given as goal
-
-abbrev pub invariant-loop-value : goal.invariant-loop-value
-invariant-loop-value l = list_all (spec.is_within l.form) l.values ≡ list_all (spec.is_within l.form) (drop l.value-index l.values)

@@ -1,6 +1,0 @@
-use Rattle.std.proofs.Common.{◌≡◌, drop}
-use Rattle.opl_bind.specs.Assigned as spec
-use Rattle.opl_bind.proofs.assigned.is_assigned.Given as goal
-
-abbrev pub invariant-loop-given : goal.invariant-loop-given
-invariant-loop-given l = spec.is_assigned l.name l.overrides ≡ spec.is_assigned l.name (drop l.given-index l.overrides)

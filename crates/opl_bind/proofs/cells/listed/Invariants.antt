@@ -1,6 +1,0 @@
-use Rattle.std.proofs.Common.{◌≡◌, ◌++◌, drop}
-use Rattle.opl_bind.specs.Readings.{lent}
-use Rattle.opl_bind.proofs.cells.listed.Given as goal
-
-abbrev pub invariant-loop-part : goal.invariant-loop-part
-invariant-loop-part l = l.parts ≡ lent l.cells ++ drop l.part-index l.parts

@@ -1,6 +1,0 @@
-use Rattle.std.proofs.Common.{◌≡◌, ◌++◌, drop}
-use Rattle.opl_bind.specs.Axes.{names_from}
-use Rattle.opl_bind.proofs.index.name_values.Given as goal
-
-abbrev pub invariant-loop-place : goal.invariant-loop-place
-invariant-loop-place l = names_from l.declaration 0 l.names ≡ l.values ++ names_from l.declaration l.place (drop l.place l.names)

@@ -1,0 +1,15 @@
+pub mod CellLaws
+pub mod DimensionElements
+pub mod Enumerations
+pub mod Examples
+pub mod Gifts
+pub mod Insides
+pub mod Kept
+pub mod Layers
+pub mod Learnt
+pub mod NoMemory
+pub mod Numbers
+pub mod Places
+pub mod Plain
+pub mod Slots
+pub mod Spaces

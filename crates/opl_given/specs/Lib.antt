@@ -1,0 +1,15 @@
+pub mod Arrays
+pub mod Assigned
+pub mod Axes
+pub mod Elements
+pub mod Enumerations
+pub mod Faults
+pub mod Forms
+pub mod Given
+pub mod Inside
+pub mod Items
+pub mod Laws
+pub mod Names
+pub mod Readings
+pub mod Turns
+pub mod Values
