@@ -11,6 +11,7 @@ use Rattle.opl_type_rules.specs.declared.kind.Ty.{Ty}
 use Rattle.opl_type_rules.specs.declared.names.Local.{Local}
 use Rattle.opl_type_rules.specs.declared.names.Names.{Names}
 use Rattle.opl_tree.specs.declared.expression.PatternTree.{PatternTree}
+use Rattle.opl_type_rules.specs.declared.chain.Chain as chains
 use Rattle.opl_type_rules.specs.declared.node.Node as nodes
 use Rattle.opl_type_rules.specs.declared.rules.Range as ranges
 use Rattle.opl_type_rules.specs.Types.{Sort, sort, is_set, is_truth, is_storable}
@@ -21,10 +22,11 @@ use Rattle.opl_type_rules.specs.Forms.Form.{described}
 use Rattle.opl_type_rules.specs.Forms.Suffix.{subscripts, field_of}
 use Rattle.opl_type_rules.specs.Expressions.{Node, Need, Range, Opened, node, of_data, kinds, kinds_in, part, used, settled, element_node, field_node, pattern_names, bind_patterns, or_anything, names_of_params, scope_within, typing, typed_parts, typed_set, open_groups, open_params}
 use Rattle.opl_type_rules.specs.Expressions.Need.{data_alone}
-use Rattle.opl_type_rules.specs.Steps.{suffix_node, suffixed, open_one, open_each}
-use Rattle.opl_type_rules.specs.Values.{Gives, node_of, range_of, scope_of, within}
+use Rattle.opl_type_rules.specs.Steps.{suffix_node, suffixed, open_one, open_each, with_inner, grown}
+use Rattle.opl_type_rules.specs.Values.{Does, Gives, chained, node_of, range_of, scope_of, within}
 use Rattle.opl_expression_types.specs.Values.{opened_in}
-use Rattle.opl_type_rules.proofs.Chains.{gives-fault, gives-same}
+use Rattle.opl_type_rules.proofs.Chains.{gives-fault, gives-memory, gives-same}
+use Rattle.opl_type_rules.proofs.Links.{gives-other, link-inner}
 use Rattle.opl_expression_types.proofs.Inside.{alike-within}
 use Rattle.opl_expression_types.proofs.Likeness.{element-alike, field-alike}
 use Rattle.opl_expression_types.proofs.Typing.{typing-described}
@@ -62,34 +64,57 @@ pub post_fault : (sc : Scope) (at : ℕ) (whole f : Form) (ss : List Suffix) →
 post_fault sc at whole f ss is e h =
     gives-same node_of (typing sc whole) _ (Err e) (ap (typing sc) is ∙ typing-suffixes sc at f ss) (gives-suffixed sc at (typing sc f) ss e h)
 
-module _ {T : Type 0} (sc : Scope) (at : ℕ) (form : T → Suffix) (whole : Checked Node) (xs : List T) (i : ℕ) (base : nodes.Node)
-    (so_far : whole ≡ suffixed sc at (Ok (node_of base)) (map form (drop i xs))) where
-  pub suffixes_end : length xs ≤ i → whole ≡ Ok (node_of base)
-  suffixes_end all = so_far ∙ at_drop_all (λ ys. suffixed sc at (Ok (node_of base)) (map form ys)) xs i all
+module _ {T : Type 0} (sc : Scope) (at : ℕ) (form : T → Suffix) (whole : Checked Node) (xs : List T) (i : ℕ) (base : Node)
+    (so_far : whole ≡ suffixed sc at (Ok base) (map form (drop i xs))) where
+  pub suffixes_end : length xs ≤ i → whole ≡ Ok base
+  suffixes_end all = so_far ∙ at_drop_all (λ ys. suffixed sc at (Ok base) (map form ys)) xs i all
 
   suffix_here : (x : T) → i < length xs → x ≡ get_or xs i x →
-      whole ≡ suffixed sc at (and_then (part (node_of base)) (λ b. suffix_node sc at b (form x))) (map form (drop (i + 1) xs))
+      whole ≡ suffixed sc at (and_then (part base) (λ b. suffix_node sc at b (form x))) (map form (drop (i + 1) xs))
   suffix_here x more here =
-      so_far ∙ at_drop_more (λ ys. suffixed sc at (Ok (node_of base)) (map form ys)) xs i x more
-      ∙ ap (λ y. suffixed sc at (Ok (node_of base)) (map form (y ∷ drop (i + 1) xs))) (sym here)
+      so_far ∙ at_drop_more (λ ys. suffixed sc at (Ok base) (map form ys)) xs i x more
+      ∙ ap (λ y. suffixed sc at (Ok base) (map form (y ∷ drop (i + 1) xs))) (sym here)
 
-  pub base_wrong : (x : T) → i < length xs → x ≡ get_or xs i x → (e : TypeFault) → Gives node_of (part (node_of base)) (Err e) → Gives node_of whole (Err e)
-  base_wrong x more here e h =
-      gives-same node_of whole _ (Err e) (suffix_here x more here) (gives-suffixed sc at _ (map form (drop (i + 1) xs)) e (gives-fault node_of node_of _ _ e h))
+  pub suffix_fault : (x : T) → i < length xs → x ≡ get_or xs i x →
+      (e : TypeFault) → Gives chained (and_then (part base) (λ b. suffix_node sc at b (form x))) (Err e) → Gives node_of whole (Err e)
+  suffix_fault x more here e h =
+      gives-same node_of whole _ (Err e) (suffix_here x more here) (gives-suffixed sc at _ (map form (drop (i + 1) xs)) e (gives-other chained node_of _ e h))
 
-  suffix_of : (x : T) → i < length xs → x ≡ get_or xs i x → (b : nodes.Node) → part (node_of base) ≡ Ok (node_of b) →
-      whole ≡ suffixed sc at (suffix_node sc at (node_of b) (form x)) (map form (drop (i + 1) xs))
-  suffix_of x more here b p = suffix_here x more here ∙ ap (λ c. suffixed sc at (and_then c (λ b. suffix_node sc at b (form x))) (map form (drop (i + 1) xs))) p
+  pub suffix_added : (x : T) → i < length xs → x ≡ get_or xs i x →
+      (next : Node) → and_then (part base) (λ b. suffix_node sc at b (form x)) ≡ Ok next → whole ≡ suffixed sc at (Ok next) (map form (drop (i + 1) xs))
+  suffix_added x more here next h = suffix_here x more here ∙ ap (λ c. suffixed sc at c (map form (drop (i + 1) xs))) h
 
-  pub suffix_fault : (x : T) → i < length xs → x ≡ get_or xs i x → (b : nodes.Node) → part (node_of base) ≡ Ok (node_of b) →
-      (e : TypeFault) → Gives node_of (suffix_node sc at (node_of b) (form x)) (Err e) → Gives node_of whole (Err e)
-  suffix_fault x more here b p e h =
-      gives-same node_of whole _ (Err e) (suffix_of x more here b p) (gives-suffixed sc at _ (map form (drop (i + 1) xs)) e h)
+-- one link more
+module _ (sc : Scope) (at : ℕ) (chain : chains.Chain) (s : Suffix) (bare : nodes.Node) (same : node_of bare ≡ with_inner [] (node_of chain.last)) where
+  link_steps : and_then (part (chained chain)) (λ b. suffix_node sc at b s)
+      ≡ and_then (and_then (part (node_of bare)) (λ b. suffix_node sc at b s)) (λ m. Ok (grown (chained chain).inner m))
+  link_steps =
+      link-inner sc at (chained chain).inner (node_of chain.last) s
+      ∙ ap (λ n. and_then (and_then (part n) (λ b. suffix_node sc at b s)) (λ m. Ok (grown (chained chain).inner m))) (sym same)
 
-  pub suffix_added : (x : T) → i < length xs → x ≡ get_or xs i x → (b : nodes.Node) → part (node_of base) ≡ Ok (node_of b) →
-      (next : nodes.Node) → suffix_node sc at (node_of b) (form x) ≡ Ok (node_of next) → whole ≡ suffixed sc at (Ok (node_of next)) (map form (drop (i + 1) xs))
-  suffix_added x more here b p next h =
-      suffix_of x more here b p ∙ ap (λ c. suffixed sc at c (map form (drop (i + 1) xs))) h
+  pub link_wrong : (e : TypeFault) → Gives node_of (part (node_of bare)) (Err e) → Gives chained (and_then (part (chained chain)) (λ b. suffix_node sc at b s)) (Err e)
+  link_wrong e h = gives-same chained _ _ (Err e) link_steps (gives-fault node_of chained _ _ e (gives-fault node_of node_of _ _ e h))
+
+  pub link_fault : (base : nodes.Node) → part (node_of bare) ≡ Ok (node_of base) → (e : TypeFault) → Gives node_of (suffix_node sc at (node_of base) s) (Err e) →
+      Gives chained (and_then (part (chained chain)) (λ b. suffix_node sc at b s)) (Err e)
+  link_fault base p e h =
+      gives-same chained _ _ (Err e) (link_steps ∙ ap (λ c. and_then (and_then c (λ b. suffix_node sc at b s)) (λ m. Ok (grown (chained chain).inner m))) p)
+      (gives-fault node_of chained _ _ e h)
+
+  pub link_added : (base : nodes.Node) → part (node_of bare) ≡ Ok (node_of base) → (last : nodes.Node) → suffix_node sc at (node_of base) s ≡ Ok (node_of last) →
+      (result : Result chains.Chain TypeFault) → Does (λ r. chained r ≡ grown (chained chain).inner (node_of last)) result →
+      Gives chained (and_then (part (chained chain)) (λ b. suffix_node sc at b s)) result
+  link_added base p last h (Ok r) d =
+      link_steps
+      ∙ ap (λ c. and_then (and_then c (λ b. suffix_node sc at b s)) (λ m. Ok (grown (chained chain).inner m))) p
+      ∙ ap (λ c. and_then c (λ m. Ok (grown (chained chain).inner m))) h
+      ∙ ap (λ m. Ok m) (sym d)
+  link_added base p last h (Err e) d = gives-memory chained _ e d
+
+-- all that stands behind is read
+pub ended_with : (whole : Checked Node) (n : Node) → whole ≡ Ok n → (result : Result nodes.Node TypeFault) → Does (λ r. node_of r ≡ n) result → Gives node_of whole result
+ended_with whole n h (Ok r) d = h ∙ ap (λ m. Ok m) (sym d)
+ended_with whole n h (Err e) d = gives-memory node_of whole e d
 
 -- ---- groups of parameters
 

@@ -2,7 +2,7 @@
 use Rattle.std.proofs.Common.{◌≡◌, ◌≢◌, ℕ, ◌+◌, ◌<◌, suc, Bool, true, false, List, [], ◌∷◌, ◌++◌, map, length, get_or, drop, Option, None, Some, Result, Ok, Err, subst, refl, ap, ◌∙◌, sym, arith}
 use Rattle.std.proofs.lemmas.Grind.{flat_map-append}
 use Rattle.std.proofs.lemmas.Bool.Decides.{nat_tests}
-use Rattle.std.proofs.lemmas.List.{length-map, at_drop_more}
+use Rattle.std.proofs.lemmas.List.{append_assoc, length-map, at_drop_more}
 use Rattle.std.specs.List.{flat_map}
 use Rattle.std.specs.Option.{option_map}
 use Rattle.std.specs.Prelude.{nat_eq}
@@ -35,6 +35,10 @@ with-last (x ∷ xs) l sc = with-last xs l (declared x.name (value (sort x.ty)) 
 pub within-added : (n : Names) (ls : List Local) (l : Local) → within n (ls ++ l ∷ []) ≡ declared l.name (value (sort l.ty)) (within n ls)
 unfolding within
 within-added n ls l = with-last ls l (scope_of n)
+
+-- one more of those that are declared together
+pub within-beside : (n : Names) (ls ms : List Local) (l : Local) → within n (ls ++ (ms ++ l ∷ [])) ≡ declared l.name (value (sort l.ty)) (within n (ls ++ ms))
+within-beside n ls ms l = ap (within n) (sym (append_assoc ls ms (l ∷ []))) ∙ within-added n (ls ++ ms) l
 
 -- ---- names that are taken
 
@@ -202,6 +206,8 @@ pub fresh-not : (sc : Scope) (e : TypeFault) (ns : List NameTree) → taken sc n
 fresh-not sc e ns h = fresh-after sc ns (Err e) h
 
 pub ruleset names_added = (within-added)
+
+pub ruleset names_beside = (within-beside)
 
 pub ruleset names_taken = (taken-next, taken-not, taken-more, taken-fails, fresh-all, fresh-not)
 

@@ -12,19 +12,20 @@ ghost use Rattle.opl_type_rules.specs.Steps as step;
 ghost use Rattle.opl_type_rules.specs.Types.{is_set, sort};
 ghost use Rattle.opl_type_rules.specs.Types.Sort.{anything};
 ghost use Rattle.opl_type_rules.specs.declared.fault.TypeFault.TheVariants.{OutOfMemory};
-ghost use Rattle.opl_type_rules.specs.Values.{Gives, need_of, node_of, range_of, within};
+ghost use Rattle.opl_type_rules.specs.Values.{Does, Gives, chained, need_of, node_of, range_of, within};
 ghost use Rattle.opl_expression_types.specs.Values.{opened_in};
 
 use crate::pattern::{all_fresh, bind_pattern, unknown_params};
-use opl_list::Seq;
+use opl_list::{Boxed, Seq};
 use opl_tree::{
     AddStep, AddTree, AndTree, CallOp, CompareTree, ExprTree, GroupTree, ImpTree, KeyedTree,
     LastStep, MulStep, MulTree, NegTree, OpenTree, OrTree, ParamsTree, PatternTree, PostTree,
     PrimTree, SetTree, SignTree, SubscriptsTree, SuffixTree,
 };
+use opl_type_rules::chain::{Chain, bare, begun, ended, extended};
 use opl_type_rules::fault::TypeFault;
 use opl_type_rules::kind::Ty;
-use opl_type_rules::names::{Local, Names, add_local, copied, fresh};
+use opl_type_rules::names::{Locals, Names, copied};
 use opl_type_rules::node::{Need, Node};
 use opl_type_rules::rules::{
     Range, add_kinds, aggregate, all_different, append, arithmetic, between, bracketed, connected,
@@ -39,7 +40,7 @@ use std::alloc::Global;
 pub fn expr(
     alloc: Global,
     model: &Names<'_>,
-    locals: &[Local],
+    locals: &Locals,
     t: &ExprTree,
 ) -> Result<Node, TypeFault>
     ensures { Gives node_of (spec.typing (within model.now locals.now) (form.form_expr t.now)) result }
@@ -58,7 +59,7 @@ pub fn expr(
 fn imps(
     alloc: Global,
     model: &Names<'_>,
-    locals: &[Local],
+    locals: &Locals,
     first: Node,
     rest: &[ImpTree],
 ) -> Result<Seq<Node>, TypeFault>
@@ -78,7 +79,7 @@ fn imps(
 pub(crate) fn imp(
     alloc: Global,
     model: &Names<'_>,
-    locals: &[Local],
+    locals: &Locals,
     t: &ImpTree,
 ) -> Result<Node, TypeFault>
     ensures { Gives node_of (spec.typing (within model.now locals.now) (form.form_imp t.now)) result }
@@ -100,7 +101,7 @@ pub(crate) fn imp(
 pub(crate) fn or(
     alloc: Global,
     model: &Names<'_>,
-    locals: &[Local],
+    locals: &Locals,
     t: &OrTree,
 ) -> Result<Node, TypeFault>
     ensures { Gives node_of (spec.typing (within model.now locals.now) (form.form_or t.now)) result }
@@ -119,7 +120,7 @@ pub(crate) fn or(
 fn ands(
     alloc: Global,
     model: &Names<'_>,
-    locals: &[Local],
+    locals: &Locals,
     first: Node,
     rest: &[AndTree],
 ) -> Result<Seq<Node>, TypeFault>
@@ -139,7 +140,7 @@ fn ands(
 pub(crate) fn and(
     alloc: Global,
     model: &Names<'_>,
-    locals: &[Local],
+    locals: &Locals,
     t: &AndTree,
 ) -> Result<Node, TypeFault>
     ensures { Gives node_of (spec.typing (within model.now locals.now) (form.form_and t.now)) result }
@@ -158,7 +159,7 @@ pub(crate) fn and(
 fn negs(
     alloc: Global,
     model: &Names<'_>,
-    locals: &[Local],
+    locals: &Locals,
     first: Node,
     rest: &[NegTree],
 ) -> Result<Seq<Node>, TypeFault>
@@ -178,7 +179,7 @@ fn negs(
 pub(crate) fn neg(
     alloc: Global,
     model: &Names<'_>,
-    locals: &[Local],
+    locals: &Locals,
     t: &NegTree,
 ) -> Result<Node, TypeFault>
     ensures { Gives node_of (spec.typing (within model.now locals.now) (form.form_neg t.now)) result }
@@ -198,7 +199,7 @@ pub(crate) fn neg(
 pub(crate) fn compare(
     alloc: Global,
     model: &Names<'_>,
-    locals: &[Local],
+    locals: &Locals,
     t: &CompareTree,
 ) -> Result<Node, TypeFault>
     ensures { Gives node_of (spec.typing (within model.now locals.now) (form.form_compare t.now)) result }
@@ -224,7 +225,7 @@ pub(crate) fn compare(
 pub fn add(
     alloc: Global,
     model: &Names<'_>,
-    locals: &[Local],
+    locals: &Locals,
     t: &AddTree,
 ) -> Result<Node, TypeFault>
     ensures { Gives node_of (spec.typing (within model.now locals.now) (form.form_add t.now)) result }
@@ -243,7 +244,7 @@ pub fn add(
 fn add_steps(
     alloc: Global,
     model: &Names<'_>,
-    locals: &[Local],
+    locals: &Locals,
     first: Node,
     rest: &[AddStep],
 ) -> Result<Seq<Node>, TypeFault>
@@ -263,7 +264,7 @@ fn add_steps(
 pub(crate) fn add_step(
     alloc: Global,
     model: &Names<'_>,
-    locals: &[Local],
+    locals: &Locals,
     t: &AddStep,
 ) -> Result<Node, TypeFault>
     ensures { Gives node_of (spec.typing (within model.now locals.now) (form.form_add_step t.now)) result }
@@ -277,7 +278,7 @@ pub(crate) fn add_step(
 pub(crate) fn mul(
     alloc: Global,
     model: &Names<'_>,
-    locals: &[Local],
+    locals: &Locals,
     t: &MulTree,
 ) -> Result<Node, TypeFault>
     ensures { Gives node_of (spec.typing (within model.now locals.now) (form.form_mul t.now)) result }
@@ -316,7 +317,7 @@ fn is_alone(steps: &[MulStep], last: &Option<LastStep>) -> bool
 fn with_last(
     alloc: Global,
     model: &Names<'_>,
-    locals: &[Local],
+    locals: &Locals,
     parts: Seq<Node>,
     last: &LastStep,
 ) -> Result<Seq<Node>, TypeFault>
@@ -333,7 +334,7 @@ fn with_last(
 fn mul_steps(
     alloc: Global,
     model: &Names<'_>,
-    locals: &[Local],
+    locals: &Locals,
     first: Node,
     rest: &[MulStep],
 ) -> Result<Seq<Node>, TypeFault>
@@ -353,7 +354,7 @@ fn mul_steps(
 pub(crate) fn mul_step(
     alloc: Global,
     model: &Names<'_>,
-    locals: &[Local],
+    locals: &Locals,
     t: &MulStep,
 ) -> Result<Node, TypeFault>
     ensures { Gives node_of (spec.typing (within model.now locals.now) (form.form_mul_step t.now)) result }
@@ -367,7 +368,7 @@ pub(crate) fn mul_step(
 pub(crate) fn open(
     alloc: Global,
     model: &Names<'_>,
-    locals: &[Local],
+    locals: &Locals,
     t: &OpenTree,
 ) -> Result<Node, TypeFault>
     ensures { Gives node_of (spec.typing (within model.now locals.now) (form.form_open t.now)) result }
@@ -379,7 +380,7 @@ pub(crate) fn open(
         }
         OpenTree::Aggregate(at, _, params, body) => {
             let opened = open_params(alloc, model, locals, Need::DataAlone, params.get())?;
-            let body = mul(alloc, model, opened.locals.as_slice(), body.get())?.part()?;
+            let body = mul(alloc, model, &opened.locals, body.get())?.part()?;
             aggregate(alloc, *at, opened.kinds, body)
         }
     }
@@ -391,7 +392,7 @@ pub(crate) fn open(
 pub(crate) fn sign(
     alloc: Global,
     model: &Names<'_>,
-    locals: &[Local],
+    locals: &Locals,
     t: &SignTree,
 ) -> Result<Node, TypeFault>
     ensures { Gives node_of (spec.typing (within model.now locals.now) (form.form_sign t.now)) result }
@@ -411,16 +412,24 @@ pub(crate) fn sign(
 pub fn post(
     alloc: Global,
     model: &Names<'_>,
-    locals: &[Local],
+    locals: &Locals,
     t: &PostTree,
 ) -> Result<Node, TypeFault>
     ensures { Gives node_of (spec.typing (within model.now locals.now) (form.form_post t.now)) result }
 {
-    let mut base = prim(alloc, model, locals, &t.prim)?;
+    let first = prim(alloc, model, locals, &t.prim)?;
+    let mut chain = begun(alloc, first);
     for suffix in t.suffixes.as_slice() {
-        base = with_suffix(alloc, model, locals, t.at, base.part()?, suffix)?;
+        let Chain {
+            last,
+            before,
+            behind,
+        } = chain;
+        let base = bare(alloc, last).part()?;
+        let next = with_suffix(alloc, model, locals, t.at, base, suffix)?;
+        chain = extended(alloc, before, behind, next)?;
     }
-    Ok(base)
+    ended(chain)
 }
 
 /// An expression with subscripts, or a field, behind it.
@@ -429,7 +438,7 @@ pub fn post(
 fn with_suffix(
     alloc: Global,
     model: &Names<'_>,
-    locals: &[Local],
+    locals: &Locals,
     at: u32,
     base: Node,
     suffix: &SuffixTree,
@@ -451,7 +460,7 @@ fn with_suffix(
 pub fn subscripts(
     alloc: Global,
     model: &Names<'_>,
-    locals: &[Local],
+    locals: &Locals,
     t: &SubscriptsTree,
 ) -> Result<Seq<Node>, TypeFault>
     ensures { Gives (map node_of) (spec.typed_parts (within model.now locals.now) (forms_of (form.form_subscripts t.now))) result }
@@ -466,7 +475,7 @@ pub fn subscripts(
 fn adds(
     alloc: Global,
     model: &Names<'_>,
-    locals: &[Local],
+    locals: &Locals,
     first: Node,
     rest: &[AddTree],
 ) -> Result<Seq<Node>, TypeFault>
@@ -486,7 +495,7 @@ fn adds(
 pub(crate) fn all_adds(
     alloc: Global,
     model: &Names<'_>,
-    locals: &[Local],
+    locals: &Locals,
     parts: &[AddTree],
 ) -> Result<Seq<Node>, TypeFault>
     ensures { Gives (map node_of) (spec.typed_parts (within model.now locals.now) (forms_of (map form.form_add parts.now))) result }
@@ -504,7 +513,7 @@ pub(crate) fn all_adds(
 fn pairs(
     alloc: Global,
     model: &Names<'_>,
-    locals: &[Local],
+    locals: &Locals,
     parts: &[KeyedTree],
 ) -> Result<Seq<Node>, TypeFault>
     ensures { Gives (map node_of) (spec.typed_pairs (within model.now locals.now) (pairs_of (map form.form_keyed parts.now))) result }
@@ -523,7 +532,7 @@ fn pairs(
 fn set_of_member(
     alloc: Global,
     model: &Names<'_>,
-    locals: &[Local],
+    locals: &Locals,
     t: &SetTree,
 ) -> Result<Range, TypeFault>
     ensures { Gives range_of (spec.typed_set nothing spec.any_type (within model.now locals.now) (form.form_set t.now)) result }
@@ -547,7 +556,7 @@ fn set_of_member(
 pub fn set(
     alloc: Global,
     model: &Names<'_>,
-    locals: &[Local],
+    locals: &Locals,
     t: &SetTree,
 ) -> Result<Range, TypeFault>
     ensures { Gives range_of (spec.typed_set data_alone is_set (within model.now locals.now) (form.form_set t.now)) result }
@@ -555,7 +564,7 @@ pub fn set(
     match &t.high {
         None => {
             let only = add(alloc, model, locals, &t.low)?;
-            let is_set = only.ty.is_set();
+            let is_set = only.ty.get().is_set();
             whole(alloc, only.settled(Need::DataAlone, is_set)?)
         }
         Some(high) => {
@@ -584,7 +593,7 @@ fn is_memory(fault: &TypeFault) -> bool
 fn wrongly_described(
     alloc: Global,
     model: &Names<'_>,
-    locals: &[Local],
+    locals: &Locals,
     value: &AddTree,
     params: &ParamsTree,
     fault: TypeFault,
@@ -592,7 +601,7 @@ fn wrongly_described(
     ensures { Gives node_of (and_then (and_then (spec.typing (with_values (spec.names_of_params (form.form_params params.now)) (map (λ n. anything) (spec.names_of_params (form.form_params params.now))) (within model.now locals.now)) (form.form_add value.now)) spec.part) (λ n. Err fault)) result }
 {
     let unknown = unknown_params(alloc, model, locals, params)?;
-    add(alloc, model, unknown.as_slice(), value)?.part()?;
+    add(alloc, model, &unknown, value)?.part()?;
     Err(fault)
 }
 
@@ -601,7 +610,7 @@ fn wrongly_described(
 fn described_set(
     alloc: Global,
     model: &Names<'_>,
-    locals: &[Local],
+    locals: &Locals,
     at: u32,
     value: &AddTree,
     params: &ParamsTree,
@@ -612,7 +621,7 @@ fn described_set(
 {
     match opened {
         Ok(opened) => {
-            let value = add(alloc, model, opened.locals.as_slice(), value)?.part()?;
+            let value = add(alloc, model, &opened.locals, value)?.part()?;
             described(alloc, at, value, opened.kinds)
         }
         Err(fault) => {
@@ -640,7 +649,7 @@ fn called(alloc: Global, at: u32, op: CallOp, argument: Node) -> Result<Node, Ty
 pub(crate) fn prim(
     alloc: Global,
     model: &Names<'_>,
-    locals: &[Local],
+    locals: &Locals,
     t: &PrimTree,
 ) -> Result<Node, TypeFault>
     ensures { Gives node_of (spec.typing (within model.now locals.now) (form.form_prim t.now)) result }
@@ -691,18 +700,18 @@ pub(crate) fn prim(
 /// The names that parameters add to those outside, with the types of the expressions in them.
 #[derive(Drop)]
 pub struct Opened {
-    pub locals: Seq<Local>,
+    pub locals: Locals,
     pub kinds: Seq<Ty>,
 }
 
 /// The type of the elements of a set, which may be anything where it has none.
 #[tactic(auto, using(opl_type_rules::proofs::Sorts::sorts))]
-fn or_anything(element: Option<Ty>) -> Ty
-    ensures { sort result ≡ spec.or_anything (option_map sort element) }
+fn or_anything(alloc: Global, element: Option<Boxed<Ty>>) -> Result<Boxed<Ty>, TypeFault>
+    ensures { Does (λ r. sort r ≡ spec.or_anything (option_map sort element)) result }
 {
     match element {
-        Some(ty) => ty,
-        None => Ty::Any,
+        Some(ty) => Ok(ty),
+        None => Ok(Boxed::new(alloc, Ty::Any)?),
     }
 }
 
@@ -710,7 +719,7 @@ fn or_anything(element: Option<Ty>) -> Ty
 fn bind_patterns(
     alloc: Global,
     model: &Names<'_>,
-    locals: &mut Seq<Local>,
+    locals: &mut Locals,
     element: &Ty,
     first: &PatternTree,
     rest: &[PatternTree],
@@ -735,22 +744,16 @@ fn open_group(
 ) -> Result<(), TypeFault>
     ensures { Gives (λ u. opened_in model.now opened.new) (step.open_one (opened_in model.now opened.old) (form.form_group t.now)) result }
 {
-    all_fresh(
-        alloc,
-        model,
-        opened.locals.as_slice(),
-        &t.first,
-        t.rest.as_slice(),
-    )?;
-    let over = set(alloc, model, opened.locals.as_slice(), &t.set)?;
+    all_fresh(alloc, model, &opened.locals, &t.first, t.rest.as_slice())?;
+    let over = set(alloc, model, &opened.locals, &t.set)?;
     let Range { nodes, element } = over;
-    let element = or_anything(element);
+    let element = or_anything(alloc, element)?;
     append(&mut opened.kinds, kinds_in(alloc, nodes)?)?;
     bind_patterns(
         alloc,
         model,
         &mut opened.locals,
-        &element,
+        element.get(),
         &t.first,
         t.rest.as_slice(),
     )?;
@@ -762,7 +765,7 @@ fn open_group(
 fn open_groups(
     alloc: Global,
     model: &Names<'_>,
-    locals: &[Local],
+    locals: &Locals,
     t: &ParamsTree,
 ) -> Result<Opened, TypeFault>
     ensures { Gives (opened_in model.now) (spec.open_groups (within model.now locals.now) (form.groups_of (form.form_group (out-ParamsTree t.now).first ∷ map form.form_group_step (out-ParamsTree t.now).rest))) result }
@@ -784,7 +787,7 @@ fn open_groups(
 pub fn open_params(
     alloc: Global,
     model: &Names<'_>,
-    locals: &[Local],
+    locals: &Locals,
     need: Need,
     t: &ParamsTree,
 ) -> Result<Opened, TypeFault>
@@ -794,8 +797,8 @@ pub fn open_params(
     match &t.condition {
         None => Ok(opened),
         Some(condition) => {
-            let node = expr(alloc, model, opened.locals.as_slice(), condition.get())?;
-            let is_taken = node.ty.is_truth();
+            let node = expr(alloc, model, &opened.locals, condition.get())?;
+            let is_taken = node.ty.get().is_truth();
             add_kinds(&mut opened.kinds, node.settled(need, is_taken)?)?;
             Ok(opened)
         }

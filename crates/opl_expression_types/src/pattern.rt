@@ -1,5 +1,5 @@
 //! The names that patterns give to the elements of a set.
-ghost use Rattle.std.specs.Prelude.{◌≡◌, ◌∷◌, [], map, Some};
+ghost use Rattle.std.specs.Prelude.{◌≡◌, ◌++◌, ◌∷◌, [], map, Some};
 ghost use Rattle.std.specs.List.{flat_map};
 ghost use Rattle.opl_type_rules.specs.Expressions as spec;
 ghost use Rattle.opl_type_rules.specs.Forms.{form_group, form_group_step, form_params};
@@ -10,25 +10,27 @@ ghost use Rattle.opl_type_rules.specs.Types.{sort, sorts_of};
 ghost use Rattle.opl_type_rules.specs.Types.Sort.{anything};
 ghost use Rattle.opl_type_rules.specs.Values.{Does, Gives, field_sort_of, within};
 
-use opl_list::Seq;
+use opl_list::{Boxed, Seq};
 use opl_tree::{GroupStep, GroupTree, NameTree, ParamsTree, PatternTree};
 use opl_type_rules::fault::TypeFault;
 use opl_type_rules::kind::Ty;
-use opl_type_rules::names::{Field, Local, Names, add_local, copied, fresh};
+use opl_type_rules::names::{Field, Locals, Names, add_local, copied, fresh_beside};
 use std::alloc::Global;
 
-/// The name is visible neither outside nor beside itself; it is taken from then on.
-#[tactic(auto, using(opl_type_rules::proofs::Sorts::sorts, crate::proofs::Patterns::names_added))]
+/// The name is visible neither outside nor among those that are declared together with it, to which it belongs from then on.
+#[tactic(auto, using(opl_type_rules::proofs::Sorts::sorts, crate::proofs::Patterns::names_beside))]
 fn take_name(
     alloc: Global,
     model: &Names<'_>,
-    taken: &mut Seq<Local>,
+    locals: &Locals,
+    taken: &mut Locals,
     name: &NameTree,
 ) -> Result<(), TypeFault>
-    ensures { Gives (λ u. within model.now taken.new) (step.taken (within model.now taken.old) (name.now ∷ [])) result }
+    ensures { Gives (λ u. within model.now (locals.now ++ taken.new)) (step.taken (within model.now (locals.now ++ taken.old)) (name.now ∷ [])) result }
 {
-    fresh(model, taken.as_slice(), name)?;
-    add_local(alloc, taken, name.text.as_slice(), Ty::Any)?;
+    fresh_beside(model, locals, taken, name)?;
+    let ty = Boxed::new(alloc, Ty::Any)?;
+    add_local(alloc, taken, name.text.as_slice(), ty)?;
     Ok(())
 }
 
@@ -37,13 +39,14 @@ fn take_name(
 fn take_names(
     alloc: Global,
     model: &Names<'_>,
-    taken: &mut Seq<Local>,
+    locals: &Locals,
+    taken: &mut Locals,
     names: &[NameTree],
 ) -> Result<(), TypeFault>
-    ensures { Gives (λ u. within model.now taken.new) (step.taken (within model.now taken.old) names.now) result }
+    ensures { Gives (λ u. within model.now (locals.now ++ taken.new)) (step.taken (within model.now (locals.now ++ taken.old)) names.now) result }
 {
     for name in names {
-        take_name(alloc, model, taken, name)?;
+        take_name(alloc, model, locals, taken, name)?;
     }
     Ok(())
 }
@@ -53,16 +56,17 @@ fn take_names(
 fn take_pattern(
     alloc: Global,
     model: &Names<'_>,
-    taken: &mut Seq<Local>,
+    locals: &Locals,
+    taken: &mut Locals,
     pattern: &PatternTree,
 ) -> Result<(), TypeFault>
-    ensures { Gives (λ u. within model.now taken.new) (step.taken (within model.now taken.old) (spec.pattern_names pattern.now)) result }
+    ensures { Gives (λ u. within model.now (locals.now ++ taken.new)) (step.taken (within model.now (locals.now ++ taken.old)) (spec.pattern_names pattern.now)) result }
 {
     match pattern {
-        PatternTree::Single(name) => take_name(alloc, model, taken, name),
+        PatternTree::Single(name) => take_name(alloc, model, locals, taken, name),
         PatternTree::Record(_, first, rest) => {
-            take_name(alloc, model, taken, first)?;
-            take_names(alloc, model, taken, rest.as_slice())
+            take_name(alloc, model, locals, taken, first)?;
+            take_names(alloc, model, locals, taken, rest.as_slice())
         }
     }
 }
@@ -72,13 +76,14 @@ fn take_pattern(
 fn take_patterns(
     alloc: Global,
     model: &Names<'_>,
-    taken: &mut Seq<Local>,
+    locals: &Locals,
+    taken: &mut Locals,
     patterns: &[PatternTree],
 ) -> Result<(), TypeFault>
-    ensures { Gives (λ u. within model.now taken.new) (step.taken (within model.now taken.old) (flat_map spec.pattern_names patterns.now)) result }
+    ensures { Gives (λ u. within model.now (locals.now ++ taken.new)) (step.taken (within model.now (locals.now ++ taken.old)) (flat_map spec.pattern_names patterns.now)) result }
 {
     for pattern in patterns {
-        take_pattern(alloc, model, taken, pattern)?;
+        take_pattern(alloc, model, locals, taken, pattern)?;
     }
     Ok(())
 }
@@ -88,15 +93,15 @@ fn take_patterns(
 pub(crate) fn all_fresh(
     alloc: Global,
     model: &Names<'_>,
-    locals: &[Local],
+    locals: &Locals,
     first: &PatternTree,
     rest: &[PatternTree],
 ) -> Result<(), TypeFault>
     ensures { Gives (λ u. u) (scope.all_fresh (within model.now locals.now) (flat_map spec.pattern_names (first.now ∷ rest.now))) result }
 {
-    let mut taken = copied(alloc, locals)?;
-    take_pattern(alloc, model, &mut taken, first)?;
-    take_patterns(alloc, model, &mut taken, rest)?;
+    let mut taken = Locals::new(alloc);
+    take_pattern(alloc, model, locals, &mut taken, first)?;
+    take_patterns(alloc, model, locals, &mut taken, rest)?;
     Ok(())
 }
 
@@ -105,7 +110,7 @@ pub(crate) fn all_fresh(
 fn bind_names(
     alloc: Global,
     model: &Names<'_>,
-    locals: &mut Seq<Local>,
+    locals: &mut Locals,
     names: &[NameTree],
     types: &[Ty],
 ) -> Result<(), TypeFault>
@@ -127,7 +132,7 @@ fn bind_names(
 fn bind_parts(
     alloc: Global,
     model: &Names<'_>,
-    locals: &mut Seq<Local>,
+    locals: &mut Locals,
     at: u32,
     first: &NameTree,
     rest: &[NameTree],
@@ -152,7 +157,7 @@ fn field_types(alloc: Global, fields: &[Field]) -> Result<Seq<Ty>, TypeFault>
 {
     let mut types = Seq::new(alloc);
     for field in fields {
-        types.push(field.ty.copy(alloc)?)?;
+        types.push(field.ty.get().copy(alloc)?.into_inner())?;
     }
     Ok(types)
 }
@@ -162,7 +167,7 @@ fn field_types(alloc: Global, fields: &[Field]) -> Result<Seq<Ty>, TypeFault>
 pub(crate) fn bind_pattern(
     alloc: Global,
     model: &Names<'_>,
-    locals: &mut Seq<Local>,
+    locals: &mut Locals,
     element: &Ty,
     pattern: &PatternTree,
 ) -> Result<(), TypeFault>
@@ -184,7 +189,7 @@ pub(crate) fn bind_pattern(
 fn bind_record(
     alloc: Global,
     model: &Names<'_>,
-    locals: &mut Seq<Local>,
+    locals: &mut Locals,
     at: u32,
     first: &NameTree,
     rest: &[NameTree],
@@ -222,19 +227,20 @@ fn bind_record(
 fn unknown_name(
     alloc: Global,
     model: &Names<'_>,
-    locals: &mut Seq<Local>,
+    locals: &mut Locals,
     name: &NameTree,
 ) -> Result<(), TypeFault>
     ensures { Does (λ u. within model.now locals.new ≡ scope.declared name.now.text (value anything) (within model.now locals.old)) result }
 {
-    add_local(alloc, locals, name.text.as_slice(), Ty::Any)
+    let ty = Boxed::new(alloc, Ty::Any)?;
+    add_local(alloc, locals, name.text.as_slice(), ty)
 }
 
 /// Names, as what may be anything.
 fn unknown_names(
     alloc: Global,
     model: &Names<'_>,
-    locals: &mut Seq<Local>,
+    locals: &mut Locals,
     names: &[NameTree],
 ) -> Result<(), TypeFault>
     ensures { Does (λ u. within model.now locals.new ≡ step.unknown names.now (within model.now locals.old)) result }
@@ -249,7 +255,7 @@ fn unknown_names(
 fn unknown_pattern(
     alloc: Global,
     model: &Names<'_>,
-    locals: &mut Seq<Local>,
+    locals: &mut Locals,
     pattern: &PatternTree,
 ) -> Result<(), TypeFault>
     ensures { Does (λ u. within model.now locals.new ≡ step.unknown (spec.pattern_names pattern.now) (within model.now locals.old)) result }
@@ -268,7 +274,7 @@ fn unknown_pattern(
 fn unknown_patterns(
     alloc: Global,
     model: &Names<'_>,
-    locals: &mut Seq<Local>,
+    locals: &mut Locals,
     patterns: &[PatternTree],
 ) -> Result<(), TypeFault>
     ensures { Does (λ u. within model.now locals.new ≡ step.unknown (flat_map spec.pattern_names patterns.now) (within model.now locals.old)) result }
@@ -284,7 +290,7 @@ fn unknown_patterns(
 fn unknown_group(
     alloc: Global,
     model: &Names<'_>,
-    locals: &mut Seq<Local>,
+    locals: &mut Locals,
     group: &GroupTree,
 ) -> Result<(), TypeFault>
     ensures { Does (λ u. within model.now locals.new ≡ step.unknown (step.group_names (form_group group.now)) (within model.now locals.old)) result }
@@ -298,7 +304,7 @@ fn unknown_group(
 fn unknown_groups(
     alloc: Global,
     model: &Names<'_>,
-    locals: &mut Seq<Local>,
+    locals: &mut Locals,
     steps: &[GroupStep],
 ) -> Result<(), TypeFault>
     ensures { Does (λ u. within model.now locals.new ≡ step.unknown (flat_map step.group_names (map form_group_step steps.now)) (within model.now locals.old)) result }
@@ -314,9 +320,9 @@ fn unknown_groups(
 pub(crate) fn unknown_params(
     alloc: Global,
     model: &Names<'_>,
-    locals: &[Local],
+    locals: &Locals,
     params: &ParamsTree,
-) -> Result<Seq<Local>, TypeFault>
+) -> Result<Locals, TypeFault>
     ensures { Does (λ r. within model.now r ≡ scope.with_values (spec.names_of_params (form_params params.now)) (map (λ n. anything) (spec.names_of_params (form_params params.now))) (within model.now locals.now)) result }
 {
     let mut found = copied(alloc, locals)?;

@@ -16,7 +16,7 @@ use Rattle.opl_type_rules.specs.Types.Sort.{anything}
 use Rattle.opl_type_rules.specs.Scope.{Scope, Thing, Field, Entry, declared, fresh, all_fresh, empty_scope, fields_or, fields_among, fields, field_sort}
 use Rattle.opl_type_rules.specs.Scope.Thing.{enum_type, enum_name, struct_type, value}
 use Rattle.opl_type_rules.specs.Expressions.{Opened}
-use Rattle.opl_types.specs.Declarations.{shape, written_type, cell_indices, initial_kinds, number_kinds, maybe_number, bounds_kinds, variable_type, is_decidable, field_list, enum_names, with_names, is_given, given, decl, next, all_decls}
+use Rattle.opl_model_types.specs.Declarations.{shape, written_type, cell_indices, initial_kinds, number_kinds, maybe_number, bounds_kinds, variable_type, is_decidable, field_list, enum_names, with_names, is_given, given, decl, next, all_decls}
 use Rattle.opl_fields.specs.Structs.{field_name, names_of, field_names, position_from, position}
 use Rattle.opl_fields.specs.Laws.{FieldsHavePositions}
 use Rattle.opl_fields.proofs.Taken.{went, unless-then, same}

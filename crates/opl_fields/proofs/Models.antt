@@ -34,10 +34,10 @@ use Rattle.opl_type_rules.specs.Scope.{Scope, and_then, fresh, all_fresh, empty_
 use Rattle.opl_type_rules.specs.Forms.{form_expr, form_add, form_post, form_set, form_subscripts, form_params}
 use Rattle.opl_type_rules.specs.Expressions.{Node, Need, Opened, kinds, kinds_in, used, part, or_anything, typing, typed_set, open_params}
 use Rattle.opl_type_rules.specs.Expressions.Need.{nothing, data_alone, data_or_questions}
-use Rattle.opl_types.specs.Declarations.{Dimensions, Shape, no_dimensions, with_dimension, fresh_in, dimensions, shape, written_type, cell_indices, initial_kinds, number_kinds, maybe_number, bounds_kinds, variable_type, is_decidable, is_given, field_list, decl, next, all_decls}
-use Rattle.opl_types.specs.Models as typing_of
-use Rattle.opl_types.specs.Models.{Looked, within, condition, precedes, known, subscript_nodes, is_resource, is_labelled, requires, item, items, block, label, order, statement, statements, search_block, search, instr, model}
-use Rattle.opl_types.proofs.PureItems.{item_of, items_of, block_of, item-roll, items-roll, block-roll, statement_of, statements_of, search_of, statement-roll, statements-roll, search-roll}
+use Rattle.opl_model_types.specs.Declarations.{Dimensions, Shape, no_dimensions, with_dimension, fresh_in, dimensions, shape, written_type, cell_indices, initial_kinds, number_kinds, maybe_number, bounds_kinds, variable_type, is_decidable, is_given, field_list, decl, next, all_decls}
+use Rattle.opl_model_types.specs.Models as typing_of
+use Rattle.opl_model_types.specs.Models.{Looked, within, condition, precedes, known, subscript_nodes, is_resource, is_labelled, requires, item, items, block, label, order, statement, statements, search_block, search, instr, model}
+use Rattle.opl_model_types.proofs.PureItems.{item_of, items_of, block_of, item-roll, items-roll, block-roll, statement_of, statements_of, search_of, statement-roll, statements-roll, search-roll}
 use Rattle.opl_fields.specs.Walk.{Pass, each, walk}
 use Rattle.opl_fields.specs.Trees.{walk_expr, walk_add, walk_post, walk_params, walk_subscripts, walk_if_written, walk_dim, walk_dims, walk_initial, walk_bounds, walk_decl, walk_requires, walk_order, item_layer, items_layer, block_layer, statement_layer, statements_layer, search_block_layer, walk_item, walk_items, walk_block, walk_statement, walk_statements, walk_search_block, walk_instr, walk_search, walk_model}
 use Rattle.opl_fields.specs.Laws.{WalkTakesAll}

@@ -47,7 +47,7 @@ use Rattle.opl_type_rules.specs.Forms.Form.{number, named, bracket, negative, ar
 use Rattle.opl_type_rules.specs.Forms.Suffix.{subscripts, field_of}
 use Rattle.opl_type_rules.specs.Expressions.{kinds, used, typing}
 use Rattle.opl_type_rules.specs.Expressions.Need.{data_alone}
-use Rattle.opl_types.specs.Declarations.{shaped, initial, initial_cells, initial_pairs, initial_kinds}
+use Rattle.opl_model_types.specs.Declarations.{shaped, initial, initial_cells, initial_pairs, initial_kinds}
 use Rattle.opl_term.proofs.Layers as term_is
 use Rattle.opl_type_rules.proofs.Forms as form_is
 use Rattle.opl_fields.specs.Walk.{Pass, one, each, in_turn, walk}

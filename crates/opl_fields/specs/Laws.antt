@@ -12,8 +12,8 @@ use Rattle.opl_type_rules.specs.Scope.{Scope, empty_scope, field_sort, fields}
 use Rattle.opl_type_rules.specs.Forms.{Form, Params, form_expr}
 use Rattle.opl_type_rules.specs.Forms.Form.{field}
 use Rattle.opl_type_rules.specs.Expressions.{Node, Need, Opened, kinds, typing, open_params}
-use Rattle.opl_types.specs.Declarations.{all_decls}
-use Rattle.opl_types.specs.Models.{model}
+use Rattle.opl_model_types.specs.Declarations.{all_decls}
+use Rattle.opl_model_types.specs.Models.{model}
 use Rattle.opl_fields.specs.declared.place.FieldPlace.{FieldPlace}
 use Rattle.opl_fields.specs.Structs.{field_names, position}
 use Rattle.opl_fields.specs.Walk.{State, walk}

@@ -8,8 +8,8 @@ ghost use Rattle.opl_type_rules.specs.Types.{sort};
 use crate::place::FieldPlace;
 use crate::walk::Walk;
 use opl_list::Seq;
+use opl_model_types::{Ty, Typed};
 use opl_tree::ModelTree;
-use opl_types::{Ty, Typed};
 use std::alloc::{AllocError, Global};
 
 /// The number of the struct of which an expression of this type is a record.

@@ -8,7 +8,7 @@ use Rattle.opl_token.proofs.Unique.{one_scan, no_fault, one_fault}
 use Rattle.opl_token.specs.declared.fault.ScanFault.{ScanFault}
 use Rattle.opl_token.specs.declared.fault.ScanFault.TheVariants as scan
 use Rattle.opl_token.specs.declared.token.Token.{Token}
-use Rattle.opl_types.specs.Models.{model}
+use Rattle.opl_model_types.specs.Models.{model}
 use Rattle.opl_type_rules.specs.declared.fault.TypeFault.{TypeFault}
 use Rattle.opl_type_rules.specs.Types.{Sort}
 use Rattle.opl_data.proofs.TreeLaws as of_data

@@ -10,11 +10,11 @@ use Rattle.opl_token.specs.declared.fault.ScanFault.{ScanFault}
 use Rattle.opl_token.specs.declared.fault.ScanFault.TheVariants as scan
 use Rattle.opl_token.specs.declared.token.Token.{Token}
 use Rattle.opl_token.specs.Scan.{Scans, Faults}
-use Rattle.opl_types.specs.Models.{model}
+use Rattle.opl_model_types.specs.Models.{model}
 use Rattle.opl_type_rules.specs.declared.fault.TypeFault.{TypeFault}
 use Rattle.opl_type_rules.specs.declared.fault.TypeFault.TheVariants as types
 use Rattle.opl_type_rules.specs.Types.{Sort}
-use Rattle.opl_types.proofs.PureItems.{never_memory}
+use Rattle.opl_model_types.proofs.PureItems.{never_memory}
 use Rattle.opl_tree.specs.Reading.{IsTreeOf, StopsAt, OpensAt}
 use Rattle.opl_data.proofs.TreeLaws as of_data
 use Rattle.opl_data.specs.Depth.{depth_file}

@@ -19,7 +19,7 @@ use Rattle.opl_term.specs.declared.term.Term.{Term}
 use Rattle.opl_tree.specs.declared.declaration.DeclTree.{DeclTree}
 use Rattle.opl_tree.specs.declared.declaration.DeclTree.TheVariants as decls
 use Rattle.opl_tree.specs.declared.model.ModelTree.{ModelTree}
-use Rattle.opl_types.specs.Models.{model}
+use Rattle.opl_model_types.specs.Models.{model}
 use Rattle.opl_type_rules.specs.Types.{Sort}
 use Rattle.opl_tool.specs.Data.{formulas_of, subject_of}
 use Rattle.opl_tool.proofs.VariableNames.{variable_names, variables_differ}

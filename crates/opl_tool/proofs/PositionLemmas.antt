@@ -12,7 +12,7 @@ use Rattle.opl_fields.specs.Fields.{fields}
 use Rattle.opl_fields.specs.declared.place.FieldPlace.{FieldPlace}
 use Rattle.opl_tree.specs.declared.declaration.DeclTree.{DeclTree}
 use Rattle.opl_tree.specs.declared.model.ModelTree.{ModelTree}
-use Rattle.opl_types.specs.Models.{model}
+use Rattle.opl_model_types.specs.Models.{model}
 use Rattle.opl_type_rules.specs.Types.{Sort}
 use Rattle.opl_tool.specs.declared.stop.Stop.{Stop}
 use Rattle.opl_tool.specs.Data.{HasData, kinds_or_none, position_or, positions, refusal_of_data}

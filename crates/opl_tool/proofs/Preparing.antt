@@ -11,7 +11,7 @@ use Rattle.opl_bind.specs.Bind.{Data}
 use Rattle.opl_data.specs.declared.tree.DataFile.{DataFile}
 use Rattle.opl_meaning.specs.declared.variable.VariableItem.{VariableItem}
 use Rattle.opl_tree.specs.declared.model.ModelTree.{ModelTree}
-use Rattle.opl_types.specs.Models.{model}
+use Rattle.opl_model_types.specs.Models.{model}
 use Rattle.opl_type_rules.specs.Types.{Sort}
 use Rattle.opl_tool.specs.Data.{HasData, HasFormulas, HasVariables, Posed, Prepared, Runs, subject_of}
 use Rattle.opl_tool.specs.Prepared.{GivesPosed, Poses, enumerations_in}

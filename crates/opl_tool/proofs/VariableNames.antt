@@ -16,10 +16,10 @@ use Rattle.opl_type_rules.specs.Types.Sort.{activity, unary, discrete}
 use Rattle.opl_type_rules.specs.Scope.{Checked, and_then, unless, Scope, Thing, empty_scope, declared, fresh, all_fresh}
 use Rattle.opl_type_rules.specs.Scope.Thing.{range, value, enum_type, enum_name, struct_type, variable, activities, resource}
 use Rattle.opl_type_rules.specs.Expressions.{Opened}
-use Rattle.opl_types.specs.Declarations.{shape, shaped, written_type, initial_kinds, cell_indices, number_kinds, maybe_number, makes, enum_names, with_names, field_list, variable_type, bounds_kinds, is_decidable, is_given, given, next, decl, all_decls}
-use Rattle.opl_types.specs.Models.{model}
-use Rattle.opl_types.proofs.DeclsOnce.{decl-once}
-use Rattle.opl_types.proofs.Once.{Once, names_of, pushed, names-declared, unit-ok, went, same_opened, declared_once, once_declared}
+use Rattle.opl_model_types.specs.Declarations.{shape, shaped, written_type, initial_kinds, cell_indices, number_kinds, maybe_number, makes, enum_names, with_names, field_list, variable_type, bounds_kinds, is_decidable, is_given, given, next, decl, all_decls}
+use Rattle.opl_model_types.specs.Models.{model}
+use Rattle.opl_model_types.proofs.DeclsOnce.{decl-once}
+use Rattle.opl_model_types.proofs.Once.{Once, names_of, pushed, names-declared, unit-ok, went, same_opened, declared_once, once_declared}
 
 -- the names of the decision variables of declarations
 abbrev pub variable_names : List DeclTree → List Text

@@ -18,7 +18,7 @@ use Rattle.opl_meaning.specs.declared.fault.MeaningFault.TheVariants as meaning
 use Rattle.opl_meaning.specs.declared.formula.Formula.{Formula}
 use Rattle.opl_meaning.specs.declared.variable.VariableItem.{VariableItem}
 use Rattle.opl_tree.specs.declared.model.ModelTree.{ModelTree}
-use Rattle.opl_types.specs.Models.{model}
+use Rattle.opl_model_types.specs.Models.{model}
 use Rattle.opl_type_rules.specs.Types.{Sort}
 use Rattle.opl_type_rules.specs.declared.fault.TypeFault.{TypeFault}
 use Rattle.opl_tool.specs.declared.refusal.Fault.TheVariants as faults

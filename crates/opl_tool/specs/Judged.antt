@@ -10,12 +10,12 @@ use Rattle.opl_tree.specs.Reading.{IsTreeOf, StopsAt, OpensAt}
 use Rattle.opl_data.specs.declared.tree.DataFile.{DataFile}
 use Rattle.opl_data.specs.Depth.{depth_file}
 use Rattle.opl_data.specs.Reading as of_data
-use Rattle.opl_types.specs.Models.{model}
+use Rattle.opl_model_types.specs.Models.{model}
 use Rattle.opl_type_rules.specs.declared.fault.TypeFault.{TypeFault}
 use Rattle.opl_type_rules.specs.declared.fault.TypeFault.TheVariants as types
 use Rattle.opl_type_rules.specs.Types.{Sort}
 use Rattle.opl_tool.specs.declared.front.Front.{Front}
-use Rattle.opl_types.specs.declared.typed.Typed.{Typed}
+use Rattle.opl_model_types.specs.declared.typed.Typed.{Typed}
 use Rattle.opl_tool.specs.declared.refusal.Fault.TheVariants.{BadByte, OpenComment, OpenString, NumberTooLarge, Syntax, TooDeep, Unknown, Duplicate, NotData, Mismatch}
 use Rattle.opl_tool.specs.declared.refusal.Refusal.{Refusal}
 use Rattle.opl_tool.specs.declared.refusal.Refusal.TheVariants.{Words, Absent, TooLong, At}

@@ -1,6 +1,8 @@
 pub mod Apart
 pub mod Expressions
+pub mod Fields
 pub mod Forms
+pub mod NamePlaces
 pub mod Places
 pub mod Scope
 pub mod Steps

@@ -84,3 +84,20 @@ abbrev pub time_node : ℕ → Node → NameTree → Checked Node
 time_node at base name = do
   unless (is_time name.text) (Unknown name.at)
   Ok (with_one (is_start_or_duration name.text) (made at int (base ∷ []) true))
+
+-- the same expression with these types of the expressions in it
+abbrev pub with_inner : List Sort → Node → Node
+with_inner ks n = record n { inner = ks }
+
+-- the first of a list, and what stands behind it
+abbrev pub firsts : {A : Type 0} → List A → List A
+firsts [] = []
+firsts (x ∷ xs) = x ∷ []
+
+abbrev pub others : {A : Type 0} → List A → List A
+others [] = []
+others (x ∷ xs) = xs
+
+-- a link whose base has these types in it
+abbrev pub grown : List Sort → Node → Node
+grown ks n = with_inner (firsts n.inner ++ ks ++ others n.inner) n

@@ -1,8 +1,9 @@
 -- What the program's values stand for in the definitions.
-use Rattle.std.specs.Prelude.{◌≡◌, ℕ, Bool, List, [], ◌∷◌, map, cond, nat_eq, Option, Some, Result, Ok, Err}
-use Rattle.std.specs.List.{list_any}
+use Rattle.std.specs.Prelude.{◌≡◌, ℕ, Bool, List, [], ◌∷◌, ◌++◌, map, reverse, cond, nat_eq, Option, None, Some, Result, Ok, Err}
+use Rattle.std.specs.List.{list_any, slice_get}
 use Rattle.std.specs.Option.{option_map}
 use Rattle.std.specs.Str.{bytes_eq}
+use Rattle.opl_type_rules.specs.declared.chain.Chain as chains
 use Rattle.opl_type_rules.specs.declared.fault.TypeFault.{TypeFault}
 use Rattle.opl_type_rules.specs.declared.fault.TypeFault.TheVariants.{Unknown, Duplicate, Mismatch, NotData, OutOfMemory}
 use Rattle.opl_type_rules.specs.declared.kind.Ty.{Ty}
@@ -90,6 +91,16 @@ abbrev pub local_or : Option Ty → Text → List locals.Local → Option Ty
 local_or before name [] = before
 local_or before name (l ∷ ls) = local_or (cond (bytes_eq name l.name) (Some l.ty) before) name ls
 
+-- the type of the parameter at that place
+abbrev pub local_at : Option ℕ → List locals.Local → Option Ty
+local_at None ls = None
+local_at (Some i) ls = option_map (λ l. l.ty) (slice_get ls i)
+
+-- the type of the field at that place
+abbrev pub field_at : Option ℕ → List fields.Field → Option Ty
+field_at None fs = None
+field_at (Some i) fs = option_map (λ f. f.ty) (slice_get fs i)
+
 abbrev pub node_of : nodes.Node → Node
 node_of n = record { place = n.place; sort = sort n.ty; decides = n.decides; asks = n.asks; is_one = n.is_one; is_whole = n.is_whole; takes_data = n.takes_data; is_right = n.is_right; inner = map sort n.inner }
 
@@ -104,3 +115,7 @@ range_of r = record { nodes = map node_of r.nodes; element = option_map sort r.e
 -- one of these entries is that of a struct which both types fit
 abbrev pub fit_one_of : Scope → Sort → Sort → List entries.Entry → Bool
 fit_one_of sc a b es = list_any (λ e. is_for sc a b (thing_of e.thing)) es
+
+-- an expression with what stands behind it
+abbrev pub chained : chains.Chain → Node
+chained c = record (node_of c.last) { inner = reverse (map sort c.before) ++ map sort c.behind }

@@ -1,12 +1,29 @@
-//! The types of a model's expressions, and the first fault of a model whose expressions do not fit together.
+//! The types of a model's expressions, or the first fault of a model whose expressions do not fit together.
 #![tactic(auto)]
 
-mod declaration;
-mod item;
-pub mod laws;
-mod search;
-mod typed;
+ghost use Rattle.std.specs.Prelude.{◌≡◌, IfOk, map};
+ghost use Rattle.opl_model_types.specs.Models as spec;
+ghost use Rattle.opl_type_rules.specs.Types.{sort};
+ghost use Rattle.opl_type_rules.specs.Values.{Gives};
 
-pub use opl_type_rules::fault::TypeFault;
-pub use opl_type_rules::kind::Ty;
-pub use typed::{Typed, check};
+use opl_list::Seq;
+use opl_tree::ModelTree;
+use std::alloc::Global;
+
+pub use opl_model_types::{Ty, TypeFault, Typed, laws};
+
+/// The types of a model's expressions in preorder.
+fn kinds(alloc: Global, model: &ModelTree) -> Result<Seq<Ty>, TypeFault>
+    ensures { Gives (map sort) (spec.model model.now) result }
+{
+    opl_model_types::kinds_of(alloc, model)
+}
+
+/// The model with the types of its expressions.
+pub fn check(alloc: Global, model: ModelTree) -> Result<Typed, TypeFault>
+    ensures gives { Gives (λ t. map sort t.kinds) (spec.model model) result }
+    ensures tree { IfOk result (λ t. t.tree ≡ model) }
+{
+    let found = kinds(alloc, &model);
+    opl_model_types::with_kinds(model, found)
+}

@@ -9,12 +9,12 @@ use Rattle.opl_type_rules.specs.Scope.{and_then}
 use Rattle.opl_type_rules.specs.Steps.{open_each, suffixed}
 use Rattle.opl_type_rules.specs.Types.{is_number, is_truth, sort}
 use Rattle.opl_type_rules.specs.Types.Sort.{bool, int}
-use Rattle.opl_type_rules.specs.Values.{Gives, need_of, node_of, within}
+use Rattle.opl_type_rules.specs.Values.{Gives, chained, need_of, node_of, within}
 use Rattle.opl_expression_types.specs.Values.{opened_in}
 use Rattle.opl_type_rules.proofs.Chains.{gives-same}
 use Rattle.opl_type_rules.proofs.Forms.{form_add-is, form_and-is, form_expr-is, form_group-is, form_group_step-is, form_keyed-is, form_last_step-is, form_mul-Product, form_or-is, form_params-is, form_post-is, form_subscripts-is, form_suffix-Field, form_suffix-Subscripts}
 use Rattle.opl_expression_types.proofs.Loops.{back_alone, back_made, back_wrong, cell_fault, cell_wrong, chain_made, chain_wrong, first_fault, first_typed, front_wrong, key_fault, key_wrong, last_added, last_fault, last_wrong, none_left, pair_added, pairs_end, part_added, part_fault, part_wrong, parts_end}
-use Rattle.opl_expression_types.proofs.Opening.{base_wrong, condition_fault, condition_taken, condition_wrong, described_fault, described_made, described_wrong, group_fault, group_here, group_made, group_opened, groups_begin, groups_end, no_condition, params_fault, post_fault, suffix_added, suffix_element, suffix_fault, suffix_field, suffixes_end, wrongly}
+use Rattle.opl_expression_types.proofs.Opening.{condition_fault, condition_taken, condition_wrong, described_fault, described_made, described_wrong, ended_with, group_fault, group_here, group_made, group_opened, groups_begin, groups_end, link_added, link_fault, link_wrong, no_condition, params_fault, post_fault, suffix_added, suffix_element, suffix_fault, suffix_field, suffixes_end, wrongly}
 use Rattle.opl_type_rules.proofs.Steps.{typing-suffixes}
 use Rattle.opl_expression_types.proofs.Typing.{typing-arithmetic, typing-connected}
 use Rattle.opl_expression_types.proofs.expression.+expressions.Goals as goal
@@ -183,34 +183,34 @@ pub mul_steps-returns : goal.mul_steps-returns
 mul_steps-returns t c =
     parts_end (within c.args.model.now c.args.locals.now) form_mul_step _ c.args.rest.now c.loop-t.t-index c.loop-t.found c.loop-t.invariant c.loop-t-test.false
 
-pub post-returns-in_err-base : goal.post-returns-in_err-base
-post-returns-in_err-base t c =
-    let h = post_fault (within c.args.model.now c.args.locals.now) (out-PostTree c.args.t.now).at (form_post c.args.t.now) (form_prim (out-PostTree c.args.t.now).prim) (map form_suffix (out-PostTree c.args.t.now).suffixes) (form_post-is c.args.t.now) c.in_err-base.field-0.0 c.in_err-base.ensures in
+pub post-returns-in_err-first : goal.post-returns-in_err-first
+post-returns-in_err-first t c =
+    let h = post_fault (within c.args.model.now c.args.locals.now) (out-PostTree c.args.t.now).at (form_post c.args.t.now) (form_prim (out-PostTree c.args.t.now).prim) (map form_suffix (out-PostTree c.args.t.now).suffixes) (form_post-is c.args.t.now) c.in_err-first.field-0.0 c.in_err-first.ensures in
     search rules
 
 pub post-loop-suffix-init : goal.post-loop-suffix-init
 post-loop-suffix-init t c =
     ap (typing (within c.args.model.now c.args.locals.now)) (form_post-is c.args.t.now) ∙ typing-suffixes (within c.args.model.now c.args.locals.now) (out-PostTree c.args.t.now).at (form_prim (out-PostTree c.args.t.now).prim) (map form_suffix (out-PostTree c.args.t.now).suffixes)
-    ∙ ap (λ d. suffixed (within c.args.model.now c.args.locals.now) (out-PostTree c.args.t.now).at d (map form_suffix (out-PostTree c.args.t.now).suffixes)) c.in_ok-base.ensures
-    ∙ ap (λ ss. suffixed (within c.args.model.now c.args.locals.now) (out-PostTree c.args.t.now).at (Ok (node_of c.in_ok-base.base)) (map form_suffix ss)) (sym c.as_slice-suffix-items.ensures)
+    ∙ ap (λ d. suffixed (within c.args.model.now c.args.locals.now) (out-PostTree c.args.t.now).at d (map form_suffix (out-PostTree c.args.t.now).suffixes)) (c.in_ok-first.ensures ∙ ap (λ n. Ok n) (sym c.begun-chain.ensures))
+    ∙ ap (λ ss. suffixed (within c.args.model.now c.args.locals.now) (out-PostTree c.args.t.now).at (Ok (chained c.begun-chain.result)) (map form_suffix ss)) (sym c.as_slice-suffix-items.ensures)
 
-pub post-returns-in_err-part : goal.post-returns-in_err-part
-post-returns-in_err-part t c =
-    let h = base_wrong (within c.args.model.now c.args.locals.now) (out-PostTree c.args.t.now).at form_suffix (typing (within c.args.model.now c.args.locals.now) (form_post c.args.t.now)) c.as_slice-suffix-items.result.now c.loop-suffix.suffix-index c.loop-suffix.base c.loop-suffix.invariant c.suffix-item.result c.loop-suffix-test.true c.suffix-item.is c.in_err-part.field-0.0 c.in_err-part.ensures in
+pub post-returns-in_err-base : goal.post-returns-in_err-base
+post-returns-in_err-base t c =
+    let h = suffix_fault (within c.args.model.now c.args.locals.now) (out-PostTree c.args.t.now).at form_suffix (typing (within c.args.model.now c.args.locals.now) (form_post c.args.t.now)) c.as_slice-suffix-items.result.now c.loop-suffix.suffix-index (chained c.loop-suffix.chain) c.loop-suffix.invariant c.suffix-item.result c.loop-suffix-test.true c.suffix-item.is c.in_err-base.field-0.0 (link_wrong (within c.args.model.now c.args.locals.now) (out-PostTree c.args.t.now).at c.loop-suffix.chain (form_suffix c.suffix-item.result) c.bare.result c.bare.ensures c.in_err-base.field-0.0 c.in_err-base.ensures) in
     search rules
 
-pub post-returns-in_err-base-2 : goal.post-returns-in_err-base-2
-post-returns-in_err-base-2 t c =
-    let h = suffix_fault (within c.args.model.now c.args.locals.now) (out-PostTree c.args.t.now).at form_suffix (typing (within c.args.model.now c.args.locals.now) (form_post c.args.t.now)) c.as_slice-suffix-items.result.now c.loop-suffix.suffix-index c.loop-suffix.base c.loop-suffix.invariant c.suffix-item.result c.loop-suffix-test.true c.suffix-item.is c.in_ok-part.field-0 c.in_ok-part.ensures c.in_err-base-2.field-0.0 c.in_err-base-2.ensures in
+pub post-returns-in_err-next : goal.post-returns-in_err-next
+post-returns-in_err-next t c =
+    let h = suffix_fault (within c.args.model.now c.args.locals.now) (out-PostTree c.args.t.now).at form_suffix (typing (within c.args.model.now c.args.locals.now) (form_post c.args.t.now)) c.as_slice-suffix-items.result.now c.loop-suffix.suffix-index (chained c.loop-suffix.chain) c.loop-suffix.invariant c.suffix-item.result c.loop-suffix-test.true c.suffix-item.is c.in_err-next.field-0.0 (link_fault (within c.args.model.now c.args.locals.now) (out-PostTree c.args.t.now).at c.loop-suffix.chain (form_suffix c.suffix-item.result) c.bare.result c.bare.ensures c.in_ok-base.base c.in_ok-base.ensures c.in_err-next.field-0.0 c.in_err-next.ensures) in
     search rules
 
 pub post-loop-suffix-preserved : goal.post-loop-suffix-preserved
 post-loop-suffix-preserved t c =
-    suffix_added (within c.args.model.now c.args.locals.now) (out-PostTree c.args.t.now).at form_suffix (typing (within c.args.model.now c.args.locals.now) (form_post c.args.t.now)) c.as_slice-suffix-items.result.now c.loop-suffix.suffix-index c.loop-suffix.base c.loop-suffix.invariant c.suffix-item.result c.loop-suffix-test.true c.suffix-item.is c.in_ok-part.field-0 c.in_ok-part.ensures c.in_ok-base-2.base c.in_ok-base-2.ensures
+    suffix_added (within c.args.model.now c.args.locals.now) (out-PostTree c.args.t.now).at form_suffix (typing (within c.args.model.now c.args.locals.now) (form_post c.args.t.now)) c.as_slice-suffix-items.result.now c.loop-suffix.suffix-index (chained c.loop-suffix.chain) c.loop-suffix.invariant c.suffix-item.result c.loop-suffix-test.true c.suffix-item.is (chained c.in_ok-chain.chain) (link_added (within c.args.model.now c.args.locals.now) (out-PostTree c.args.t.now).at c.loop-suffix.chain (form_suffix c.suffix-item.result) c.bare.result c.bare.ensures c.in_ok-base.base c.in_ok-base.ensures c.in_ok-next.next c.in_ok-next.ensures (Ok c.in_ok-chain.chain) c.in_ok-chain.ensures)
 
 pub post-returns : goal.post-returns
 post-returns t c =
-    suffixes_end (within c.args.model.now c.args.locals.now) (out-PostTree c.args.t.now).at form_suffix (typing (within c.args.model.now c.args.locals.now) (form_post c.args.t.now)) c.as_slice-suffix-items.result.now c.loop-suffix.suffix-index c.loop-suffix.base c.loop-suffix.invariant c.loop-suffix-test.false
+    ended_with (typing (within c.args.model.now c.args.locals.now) (form_post c.args.t.now)) (chained c.loop-suffix.chain) (suffixes_end (within c.args.model.now c.args.locals.now) (out-PostTree c.args.t.now).at form_suffix (typing (within c.args.model.now c.args.locals.now) (form_post c.args.t.now)) c.as_slice-suffix-items.result.now c.loop-suffix.suffix-index (chained c.loop-suffix.chain) c.loop-suffix.invariant c.loop-suffix-test.false) c.ended.result c.ended.ensures
 
 pub with_suffix-returns-in_ok-parts-in-Subscripts : goal.with_suffix-returns-in_ok-parts-in-Subscripts
 with_suffix-returns-in_ok-parts-in-Subscripts t c =
@@ -299,17 +299,17 @@ pairs-returns t c =
 
 pub described_set-returns-in_err-add-in-Ok : goal.described_set-returns-in_err-add-in-Ok
 described_set-returns-in_err-add-in-Ok t c =
-    let h = described_fault (within c.args.model.now c.args.locals.now) c.args.at (form_add c.args.value.now) (form_params c.args.params.now) (opened_in c.args.model.now c.in-Ok.opened) (subst (Gives (opened_in c.args.model.now) (open_params data_alone (within c.args.model.now c.args.locals.now) (form_params c.args.params.now))) c.in-Ok.is c.requires) (within c.args.model.now c.as_slice.result.now) (ap (within c.args.model.now) c.as_slice.ensures) c.in_err-add-in-Ok.field-0.0 c.in_err-add-in-Ok.ensures in
+    let h = described_fault (within c.args.model.now c.args.locals.now) c.args.at (form_add c.args.value.now) (form_params c.args.params.now) (opened_in c.args.model.now c.in-Ok.opened) (subst (Gives (opened_in c.args.model.now) (open_params data_alone (within c.args.model.now c.args.locals.now) (form_params c.args.params.now))) c.in-Ok.is c.requires) (within c.args.model.now c.in-Ok.opened.locals) refl c.in_err-add-in-Ok.field-0.0 c.in_err-add-in-Ok.ensures in
     search rules
 
 pub described_set-returns-in_err-value-in-Ok : goal.described_set-returns-in_err-value-in-Ok
 described_set-returns-in_err-value-in-Ok t c =
-    let h = described_wrong (within c.args.model.now c.args.locals.now) c.args.at (form_add c.args.value.now) (form_params c.args.params.now) (opened_in c.args.model.now c.in-Ok.opened) (subst (Gives (opened_in c.args.model.now) (open_params data_alone (within c.args.model.now c.args.locals.now) (form_params c.args.params.now))) c.in-Ok.is c.requires) (within c.args.model.now c.as_slice.result.now) (ap (within c.args.model.now) c.as_slice.ensures) c.in_ok-add-in-Ok.field-0 c.in_ok-add-in-Ok.ensures c.in_err-value-in-Ok.field-0.0 c.in_err-value-in-Ok.ensures in
+    let h = described_wrong (within c.args.model.now c.args.locals.now) c.args.at (form_add c.args.value.now) (form_params c.args.params.now) (opened_in c.args.model.now c.in-Ok.opened) (subst (Gives (opened_in c.args.model.now) (open_params data_alone (within c.args.model.now c.args.locals.now) (form_params c.args.params.now))) c.in-Ok.is c.requires) (within c.args.model.now c.in-Ok.opened.locals) refl c.in_ok-add-in-Ok.field-0 c.in_ok-add-in-Ok.ensures c.in_err-value-in-Ok.field-0.0 c.in_err-value-in-Ok.ensures in
     search rules
 
 pub described_set-returns-in_ok-value-in-Ok : goal.described_set-returns-in_ok-value-in-Ok
 described_set-returns-in_ok-value-in-Ok t c =
-    described_made (within c.args.model.now c.args.locals.now) c.args.at (form_add c.args.value.now) (form_params c.args.params.now) (opened_in c.args.model.now c.in-Ok.opened) (subst (Gives (opened_in c.args.model.now) (open_params data_alone (within c.args.model.now c.args.locals.now) (form_params c.args.params.now))) c.in-Ok.is c.requires) (within c.args.model.now c.as_slice.result.now) (ap (within c.args.model.now) c.as_slice.ensures) c.in_ok-add-in-Ok.field-0 c.in_ok-add-in-Ok.ensures c.in_ok-value-in-Ok.value c.in_ok-value-in-Ok.ensures c.described.result c.described.ensures
+    described_made (within c.args.model.now c.args.locals.now) c.args.at (form_add c.args.value.now) (form_params c.args.params.now) (opened_in c.args.model.now c.in-Ok.opened) (subst (Gives (opened_in c.args.model.now) (open_params data_alone (within c.args.model.now c.args.locals.now) (form_params c.args.params.now))) c.in-Ok.is c.requires) (within c.args.model.now c.in-Ok.opened.locals) refl c.in_ok-add-in-Ok.field-0 c.in_ok-add-in-Ok.ensures c.in_ok-value-in-Ok.value c.in_ok-value-in-Ok.ensures c.described.result c.described.ensures
 
 pub described_set-returns-else-is_memory : goal.described_set-returns-else-is_memory
 described_set-returns-else-is_memory t c =
@@ -318,11 +318,11 @@ described_set-returns-else-is_memory t c =
 pub open_group-returns : goal.open_group-returns
 open_group-returns t c =
     group_made c.args.model.now c.args.opened.now.locals c.args.opened.now.kinds (form_group c.args.t.now) (out-GroupTree c.args.t.now).first (out-GroupTree c.args.t.now).rest (form_set (out-GroupTree c.args.t.now).set) (form_group-is c.args.t.now)
-    c.as_slice.result.now c.as_slice.ensures c.as_slice-2.result.now c.as_slice-2.ensures c.in_ok-all_fresh.ensures
-    c.as_slice-3.result.now c.as_slice-3.ensures c.in_ok-over.over c.in_ok-over.ensures
-    c.or_anything-element.result c.or_anything-element.ensures
+    c.args.opened.now.locals refl c.as_slice.result.now c.as_slice.ensures c.in_ok-all_fresh.ensures
+    c.args.opened.now.locals refl c.in_ok-over.over c.in_ok-over.ensures
+    c.get.result.now (ap sort c.get.ensures ∙ c.in_ok-element.ensures)
     c.in_ok-kinds_in.field-0 c.in_ok-kinds_in.ensures c.append.new.front c.in_ok-append.ensures
-    c.as_slice-4.result.now c.as_slice-4.ensures c.bind_patterns.new.locals c.in_ok-bind_patterns.ensures
+    c.as_slice-2.result.now c.as_slice-2.ensures c.bind_patterns.new.locals c.in_ok-bind_patterns.ensures
 
 pub open_groups-returns-in_err-open_group : goal.open_groups-returns-in_err-open_group
 open_groups-returns-in_err-open_group t c =
@@ -358,14 +358,14 @@ open_params-returns-in-None t c =
 
 pub open_params-returns-in_err-node-in-Some : goal.open_params-returns-in_err-node-in-Some
 open_params-returns-in_err-node-in-Some t c =
-    let h = condition_fault (within c.args.model.now c.args.locals.now) (need_of c.args.need) (form_params c.args.t.now) (form_group (out-ParamsTree c.args.t.now).first ∷ map form_group_step (out-ParamsTree c.args.t.now).rest) (form_group (out-ParamsTree c.args.t.now).first ∷ map form_group_step (out-ParamsTree c.args.t.now).rest) (option_map form_expr (out-ParamsTree c.args.t.now).condition) (form_params-is c.args.t.now) refl (form_expr c.get.result.now) (ap (option_map form_expr) c.in-Some.is ∙ ap (λ x. Some (form_expr x)) (sym c.get.ensures)) (opened_in c.args.model.now c.in_ok-opened.opened) c.in_ok-opened.ensures (within c.args.model.now c.as_slice.result.now) (ap (within c.args.model.now) c.as_slice.ensures) (opened_in c.args.model.now) c.in_err-node-in-Some.field-0.0 c.in_err-node-in-Some.ensures in
+    let h = condition_fault (within c.args.model.now c.args.locals.now) (need_of c.args.need) (form_params c.args.t.now) (form_group (out-ParamsTree c.args.t.now).first ∷ map form_group_step (out-ParamsTree c.args.t.now).rest) (form_group (out-ParamsTree c.args.t.now).first ∷ map form_group_step (out-ParamsTree c.args.t.now).rest) (option_map form_expr (out-ParamsTree c.args.t.now).condition) (form_params-is c.args.t.now) refl (form_expr c.get.result.now) (ap (option_map form_expr) c.in-Some.is ∙ ap (λ x. Some (form_expr x)) (sym c.get.ensures)) (opened_in c.args.model.now c.in_ok-opened.opened) c.in_ok-opened.ensures (within c.args.model.now c.in_ok-opened.opened.locals) refl (opened_in c.args.model.now) c.in_err-node-in-Some.field-0.0 c.in_err-node-in-Some.ensures in
     search rules
 
 pub open_params-returns-in_err-settled-in-Some : goal.open_params-returns-in_err-settled-in-Some
 open_params-returns-in_err-settled-in-Some t c =
-    let h = condition_wrong (within c.args.model.now c.args.locals.now) (need_of c.args.need) (form_params c.args.t.now) (form_group (out-ParamsTree c.args.t.now).first ∷ map form_group_step (out-ParamsTree c.args.t.now).rest) (form_group (out-ParamsTree c.args.t.now).first ∷ map form_group_step (out-ParamsTree c.args.t.now).rest) (option_map form_expr (out-ParamsTree c.args.t.now).condition) (form_params-is c.args.t.now) refl (form_expr c.get.result.now) (ap (option_map form_expr) c.in-Some.is ∙ ap (λ x. Some (form_expr x)) (sym c.get.ensures)) (opened_in c.args.model.now c.in_ok-opened.opened) c.in_ok-opened.ensures (within c.args.model.now c.as_slice.result.now) (ap (within c.args.model.now) c.as_slice.ensures) c.in_ok-node-in-Some.node c.in_ok-node-in-Some.ensures c.is_truth-is_taken.result c.is_truth-is_taken.ensures (opened_in c.args.model.now) c.in_err-settled-in-Some.field-0.0 c.in_err-settled-in-Some.ensures in
+    let h = condition_wrong (within c.args.model.now c.args.locals.now) (need_of c.args.need) (form_params c.args.t.now) (form_group (out-ParamsTree c.args.t.now).first ∷ map form_group_step (out-ParamsTree c.args.t.now).rest) (form_group (out-ParamsTree c.args.t.now).first ∷ map form_group_step (out-ParamsTree c.args.t.now).rest) (option_map form_expr (out-ParamsTree c.args.t.now).condition) (form_params-is c.args.t.now) refl (form_expr c.get.result.now) (ap (option_map form_expr) c.in-Some.is ∙ ap (λ x. Some (form_expr x)) (sym c.get.ensures)) (opened_in c.args.model.now c.in_ok-opened.opened) c.in_ok-opened.ensures (within c.args.model.now c.in_ok-opened.opened.locals) refl c.in_ok-node-in-Some.node c.in_ok-node-in-Some.ensures c.is_truth-is_taken.result (c.is_truth-is_taken.ensures ∙ ap (λ x. is_truth (sort x)) c.get-in-Some.ensures) (opened_in c.args.model.now) c.in_err-settled-in-Some.field-0.0 c.in_err-settled-in-Some.ensures in
     search rules
 
 pub open_params-returns-in_ok-add_kinds-in-Some : goal.open_params-returns-in_ok-add_kinds-in-Some
 open_params-returns-in_ok-add_kinds-in-Some t c =
-    condition_taken (within c.args.model.now c.args.locals.now) (need_of c.args.need) (form_params c.args.t.now) (form_group (out-ParamsTree c.args.t.now).first ∷ map form_group_step (out-ParamsTree c.args.t.now).rest) (form_group (out-ParamsTree c.args.t.now).first ∷ map form_group_step (out-ParamsTree c.args.t.now).rest) (option_map form_expr (out-ParamsTree c.args.t.now).condition) (form_params-is c.args.t.now) refl (form_expr c.get.result.now) (ap (option_map form_expr) c.in-Some.is ∙ ap (λ x. Some (form_expr x)) (sym c.get.ensures)) (opened_in c.args.model.now c.in_ok-opened.opened) c.in_ok-opened.ensures (within c.args.model.now c.as_slice.result.now) (ap (within c.args.model.now) c.as_slice.ensures) c.in_ok-node-in-Some.node c.in_ok-node-in-Some.ensures c.is_truth-is_taken.result c.is_truth-is_taken.ensures c.in_ok-settled-in-Some.field-0 c.in_ok-settled-in-Some.ensures (map sort c.add_kinds.new.kinds) c.in_ok-add_kinds-in-Some.ensures
+    condition_taken (within c.args.model.now c.args.locals.now) (need_of c.args.need) (form_params c.args.t.now) (form_group (out-ParamsTree c.args.t.now).first ∷ map form_group_step (out-ParamsTree c.args.t.now).rest) (form_group (out-ParamsTree c.args.t.now).first ∷ map form_group_step (out-ParamsTree c.args.t.now).rest) (option_map form_expr (out-ParamsTree c.args.t.now).condition) (form_params-is c.args.t.now) refl (form_expr c.get.result.now) (ap (option_map form_expr) c.in-Some.is ∙ ap (λ x. Some (form_expr x)) (sym c.get.ensures)) (opened_in c.args.model.now c.in_ok-opened.opened) c.in_ok-opened.ensures (within c.args.model.now c.in_ok-opened.opened.locals) refl c.in_ok-node-in-Some.node c.in_ok-node-in-Some.ensures c.is_truth-is_taken.result (c.is_truth-is_taken.ensures ∙ ap (λ x. is_truth (sort x)) c.get-in-Some.ensures) c.in_ok-settled-in-Some.field-0 c.in_ok-settled-in-Some.ensures (map sort c.add_kinds.new.kinds) c.in_ok-add_kinds-in-Some.ensures

@@ -4,7 +4,7 @@ use Rattle.opl_type_rules.specs.Expressions.{open_groups, part, typed_pairs, typ
 use Rattle.opl_type_rules.specs.Forms.{form_add, form_add_step, form_and, form_group, form_group_step, form_imp, form_keyed, form_mul_step, form_neg, form_post, form_suffix, forms_of, groups_of, pairs_of}
 use Rattle.opl_type_rules.specs.Scope.{and_then}
 use Rattle.opl_type_rules.specs.Steps.{open_each, suffixed}
-use Rattle.opl_type_rules.specs.Values.{node_of, within}
+use Rattle.opl_type_rules.specs.Values.{chained, node_of, within}
 use Rattle.opl_expression_types.specs.Values.{opened_in}
 use Rattle.opl_expression_types.proofs.expression.+expressions.Given as goal
 
@@ -36,7 +36,7 @@ invariant-mul_steps-loop-t l =
 abbrev pub invariant-post-loop-suffix : goal.invariant-post-loop-suffix
 invariant-post-loop-suffix l =
     typing (within l.model l.locals) (form_post l.t)
-    ≡ suffixed (within l.model l.locals) (out-PostTree l.t).at (Ok (node_of l.base)) (map form_suffix (drop l.suffix-index l.suffix-items))
+    ≡ suffixed (within l.model l.locals) (out-PostTree l.t).at (Ok (chained l.chain)) (map form_suffix (drop l.suffix-index l.suffix-items))
 
 abbrev pub invariant-adds-loop-t : goal.invariant-adds-loop-t
 invariant-adds-loop-t l =

@@ -1,0 +1,12 @@
+//! The types of a model's expressions, and the first fault of a model whose expressions do not fit together.
+#![tactic(auto)]
+
+mod declaration;
+mod item;
+pub mod laws;
+mod search;
+mod typed;
+
+pub use opl_type_rules::fault::TypeFault;
+pub use opl_type_rules::kind::Ty;
+pub use typed::{Typed, kinds_of, with_kinds};

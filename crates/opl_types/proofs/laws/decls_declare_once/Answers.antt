@@ -1,5 +1,0 @@
-use Rattle.opl_types.proofs.DeclsOnce.{decls_declare_once}
-use Rattle.opl_types.proofs.laws.decls_declare_once.Goals as goal
-
-pub returns : goal.returns
-returns c = decls_declare_once

@@ -1,5 +1,0 @@
-use Rattle.opl_types.proofs.NamesInModels.{model_is_declared}
-use Rattle.opl_types.proofs.laws.model_is_declared.Goals as goal
-
-pub returns : goal.returns
-returns c = model_is_declared

@@ -1,5 +1,0 @@
-use Rattle.opl_types.proofs.Once.{names_are_declared}
-use Rattle.opl_types.proofs.laws.names_are_declared.Goals as goal
-
-pub returns : goal.returns
-returns c = names_are_declared

@@ -1,5 +1,0 @@
-use Rattle.opl_types.proofs.Outcome.{none_faulty}
-use Rattle.opl_types.proofs.laws.none_faulty.Goals as goal
-
-pub returns : goal.returns
-returns c = none_faulty

@@ -1,5 +1,0 @@
-use Rattle.opl_types.proofs.Outcome.{one_fault}
-use Rattle.opl_types.proofs.laws.one_fault.Goals as goal
-
-pub returns : goal.returns
-returns c = one_fault

@@ -1,5 +1,0 @@
-use Rattle.opl_types.proofs.Outcome.{one_list}
-use Rattle.opl_types.proofs.laws.one_list.Goals as goal
-
-pub returns : goal.returns
-returns c = one_list

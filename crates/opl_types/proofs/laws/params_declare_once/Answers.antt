@@ -1,5 +1,0 @@
-use Rattle.opl_types.proofs.ParamsOnce.{params_declare_once}
-use Rattle.opl_types.proofs.laws.params_declare_once.Goals as goal
-
-pub returns : goal.returns
-returns c = params_declare_once

@@ -1,5 +1,0 @@
-use Rattle.opl_types.proofs.EachOnce.{typed_is_declared}
-use Rattle.opl_types.proofs.laws.typed_is_declared.Goals as goal
-
-pub returns : goal.returns
-returns c = typed_is_declared
