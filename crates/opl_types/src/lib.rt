@@ -7,10 +7,9 @@ ghost use Rattle.opl_type_rules.specs.Types.{sort};
 ghost use Rattle.opl_type_rules.specs.Values.{Gives};
 
 use opl_list::Seq;
+pub use opl_model_types::{Ty, TypeFault, Typed, laws};
 use opl_tree::ModelTree;
 use std::alloc::Global;
-
-pub use opl_model_types::{Ty, TypeFault, Typed, laws};
 
 /// The types of a model's expressions in preorder.
 fn kinds(alloc: Global, model: &ModelTree) -> Result<Seq<Ty>, TypeFault>
