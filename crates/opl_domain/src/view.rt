@@ -39,9 +39,17 @@ pub trait View {
 
 /// Sets that can lose values.
 pub trait Narrow: View {
+    /// What cuts may lead to, beside the sets: what else a value has stays, or changes only so.
+    ghost leads_to: { Self → Self → Type 0 };
+
     /// Removes the values of `x` from `lo` to `hi`. One must stay; the other sets stay as they are.
     fn cut(&mut self, x: u32, lo: i64, hi: i64)
         requires within { x < length (Self.family self.old) }
         requires stays { (v : ℤ) × (has (cut_of (Self.family self.old) x lo hi) x v ≡ true) }
-        ensures { Self.family self.new ≡ cut_of (Self.family self.old) x lo hi };
+        ensures cut { Self.family self.new ≡ cut_of (Self.family self.old) x lo hi }
+        ensures leads_to { leads_to self.old self.new };
+
+    ghost leads_to_itself: { (s : Self) → leads_to s s };
+
+    ghost leads_on: { (s t u : Self) → leads_to s t → leads_to t u → leads_to s u };
 }

@@ -104,9 +104,9 @@ demand_at t u =
     scale u.demand
     (truth (and (more_facts (cmp at_most (var u.start) (const t)) (more_facts (cmp below (const t) (plus (var u.start) (var u.duration))) no_facts))))
 
--- at time t the demands on a resource are at most its capacity
+-- at time t the demands on a resource are at most its capacity; of a resource that isn't there, this has no value
 abbrev pub capacity_at : Option Resource → ℤ → Fact
-capacity_at None t = fixed true
+capacity_at None t = cmp equal (at None no_terms) (const (pos 0))
 capacity_at (Some r) t = cmp at_most (sum (terms_of (map (demand_at t) r.uses))) (const r.capacity)
 
 module _ (tables : List Table) (resources : List Resource) where

@@ -1,10 +1,17 @@
-//! Copies of expressions and constraints.
+//! Copies of expressions and constraints. What is copied stands in a box until no step is left that can fail.
 ghost use Rattle.std.specs.Prelude.{◌≡◌, IfOk};
 
 use crate::forms::{Cons, Expr};
 use opl_domain::OutOfMemory;
 use opl_list::{Boxed, Seq};
 use std::alloc::Global;
+
+/// A box that holds `value`.
+pub(crate) fn boxed<T: Drop>(alloc: Global, value: T) -> Result<Boxed<T>, OutOfMemory>
+    ensures { IfOk result (λ b. b ≡ value) }
+{
+    Ok(Boxed::new(alloc, value)?)
+}
 
 /// Copies of expressions, in their order.
 #[cycle(copies)]
@@ -13,7 +20,7 @@ fn expressions(alloc: Global, parts: &[Expr]) -> Result<Seq<Expr>, OutOfMemory>
 {
     let mut copies = Seq::new(alloc);
     for part in parts {
-        copies.push(part.copy(alloc)?)?;
+        copies.push(part.boxed_copy(alloc)?.into_inner())?;
     }
     Ok(copies)
 }
@@ -25,74 +32,92 @@ pub fn constraints(alloc: Global, parts: &[Cons]) -> Result<Seq<Cons>, OutOfMemo
 {
     let mut copies = Seq::new(alloc);
     for part in parts {
-        copies.push(part.copy(alloc)?)?;
+        copies.push(part.boxed_copy(alloc)?.into_inner())?;
     }
     Ok(copies)
 }
 
 impl Expr {
-    /// An equal expression.
+    /// An equal expression, in a box.
     #[cycle(copies)]
-    pub fn copy(&self, alloc: Global) -> Result<Expr, OutOfMemory>
+    fn boxed_copy(&self, alloc: Global) -> Result<Boxed<Expr>, OutOfMemory>
         ensures { IfOk result (λ r. r ≡ self.now) }
     {
         match self {
-            Expr::Const(k) => Ok(Expr::Const(*k)),
-            Expr::Var(x) => Ok(Expr::Var(*x)),
-            Expr::Sum(parts) => Ok(Expr::Sum(expressions(alloc, parts.as_slice())?)),
-            Expr::Neg(a) => Ok(Expr::Neg(Boxed::new(alloc, a.get().copy(alloc)?)?)),
-            Expr::Mul(a, b) => Ok(Expr::Mul(
-                Boxed::new(alloc, a.get().copy(alloc)?)?,
-                Boxed::new(alloc, b.get().copy(alloc)?)?,
-            )),
-            Expr::Div(a, b) => Ok(Expr::Div(
-                Boxed::new(alloc, a.get().copy(alloc)?)?,
-                Boxed::new(alloc, b.get().copy(alloc)?)?,
-            )),
-            Expr::Rem(a, b) => Ok(Expr::Rem(
-                Boxed::new(alloc, a.get().copy(alloc)?)?,
-                Boxed::new(alloc, b.get().copy(alloc)?)?,
-            )),
-            Expr::Abs(a) => Ok(Expr::Abs(Boxed::new(alloc, a.get().copy(alloc)?)?)),
-            Expr::Min(parts) => Ok(Expr::Min(expressions(alloc, parts.as_slice())?)),
-            Expr::Max(parts) => Ok(Expr::Max(expressions(alloc, parts.as_slice())?)),
-            Expr::At(table, parts) => Ok(Expr::At(*table, expressions(alloc, parts.as_slice())?)),
-            Expr::Truth(c) => Ok(Expr::Truth(Boxed::new(alloc, c.get().copy(alloc)?)?)),
-            Expr::Ask(ask, x) => Ok(Expr::Ask(*ask, *x)),
+            Expr::Const(k) => boxed(alloc, Expr::Const(*k)),
+            Expr::Var(x) => boxed(alloc, Expr::Var(*x)),
+            Expr::Sum(parts) => boxed(alloc, Expr::Sum(expressions(alloc, parts.as_slice())?)),
+            Expr::Neg(a) => boxed(alloc, Expr::Neg(a.get().boxed_copy(alloc)?)),
+            Expr::Mul(a, b) => boxed(
+                alloc,
+                Expr::Mul(a.get().boxed_copy(alloc)?, b.get().boxed_copy(alloc)?),
+            ),
+            Expr::Div(a, b) => boxed(
+                alloc,
+                Expr::Div(a.get().boxed_copy(alloc)?, b.get().boxed_copy(alloc)?),
+            ),
+            Expr::Rem(a, b) => boxed(
+                alloc,
+                Expr::Rem(a.get().boxed_copy(alloc)?, b.get().boxed_copy(alloc)?),
+            ),
+            Expr::Abs(a) => boxed(alloc, Expr::Abs(a.get().boxed_copy(alloc)?)),
+            Expr::Min(parts) => boxed(alloc, Expr::Min(expressions(alloc, parts.as_slice())?)),
+            Expr::Max(parts) => boxed(alloc, Expr::Max(expressions(alloc, parts.as_slice())?)),
+            Expr::At(table, parts) => {
+                boxed(
+                    alloc,
+                    Expr::At(*table, expressions(alloc, parts.as_slice())?),
+                )
+            }
+            Expr::Truth(c) => boxed(alloc, Expr::Truth(c.get().boxed_copy(alloc)?)),
+            Expr::Ask(ask, x) => boxed(alloc, Expr::Ask(*ask, *x)),
         }
+    }
+
+    /// An equal expression.
+    pub fn copy(&self, alloc: Global) -> Result<Expr, OutOfMemory>
+        ensures { IfOk result (λ r. r ≡ self.now) }
+    {
+        Ok(self.boxed_copy(alloc)?.into_inner())
     }
 }
 
 impl Cons {
-    /// An equal constraint.
+    /// An equal constraint, in a box.
     #[cycle(copies)]
-    pub fn copy(&self, alloc: Global) -> Result<Cons, OutOfMemory>
+    fn boxed_copy(&self, alloc: Global) -> Result<Boxed<Cons>, OutOfMemory>
         ensures { IfOk result (λ r. r ≡ self.now) }
     {
         match self {
-            Cons::Fixed(b) => Ok(Cons::Fixed(*b)),
-            Cons::Cmp(op, a, b) => Ok(Cons::Cmp(
-                *op,
-                Boxed::new(alloc, a.get().copy(alloc)?)?,
-                Boxed::new(alloc, b.get().copy(alloc)?)?,
-            )),
-            Cons::And(parts) => Ok(Cons::And(constraints(alloc, parts.as_slice())?)),
-            Cons::Or(parts) => Ok(Cons::Or(constraints(alloc, parts.as_slice())?)),
-            Cons::Imp(a, b) => Ok(Cons::Imp(
-                Boxed::new(alloc, a.get().copy(alloc)?)?,
-                Boxed::new(alloc, b.get().copy(alloc)?)?,
-            )),
-            Cons::Iff(a, b) => Ok(Cons::Iff(
-                Boxed::new(alloc, a.get().copy(alloc)?)?,
-                Boxed::new(alloc, b.get().copy(alloc)?)?,
-            )),
-            Cons::Not(a) => Ok(Cons::Not(Boxed::new(alloc, a.get().copy(alloc)?)?)),
-            Cons::AllDifferent(parts) => Ok(Cons::AllDifferent(expressions(
+            Cons::Fixed(b) => boxed(alloc, Cons::Fixed(*b)),
+            Cons::Cmp(op, a, b) => boxed(
                 alloc,
-                parts.as_slice(),
-            )?)),
-            Cons::Capacity(resource, time) => Ok(Cons::Capacity(*resource, *time)),
-            Cons::Bound(x) => Ok(Cons::Bound(*x)),
+                Cons::Cmp(*op, a.get().boxed_copy(alloc)?, b.get().boxed_copy(alloc)?),
+            ),
+            Cons::And(parts) => boxed(alloc, Cons::And(constraints(alloc, parts.as_slice())?)),
+            Cons::Or(parts) => boxed(alloc, Cons::Or(constraints(alloc, parts.as_slice())?)),
+            Cons::Imp(a, b) => boxed(
+                alloc,
+                Cons::Imp(a.get().boxed_copy(alloc)?, b.get().boxed_copy(alloc)?),
+            ),
+            Cons::Iff(a, b) => boxed(
+                alloc,
+                Cons::Iff(a.get().boxed_copy(alloc)?, b.get().boxed_copy(alloc)?),
+            ),
+            Cons::Not(a) => boxed(alloc, Cons::Not(a.get().boxed_copy(alloc)?)),
+            Cons::AllDifferent(parts) => boxed(
+                alloc,
+                Cons::AllDifferent(expressions(alloc, parts.as_slice())?),
+            ),
+            Cons::Capacity(resource, time) => boxed(alloc, Cons::Capacity(*resource, *time)),
+            Cons::Bound(x) => boxed(alloc, Cons::Bound(*x)),
         }
+    }
+
+    /// An equal constraint.
+    pub fn copy(&self, alloc: Global) -> Result<Cons, OutOfMemory>
+        ensures { IfOk result (λ r. r ≡ self.now) }
+    {
+        Ok(self.boxed_copy(alloc)?.into_inner())
     }
 }

@@ -1,8 +1,8 @@
-//! Copies of statements and of whole cores.
+//! Copies of statements and of whole cores. What is copied stands in a box until no step is left that can fail.
 ghost use Rattle.std.specs.Prelude.{◌≡◌, IfOk};
 
-use crate::copy::constraints;
-use crate::forms::Expr;
+use crate::copy::{boxed, constraints};
+use crate::forms::{Cons, Expr};
 use crate::model::{Core, Goal};
 use crate::search::{Branch, Step};
 use crate::tables::{Resource, Table};
@@ -18,7 +18,7 @@ fn steps(alloc: Global, parts: &[Step]) -> Result<Seq<Step>, OutOfMemory>
 {
     let mut copies = Seq::new(alloc);
     for part in parts {
-        copies.push(part.copy(alloc)?)?;
+        copies.push(part.boxed_copy(alloc)?.into_inner())?;
     }
     Ok(copies)
 }
@@ -30,7 +30,7 @@ fn branches(alloc: Global, parts: &[Branch]) -> Result<Seq<Branch>, OutOfMemory>
 {
     let mut copies = Seq::new(alloc);
     for part in parts {
-        copies.push(part.copy(alloc)?)?;
+        copies.push(part.boxed_copy(alloc)?.into_inner())?;
     }
     Ok(copies)
 }
@@ -45,50 +45,82 @@ fn optional_expression(alloc: Global, e: &Option<Expr>) -> Result<Option<Expr>, 
     }
 }
 
+/// An alternative of its parts.
+fn branch_of(when: Boxed<Cons>, key: Boxed<Option<Expr>>, rising: bool, body: Boxed<Step>) -> Branch
+    ensures { result ≡ record { when = when; key = key; rising = rising; body = body } }
+{
+    Branch {
+        when: when.into_inner(),
+        key: key.into_inner(),
+        rising,
+        body: body.into_inner(),
+    }
+}
+
 impl Branch {
-    /// An equal alternative.
+    /// An equal alternative, in a box.
     #[cycle(step_copies)]
+    fn boxed_copy(&self, alloc: Global) -> Result<Boxed<Branch>, OutOfMemory>
+        ensures { IfOk result (λ r. r ≡ self.now) }
+    {
+        let when = boxed(alloc, self.when.copy(alloc)?)?;
+        let key = boxed(alloc, optional_expression(alloc, &self.key)?)?;
+        let body = self.body.boxed_copy(alloc)?;
+        boxed(alloc, branch_of(when, key, self.rising, body))
+    }
+
+    /// An equal alternative.
     pub fn copy(&self, alloc: Global) -> Result<Branch, OutOfMemory>
         ensures { IfOk result (λ r. r ≡ self.now) }
     {
-        Ok(Branch {
-            when: self.when.copy(alloc)?,
-            key: optional_expression(alloc, &self.key)?,
-            rising: self.rising,
-            body: self.body.copy(alloc)?,
-        })
+        Ok(self.boxed_copy(alloc)?.into_inner())
     }
 }
 
 impl Step {
-    /// An equal statement.
+    /// An equal statement, in a box.
     #[cycle(step_copies)]
-    pub fn copy(&self, alloc: Global) -> Result<Step, OutOfMemory>
+    fn boxed_copy(&self, alloc: Global) -> Result<Boxed<Step>, OutOfMemory>
         ensures { IfOk result (λ r. r ≡ self.now) }
     {
         match self {
-            Step::Post(c) => Ok(Step::Post(c.copy(alloc)?)),
-            Step::Block(parts) => Ok(Step::Block(steps(alloc, parts.as_slice())?)),
-            Step::Try(parts) => Ok(Step::Try(steps(alloc, parts.as_slice())?)),
-            Step::TryAll(elements) => Ok(Step::TryAll(branches(alloc, elements.as_slice())?)),
-            Step::ForAll(elements) => Ok(Step::ForAll(branches(alloc, elements.as_slice())?)),
-            Step::Select(elements) => Ok(Step::Select(branches(alloc, elements.as_slice())?)),
-            Step::Once(s) => Ok(Step::Once(Boxed::new(alloc, s.get().copy(alloc)?)?)),
-            Step::While(c, s) => Ok(Step::While(
-                c.copy(alloc)?,
-                Boxed::new(alloc, s.get().copy(alloc)?)?,
-            )),
-            Step::If(c, s, t) => Ok(Step::If(
-                c.copy(alloc)?,
-                Boxed::new(alloc, s.get().copy(alloc)?)?,
-                Boxed::new(alloc, t.get().copy(alloc)?)?,
-            )),
-            Step::Generate(variables) => Ok(Step::Generate(Seq::from_slice(
+            Step::Post(c) => boxed(alloc, Step::Post(c.copy(alloc)?)),
+            Step::Block(parts) => boxed(alloc, Step::Block(steps(alloc, parts.as_slice())?)),
+            Step::Try(parts) => boxed(alloc, Step::Try(steps(alloc, parts.as_slice())?)),
+            Step::TryAll(elements) => {
+                boxed(alloc, Step::TryAll(branches(alloc, elements.as_slice())?))
+            }
+            Step::ForAll(elements) => {
+                boxed(alloc, Step::ForAll(branches(alloc, elements.as_slice())?))
+            }
+            Step::Select(elements) => {
+                boxed(alloc, Step::Select(branches(alloc, elements.as_slice())?))
+            }
+            Step::Once(s) => boxed(alloc, Step::Once(s.get().boxed_copy(alloc)?)),
+            Step::While(c, s) => {
+                let body = s.get().boxed_copy(alloc)?;
+                boxed(alloc, Step::While(c.copy(alloc)?, body))
+            }
+            Step::If(c, s, t) => {
+                let yes = s.get().boxed_copy(alloc)?;
+                let no = t.get().boxed_copy(alloc)?;
+                boxed(alloc, Step::If(c.copy(alloc)?, yes, no))
+            }
+            Step::Generate(variables) => boxed(
                 alloc,
-                variables.as_slice(),
-            )?)),
-            Step::Rank(pairs) => Ok(Step::Rank(Seq::from_slice(alloc, pairs.as_slice())?)),
+                Step::Generate(Seq::from_slice(alloc, variables.as_slice())?),
+            ),
+            Step::Rank(pairs) => {
+                boxed(alloc, Step::Rank(Seq::from_slice(alloc, pairs.as_slice())?))
+            }
         }
+    }
+
+    /// An equal statement.
+    pub fn copy(&self, alloc: Global) -> Result<Step, OutOfMemory>
+        ensures { IfOk result (λ r. r ≡ self.now) }
+    {
+        Ok(self.boxed_copy(alloc)?.into_inner())
     }
 }
 
@@ -208,14 +240,21 @@ impl Core {
     pub fn copy(&self, alloc: Global) -> Result<Core, OutOfMemory>
         ensures { IfOk result (λ r. r ≡ self.now) }
     {
+        let names = names(alloc, self.names.as_slice())?;
+        let sets = Seq::from_slice(alloc, self.sets.as_slice())?;
+        let tables = tables(alloc, self.tables.as_slice())?;
+        let resources = resources(alloc, self.resources.as_slice())?;
+        let cons = constraints(alloc, self.cons.as_slice())?;
+        let goal = boxed(alloc, optional_goal(alloc, &self.goal)?)?;
+        let search = optional_step(alloc, &self.search)?;
         Ok(Core {
-            names: names(alloc, self.names.as_slice())?,
-            sets: Seq::from_slice(alloc, self.sets.as_slice())?,
-            tables: tables(alloc, self.tables.as_slice())?,
-            resources: resources(alloc, self.resources.as_slice())?,
-            cons: constraints(alloc, self.cons.as_slice())?,
-            goal: optional_goal(alloc, &self.goal)?,
-            search: optional_step(alloc, &self.search)?,
+            names,
+            sets,
+            tables,
+            resources,
+            cons,
+            goal: goal.into_inner(),
+            search,
         })
     }
 }

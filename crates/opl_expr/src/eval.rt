@@ -196,7 +196,7 @@ pub fn holds(core: &Core, c: &Cons, values: &[i64]) -> Option<bool>
         ),
         Cons::AllDifferent(parts) => all_differ(core, parts.as_slice(), values),
         Cons::Capacity(resource, time) => match core.resources.get(*resource as usize) {
-            None => Some(true),
+            None => None,
             Some(r) => Some(total_demand(r.uses.as_slice(), *time, values) <= r.capacity),
         },
         Cons::Bound(_x) => None,

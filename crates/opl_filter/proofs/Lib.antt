@@ -6,3 +6,4 @@ mod Mentioned
 mod Trying
 mod Outcomes
 mod Refuting
+pub mod Agreeing

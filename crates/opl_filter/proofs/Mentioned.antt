@@ -17,7 +17,7 @@ use Rattle.opl_expr.specs.Solutions.{declared}
 use Rattle.opl_filter.specs.Mentions.{cell_mentions, cells_mention, table_mentions, term_mentions, terms_mention, mentions, facts_mention, AreVariables}
 use Rattle.opl_filter.specs.Filtering.{refutes}
 use Rattle.opl_filter.specs.Rounds.{AreThere, LooksOnlyAt}
-use Rattle.opl_filter.proofs.Unmentioned.{others_dont_matter}
+use Rattle.opl_filter.proofs.Unmentioned.{others_dont_matter, differ_only}
 
 both_hold : (a b : Bool) → (a && b) ≡ true → (a ≡ true) × (b ≡ true)
 both_hold true b h = (refl, h)
@@ -87,4 +87,4 @@ pub variables_there : (core : Core) (c : Fact) (variables : List ℕ) (F : Famil
 variables_there core c variables F s b a x h = omega (arith, b.same, declared_length core, fact_there core.sets x c s (sym (a x) ∙ h))
 
 pub refutes_looks : (c : Fact) (variables : List ℕ) → AreVariables variables c → LooksOnlyAt variables (refutes c)
-refutes_looks c variables a F x v f h = ap (λ r. cond (is_possible r) false true) (others_dont_matter c F x v f (sym (a x) ∙ h))
+refutes_looks c variables a F x v f h = ap (λ r. cond (is_possible r) false true) (others_dont_matter c (only F x v) F x (differ_only F x v f) (sym (a x) ∙ h))

@@ -7,7 +7,8 @@ use Rattle.opl_domain.proofs.Sets.{length-cut, cut_here, cut_there}
 use Rattle.opl_trace.specs.Stable.{IsMonotone}
 use Rattle.opl_trace.proofs.Families.{has_at, below_self, below_join}
 use Rattle.opl_trace.proofs.StoredSets.{cut_is_family}
-use Rattle.opl_trace.proofs.Removals.{Kept, kept_self, kept_cut}
+use Rattle.opl_trace.specs.Removals.{Kept}
+use Rattle.opl_trace.proofs.Removals.{kept_self, kept_cut}
 use Rattle.opl_filter.specs.Filtering.{CanGo, without, EachCanGo, IsLeftOf}
 use Rattle.opl_filter.specs.Laws.{RemovalsLoseNone, RemovalsWiden}
 

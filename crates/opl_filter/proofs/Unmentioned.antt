@@ -18,14 +18,7 @@ use Rattle.opl_expr.specs.Options.{lift1, bind1, lift, bind, lift_all, lift_some
 use Rattle.opl_expr.specs.Range.{verdict, flip, same_truth, is_possible, span_scale, Linear, constant, minus, weighted, with_variables, range_of_linear, has_zero, never_zero, compare, compare_of, taken, chosen, masks, look_up, cell_range, coef, coefs, pure, ends, may_be, rest, linears, fact_range, fact_ranges}
 use Rattle.opl_trace.proofs.Families.{only_full}
 use Rattle.opl_filter.specs.Mentions.{cell_mentions, cells_mention, table_mentions, term_mentions, terms_mention, mentions, facts_mention}
-use Rattle.opl_filter.specs.Laws.{OthersDontMatter}
-
--- no set is empty, and the sets of all variables but x are the same
-record DifferAt (x : ℕ) (F G : Family) : Type 0 where
-  pub same : length F ≡ length G
-  pub first : Full F
-  pub second : Full G
-  pub others : (y : ℕ) → y ≢ x → set_of F y ≡ set_of G y
+use Rattle.opl_filter.specs.Fresh.{DifferAt}
 
 pub neither : (a b : Bool) → (a || b) ≡ false → (a ≡ false) × (b ≡ false)
 neither true b h = cc
@@ -255,7 +248,7 @@ module _ (x : ℕ) (F G : Family) (d : DifferAt x F G) where
         let n = neither (term_mentions t x) (terms_mention ts x) h in
         ap (λ r. linear t r ∷ linears F ts) (rest_same t n.0) ∙ ap (λ es. linear t (rest G t) ∷ es) (linears_same ts n.1)
 
-    fact_same : (c : Fact) → mentions c x ≡ false → fact_range F c ≡ fact_range G c
+    pub fact_same : (c : Fact) → mentions c x ≡ false → fact_range F c ≡ fact_range G c
     fact_same (Fact.fixed b) h = refl
     fact_same (Fact.cmp rel s t) h =
         let n = neither (term_mentions s x) (term_mentions t x) h in
@@ -275,8 +268,8 @@ module _ (x : ℕ) (F G : Family) (d : DifferAt x F G) where
         let n = neither (mentions c x) (facts_mention cs x) h in
         ap (λ r. r ∷ fact_ranges F cs) (fact_same c n.0) ∙ ap (λ rs. fact_range G c ∷ rs) (facts_same cs n.1)
 
-differ_only : (F : Family) (x : ℕ) (v : ℤ) → Full F → DifferAt x (only F x v) F
+pub differ_only : (F : Family) (x : ℕ) (v : ℤ) → Full F → DifferAt x (only F x v) F
 differ_only F x v f = record { same = length-only F x v; first = only_full F x v f; second = f; others = λ y n. only_there F x y v n }
 
-pub others_dont_matter : OthersDontMatter
-others_dont_matter c F x v f h = fact_same x (only F x v) F (differ_only F x v f) c h
+pub others_dont_matter : (c : Fact) (F G : Family) (x : ℕ) → DifferAt x F G → mentions c x ≡ false → fact_range F c ≡ fact_range G c
+others_dont_matter c F G x d h = fact_same x F G d c h

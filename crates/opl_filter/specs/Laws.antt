@@ -5,6 +5,7 @@ use Rattle.opl_expr.specs.Forms.{Fact}
 use Rattle.opl_expr.specs.Range.{fact_range}
 use Rattle.opl_trace.specs.Stable.{IsMonotone, IsStableWithin}
 use Rattle.opl_filter.specs.Mentions.{mentions}
+use Rattle.opl_filter.specs.Fresh.{AgreeOn}
 use Rattle.opl_filter.specs.Filtering.{IsLeftOf}
 
 -- no value of a stable family goes
@@ -29,6 +30,6 @@ RunsCanGo =
     (dead : Family → Bool) (F : Family) (x : ℕ) (lo hi : ℤ) → IsMonotone dead → IsFamily F → x < length F → IsDeadRun dead F x lo hi →
     (w : ℤ) × (has (cut_of F x lo hi) x w ≡ true) → IsLeftOf dead F (cut_of F x lo hi)
 
--- a variable that a constraint doesn't mention has no part in its range
+-- the range of a constraint is the same over families that agree on the variables that it mentions
 abbrev pub OthersDontMatter : Type 0
-OthersDontMatter = (c : Fact) (F : Family) (x : ℕ) (v : ℤ) → Full F → mentions c x ≡ false → fact_range (only F x v) c ≡ fact_range F c
+OthersDontMatter = (c : Fact) (F G : Family) → AgreeOn (mentions c) F G → fact_range F c ≡ fact_range G c

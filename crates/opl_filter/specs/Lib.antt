@@ -1,4 +1,5 @@
 pub mod Mentions
+pub mod Fresh
 pub mod Filtering
 pub mod Rounds
 pub mod Laws

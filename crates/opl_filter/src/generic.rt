@@ -50,6 +50,7 @@ pub fn sweep<N: Narrow>(core: &Core, c: &Cons, variables: &[u32], n: &mut N) -> 
     requires named { AreVariables variables.now (fact core.now.tables core.now.resources c.now) }
     ensures between { IsBetween (refutes (fact core.now.tables core.now.resources c.now)) (N.family n.old) (N.family n.new) }
     ensures outcome { Filters (refutes (fact core.now.tables core.now.resources c.now)) (N.family n.old) (N.family n.new) result }
+    ensures leads_to { N.leads_to n.old n.new }
 {
     let test = Refutes {
         core,
@@ -85,6 +86,12 @@ impl Filter for GenericFilter {
     ghost constraint = { λ s core. fact core.tables core.resources s.constraint };
 
     ghost is_made_with = { λ s core. AreVariables s.variables (fact core.tables core.resources s.constraint) };
+
+    ghost fresh = { λ s F. Unit {0} };
+
+    ghost fresh_law = { λ s d F G made agree is. is };
+
+    fn wake(&mut self, _x: u32) {}
 
     fn filter<N: Narrow>(&mut self, core: &Core, n: &mut N) -> Outcome {
         sweep(core, &self.constraint, self.variables.as_slice(), n)

@@ -16,7 +16,8 @@ fn try_value<T: Test, N: Narrow>(test: &T, n: &mut N, x: u32, v: i64) -> Option<
     requires variable { x < length (N.family n.old) }
     requires value { has (N.family n.old) x v ≡ true }
     requires tests { CanNarrow (T.can_test test.now) (N.family n.old) }
-    ensures { TriesValue (T.dead test.now) (N.family n.old) (N.family n.new) x v result }
+    ensures tries { TriesValue (T.dead test.now) (N.family n.old) (N.family n.new) x v result }
+    ensures leads_to { N.leads_to n.old n.new }
 {
     if !test.is_dead(&Only::new(&*n, x, v)) {
         return Some(false);
@@ -33,7 +34,8 @@ fn try_values<T: Test, N: Narrow>(test: &T, n: &mut N, x: u32) -> Option<bool>
     requires sets { IsFamily (N.family n.old) }
     requires variable { x < length (N.family n.old) }
     requires tests { CanNarrow (T.can_test test.now) (N.family n.old) }
-    ensures { TriesValues (T.dead test.now) (N.family n.old) (N.family n.new) x result }
+    ensures tries { TriesValues (T.dead test.now) (N.family n.old) (N.family n.new) x result }
+    ensures leads_to { N.leads_to n.old n.new }
 {
     let mut removed = false;
     let mut v = n.min(x);
@@ -52,7 +54,8 @@ fn try_all<T: Test, N: Narrow>(test: &T, variables: &[u32], n: &mut N) -> Option
     requires sets { IsFamily (N.family n.old) }
     requires there { AreThere variables.now (N.family n.old) }
     requires tests { CanNarrow (T.can_test test.now) (N.family n.old) }
-    ensures { TriesAll (T.dead test.now) variables.now (N.family n.old) (N.family n.new) result }
+    ensures tries { TriesAll (T.dead test.now) variables.now (N.family n.old) (N.family n.new) result }
+    ensures leads_to { N.leads_to n.old n.new }
 {
     let mut removed = false;
     for x in variables {
@@ -70,6 +73,7 @@ pub fn remove_dead<T: Test, N: Narrow>(test: &T, variables: &[u32], n: &mut N) -
     requires others { LooksOnlyAt variables.now (T.dead test.now) }
     ensures between { IsBetween (T.dead test.now) (N.family n.old) (N.family n.new) }
     ensures outcome { Filters (T.dead test.now) (N.family n.old) (N.family n.new) result }
+    ensures leads_to { N.leads_to n.old n.new }
 {
     // No set is empty: a view says so with its number of variables.
     let _vars = n.vars();

@@ -207,7 +207,7 @@ pub fn cons_range<V: View>(core: &Core, c: &Cons, view: &V) -> Option<Interval>
         Cons::Not(a) => rows::opposite(cons_range(core, a.get(), view)),
         Cons::AllDifferent(parts) => all_differ(core, parts.as_slice(), view),
         Cons::Capacity(resource, time) => match core.resources.get(*resource as usize) {
-            None => Some(Interval::point(1)),
+            None => None,
             Some(r) => Some(capacity(core, r, *time, view)),
         },
         Cons::Bound(_x) => None,

@@ -16,8 +16,8 @@ use Rattle.opl_trace.specs.Statements.Statement.{post, block, try, try_all, for_
 use Rattle.opl_trace.specs.Statements.Statements.{no_statements, more_statements}
 use Rattle.opl_trace.specs.Statements.Branch.{branch}
 use Rattle.opl_trace.specs.Statements.Branches.{no_branches, more_branches}
-use Rattle.opl_marks.specs.Questions.{open_magnitude}
-use Rattle.opl_marks.specs.Sound.{IsSoundSet, AreThere, ArePairs, IsOpenKey, IsSoundStatement, AreSoundStatements, IsSoundBranch, AreSoundBranches, IsSoundGoal, IsSoundSection, IsSoundCore}
+use Rattle.opl_trace.specs.Questions.{open_magnitude}
+use Rattle.opl_trace.specs.SoundCores.{IsSoundSet, AreThere, ArePairs, IsOpenKey, IsSoundStatement, AreSoundStatements, IsSoundBranch, AreSoundBranches, IsSoundGoal, IsSoundSection, IsSoundCore}
 use Rattle.opl_sound.specs.Measures.{added, measure, fits, all_fit}
 use Rattle.opl_sound.specs.Cores.{fits_set, fits_goal, fits_key, fits_pair, fits_statement, fit_statements, fits_branch, fit_branches, fits_section, fits_core}
 use Rattle.opl_sound.proofs.Tells.{IsTold, tells_both, tells_as, tells_less, some_tells, iff_added}

@@ -5,7 +5,7 @@ use Rattle.opl_expr.specs.Forms.{Term, Terms, Fact, Facts}
 use Rattle.opl_expr.specs.Sound.{IsSmall, IsSome, greatest_abs, cells_magnitude, var_magnitude}
 use Rattle.opl_expr.specs.declared.forms.Ask.{Ask}
 use Rattle.opl_expr.specs.declared.forms.Ask.TheVariants.{Size, Least, Greatest}
-use Rattle.opl_marks.specs.Questions.{ask_magnitude, open_magnitude, open_sum, open_greatest, FitOpen, IsOpenTerm, AreOpenTerms, IsOpenFact, AreOpenFacts}
+use Rattle.opl_trace.specs.Questions.{ask_magnitude, open_magnitude, open_sum, open_greatest, FitOpen, IsOpenTerm, AreOpenTerms, IsOpenFact, AreOpenFacts}
 use Rattle.opl_sound.specs.Measures.{small, is_some, added, multiplied, at_least_one, greater, first, measure, measure_sum, measure_all, measure_some, fit_subscripts, fits, all_fit, answer_magnitude, measure_question}
 use Rattle.opl_sound.proofs.Smaller.{is_measure}
 use Rattle.opl_sound.proofs.Tells.{IsTold, IsMeasured, tells_less, tells_both, tells_as, some_tells, iff_as, iff_small, iff_known, iff_added, iff_multiplied, iff_least, iff_greater, iff_first, iff_one, iff_only, iff_fits, iff_table}

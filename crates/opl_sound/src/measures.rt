@@ -199,7 +199,7 @@ pub fn fits(core: &Core, asks: bool, c: &Cons) -> bool
         Cons::Not(a) => fits(core, asks, a.get()),
         Cons::AllDifferent(parts) => numbers::is_there(pairs(core, asks, parts.as_slice())),
         Cons::Capacity(resource, time) => match core.resources.get(*resource as usize) {
-            None => true,
+            None => false,
             Some(r) => variables::fits_capacity(core, r, time.unsigned_abs() as u128),
         },
         Cons::Bound(x) => asks && variables::is_variable(core, *x),

@@ -3,8 +3,8 @@ ghost use Rattle.std.specs.Prelude.{◌≡◌, ◌↔◌, true, SomeIff};
 ghost use Rattle.opl_expr.specs.Forms.{term, fact};
 ghost use Rattle.opl_expr.specs.Solutions.{goal_term};
 ghost use Rattle.opl_expr.specs.Sound.{term_magnitude, IsSoundTerm, IsSoundFact};
-ghost use Rattle.opl_marks.specs.Outcomes.{facts_in, AreSound, IsBest};
-ghost use Rattle.opl_marks.specs.Sound.{IsSoundCore};
+ghost use Rattle.opl_trace.specs.SoundCores.{facts_in, AreSound, IsBest};
+ghost use Rattle.opl_trace.specs.SoundCores.{IsSoundCore};
 
 use crate::{measures, numbers};
 use opl_expr::{Cons, Core, Expr};

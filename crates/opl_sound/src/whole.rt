@@ -3,7 +3,7 @@ ghost use Rattle.std.specs.Prelude.{◌≡◌, ◌↔◌, true, false};
 ghost use Rattle.std.specs.List.{list_all};
 ghost use Rattle.opl_expr.specs.Solutions.{goal_term};
 ghost use Rattle.opl_trace.specs.Marks.{section};
-ghost use Rattle.opl_marks.specs.Sound.{IsSoundCore};
+ghost use Rattle.opl_trace.specs.SoundCores.{IsSoundCore};
 ghost use Rattle.opl_sound.specs.Cores.{fits_set, fits_goal, fits_section, fits_core};
 
 use crate::{measures, numbers, steps, variables};

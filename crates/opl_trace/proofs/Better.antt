@@ -11,23 +11,13 @@ use Rattle.opl_expr.specs.Forms.Relation.{below}
 use Rattle.opl_expr.specs.Options.{lift1, lift}
 use Rattle.opl_expr.specs.Holds.{value}
 use Rattle.opl_expr.specs.Range.{verdict, weighted, with_variables, compare, coef, pure, rest, is_possible, is_refuted, fact_range}
-use Rattle.opl_trace.specs.Objective.{Objective, better_than, bound, is_better, improving_from}
+use Rattle.opl_trace.specs.Objective.{Objective, better_than, bound, is_better, improving_from, NotWorse, Tighter}
+use Rattle.opl_trace.specs.Stable.{IsStable}
 use Rattle.opl_trace.specs.Run.{is_dead, closed}
 use Rattle.opl_trace.specs.SearchLaws.{IsWider}
 use Rattle.opl_trace.proofs.Passing.{false_unless, any_left, any_right, from_any_append, or_left}
 use Rattle.opl_trace.proofs.Constraints.{refuted_is, refuted_from, moment_is_closure}
 use Rattle.opl_trace.proofs.Posting.{closed_stable, wider}
-
--- one number is at least as good as another
-abbrev pub NotWorse : Bool → ℤ → ℤ → Type 0
-NotWorse true i j = i ≤ℤ j
-NotWorse false i j = j ≤ℤ i
-
--- the best value c is at least as good as b
-abbrev pub Tighter : Objective → Option ℤ → Option ℤ → Type 0
-Tighter g None c = Unit {0}
-Tighter g (Some i) None = ⊥
-Tighter g (Some i) (Some j) = NotWorse g.is_most i j
 
 -- ---- a verdict that is surely false
 
@@ -104,18 +94,19 @@ dead_tighter g P b c F l h = false_unless (list_any (is_refuted F) (P ++ bound (
     ] in
     cc)
 
+-- what is stable under a better best value is so under a worse one
+pub stable_tighter : (g : Objective) (P : List Fact) (b c : Option ℤ) (F : Family) → Tighter g b c → IsStable (is_dead (Some g) P c) F → IsStable (is_dead (Some g) P b) F
+stable_tighter g P b c F l s = record {
+  full = s.full;
+  spared = dead_tighter g P b c F l s.spared;
+  each = λ x v h m. dead_tighter g P b c (only F x v) l (s.each x v h m);
+}
+
 -- a better best value leaves fewer values
 pub closed_tighter : (g : Objective) (D : Family) (P : List Fact) (b c : Option ℤ) (C : Family) → Tighter g b c → closed (Some g) D P c ≡ Some C → IsWider (closed (Some g) D P b) C
 closed_tighter g D P b c C l e =
     let s = closed_stable (Some g) D P c C e in
-    wider (Some g) D P b C (closed (Some g) D P b) (moment_is_closure (Some g) D P b) (record {
-      stable = record {
-        full = s.stable.full;
-        spared = dead_tighter g P b c C l s.stable.spared;
-        each = λ x v h m. dead_tighter g P b c (only C x v) l (s.stable.each x v h m);
-      };
-      within = s.within;
-    })
+    wider (Some g) D P b C (closed (Some g) D P b) (moment_is_closure (Some g) D P b) (record { stable = stable_tighter g P b c C l s.stable; within = s.within })
 
 -- ---- what is better than a best value
 

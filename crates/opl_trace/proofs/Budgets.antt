@@ -2,7 +2,7 @@
 use Rattle.std.proofs.Common.{◌≡◌, ◌∙◌, ℕ, zero, suc, ◌+◌, ◌-◌, ◌≤◌, true, false, cond, refl, List, [], ◌∷◌, ◌++◌, ℤ, ap, sym, subst, arith, append_assoc, append-nil}
 use Rattle.std.specs.Prelude.{Option, Some, None}
 use Rattle.opl_expr.specs.Forms.{Fact}
-use Rattle.opl_trace.specs.Run.{Mark, Out, Rest, nothing, stopped, marked, behind, after, alternatives, choices, Left, left_with, first_leaf, committed}
+use Rattle.opl_trace.specs.Run.{Mark, Out, Rest, Alternative, nothing, stopped, marked, behind, after, unlabelled, alternatives, choices, Left, left_with, first_leaf, committed}
 use Rattle.opl_trace.specs.Run.Mark.{choice, leaf, solution, cut}
 
 -- the same with d more choices left
@@ -31,17 +31,17 @@ nothing_grows d N P b n m i e = record { counted = omega arith; alike = λ c. rw
 pub stopped_agrees : (d : ℕ) (b : Option ℤ) (p : Out) → Agrees zero d (stopped b) p
 stopped_agrees d b p = record { counted = omega arith; alike = λ c. cc; rest = p.marks; joins = refl }
 
-pub choice_agrees : (n d : ℕ) (o p : Out) → Agrees n d o p → Agrees (suc n) d (marked choice o) (marked choice p)
-choice_agrees n d o p a = record {
+pub choice_agrees : (t : Option (ℕ × ℤ)) (n d : ℕ) (o p : Out) → Agrees n d o p → Agrees (suc n) d (marked (choice t) o) (marked (choice t) p)
+choice_agrees t n d o p a = record {
   counted = let e = a.counted in omega arith;
-  alike = λ c. ap (marked choice) (a.alike c);
+  alike = λ c. ap (marked (choice t)) (a.alike c);
   rest = a.rest;
-  joins = ap (λ ms. choice ∷ ms) a.joins;
+  joins = ap (λ ms. choice t ∷ ms) a.joins;
 }
 
 pub choices-append : (ms ns : List Mark) → choices (ms ++ ns) ≡ choices ms + choices ns
 choices-append [] ns = omega arith
-choices-append (choice ∷ ms) ns = omega (arith, choices-append ms ns)
+choices-append (choice t ∷ ms) ns = omega (arith, choices-append ms ns)
 choices-append (leaf P ∷ ms) ns = choices-append ms ns
 choices-append (solution a ∷ ms) ns = choices-append ms ns
 choices-append (cut ∷ ms) ns = choices-append ms ns
@@ -93,15 +93,29 @@ AllGrow d N [] (l ∷ ls) = ⊥
 AllGrow d N (k ∷ ks) [] = ⊥
 AllGrow d N (k ∷ ks) (l ∷ ls) = Grows d N k l × AllGrow d N ks ls
 
-pub alternatives_grow : (d N : ℕ) (ks ls : List Rest) → AllGrow d N ks ls → Grows d (suc N) (alternatives ks) (alternatives ls)
+-- the same, with equal labels
+abbrev pub AllEnter : ℕ → ℕ → List Alternative → List Alternative → Type 0
+AllEnter d N [] [] = Unit {0}
+AllEnter d N [] (l ∷ ls) = ⊥
+AllEnter d N (k ∷ ks) [] = ⊥
+AllEnter d N (k ∷ ks) (l ∷ ls) = ((k.label ≡ l.label) × Grows d N k.rest l.rest) × AllEnter d N ks ls
+
+pub unlabelled_enter : (d N : ℕ) (ks ls : List Rest) → AllGrow d N ks ls → AllEnter d N (unlabelled ks) (unlabelled ls)
+unlabelled_enter d N [] [] h = tt
+unlabelled_enter d N [] (l ∷ ls) h = absurd h
+unlabelled_enter d N (k ∷ ks) [] h = absurd h
+unlabelled_enter d N (k ∷ ks) (l ∷ ls) h = ((refl, h.0), unlabelled_enter d N ks ls h.1)
+
+pub alternatives_grow : (d N : ℕ) (ks ls : List Alternative) → AllEnter d N ks ls → Grows d (suc N) (alternatives ks) (alternatives ls)
 alternatives_grow d N [] [] h P b n m i e = nothing_grows d (suc N) P b n m i e
 alternatives_grow d N [] (l ∷ ls) h P b n m i e = absurd h
 alternatives_grow d N (k ∷ ks) [] h P b n m i e = absurd h
 alternatives_grow d N (k ∷ ks) (l ∷ ls) h P b zero m i e = stopped_agrees d b (alternatives (l ∷ ls) P b m)
 alternatives_grow d N (k ∷ ks) (l ∷ ls) h P b (suc n) zero i e = absurd (omega arith)
 alternatives_grow d N (k ∷ ks) (l ∷ ls) h P b (suc n) (suc m) i e =
-    after_agrees (suc n) d (marked choice (k P b n)) (marked choice (l P b m)) (alternatives ks P) (alternatives ls P)
-    (choice_agrees n d (k P b n) (l P b m) (h.0 P b n m (omega arith) (omega arith)))
+    after_agrees (suc n) d (marked (choice k.label) (k.rest P b n)) (marked (choice l.label) (l.rest P b m)) (alternatives ks P) (alternatives ls P)
+    (subst (λ t. Agrees (suc n) d (marked (choice k.label) (k.rest P b n)) (marked (choice t) (l.rest P b m))) h.0.0
+    (choice_agrees k.label n d (k.rest P b n) (l.rest P b m) (h.0.1 P b n m (omega arith) (omega arith))))
     (λ c r s q t. alternatives_grow d N ks ls h.1 P c r s (omega arith) t)
 
 -- ---- once
@@ -112,7 +126,7 @@ left_first m ms ns (Some k) l e f h = rw (f k e) h
 
 leaf_first : (ms ns : List Mark) (l : Left) → first_leaf ms ≡ Some l → first_leaf (ms ++ ns) ≡ Some l
 leaf_first [] ns l h = cc
-leaf_first (choice ∷ ms) ns l h = left_first choice ms ns (first_leaf ms) l refl (leaf_first ms ns) h
+leaf_first (choice t ∷ ms) ns l h = left_first (choice t) ms ns (first_leaf ms) l refl (leaf_first ms ns) h
 leaf_first (leaf P ∷ ms) ns l h = h
 leaf_first (solution a ∷ ms) ns l h = left_first (solution a) ms ns (first_leaf ms) l refl (leaf_first ms ns) h
 leaf_first (cut ∷ ms) ns l h = left_first cut ms ns (first_leaf ms) l refl (leaf_first ms ns) h
@@ -136,7 +150,7 @@ left_none (Some l) = refl
 
 leaf_later : (ms ns : List Mark) → first_leaf ms ≡ None → first_leaf (ms ++ ns) ≡ left_behind ms (first_leaf ns)
 leaf_later [] ns h = left_none (first_leaf ns)
-leaf_later (choice ∷ ms) ns h = rw (leaf_later ms ns (none_first choice (first_leaf ms) h)) (left_later choice ms (first_leaf ns))
+leaf_later (choice t ∷ ms) ns h = rw (leaf_later ms ns (none_first (choice t) (first_leaf ms) h)) (left_later (choice t) ms (first_leaf ns))
 leaf_later (leaf P ∷ ms) ns h = cc
 leaf_later (solution a ∷ ms) ns h = rw (leaf_later ms ns (none_first (solution a) (first_leaf ms) h)) (left_later (solution a) ms (first_leaf ns))
 leaf_later (cut ∷ ms) ns h = rw (leaf_later ms ns (none_first cut (first_leaf ms) h)) (left_later cut ms (first_leaf ns))
@@ -152,7 +166,7 @@ fewer_with m ms (Some l) h e = omega (arith, choices-append (m ∷ []) l.before,
 
 leaf_fewer : (ms : List Mark) → Fewer ms (first_leaf ms)
 leaf_fewer [] = tt
-leaf_fewer (choice ∷ ms) = fewer_with choice ms (first_leaf ms) (leaf_fewer ms) (omega arith)
+leaf_fewer (choice t ∷ ms) = fewer_with (choice t) ms (first_leaf ms) (leaf_fewer ms) (omega arith)
 leaf_fewer (leaf P ∷ ms) = omega arith
 leaf_fewer (solution a ∷ ms) = fewer_with (solution a) ms (first_leaf ms) (leaf_fewer ms) (omega arith)
 leaf_fewer (cut ∷ ms) = fewer_with cut ms (first_leaf ms) (leaf_fewer ms) (omega arith)

@@ -9,7 +9,7 @@ use Rattle.opl_expr.specs.Forms.{Fact}
 use Rattle.opl_trace.specs.Closure.{families, is_stable, is_in_stable, restrict, closure}
 use Rattle.opl_trace.specs.Answers.{is_single, is_value}
 use Rattle.opl_trace.specs.Objective.{Objective, best_after}
-use Rattle.opl_trace.specs.Run.{Out, Rest, marked, behind, after, alternatives, values_of, is_dead, closed, entered, within, whole_leaf, label}
+use Rattle.opl_trace.specs.Run.{Out, Rest, Alternative, marked, behind, after, by_value, alternatives, values_of, is_dead, closed, entered, within, whole_leaf, label}
 use Rattle.opl_trace.specs.Run.Mark.{choice, solution}
 use Rattle.opl_trace.specs.Marks.{numbers_from, labelled, trace, prefixes}
 use Rattle.opl_trace.specs.SearchLaws.{Enough}
@@ -43,21 +43,21 @@ Needs N k = (P : List Fact) (b : Option ℤ) (n : ℕ) → N ≤ n → Takes N n
 needs_more : (M N : ℕ) (k : Rest) → M ≤ N → Needs M k → Needs N k
 needs_more M N k i h P b n j = let t = h P b n (omega arith) in record { ends = t.ends; few = omega (arith, t.few) }
 
-abbrev AllNeed : ℕ → List Rest → Type 0
+abbrev AllNeed : ℕ → List Alternative → Type 0
 AllNeed N [] = Unit {0}
-AllNeed N (k ∷ ks) = Needs N k × AllNeed N ks
+AllNeed N (k ∷ ks) = Needs N k.rest × AllNeed N ks
 
 after_takes : (M N n l : ℕ) (o : Out) (f : Option ℤ → ℕ → Out) → o.is_cut ≡ false → o.left ≡ l → n ≤ l + M → Takes N l (f o.best o.left) → Takes (M + N) n (after o f)
 after_takes M N n l o f e s i t = subst (λ b. Takes (M + N) n (cond b o (behind o.marks (f o.best o.left)))) (sym e) (record { ends = t.ends; few = omega (arith, t.few) })
 
-alternatives_need : (N : ℕ) (ks : List Rest) → AllNeed N ks → Needs (length ks * (1 + N)) (alternatives ks)
+alternatives_need : (N : ℕ) (ks : List Alternative) → AllNeed N ks → Needs (length ks * (1 + N)) (alternatives ks)
 alternatives_need N [] h P b n i = record { ends = refl; few = omega arith }
 alternatives_need N (k ∷ ks) h P b zero i = absurd (omega arith)
 alternatives_need N (k ∷ ks) h P b (suc n) i =
     let t = h.0 P b n (omega arith) in
     let e : (1 + N) + length ks * (1 + N) ≡ length (k ∷ ks) * (1 + N) = omega arith in
-    rw (sym e) (after_takes (1 + N) (length ks * (1 + N)) (suc n) (k P b n).left (marked choice (k P b n)) (alternatives ks P) t.ends refl (omega (arith, t.few))
-    (alternatives_need N ks h.1 P (k P b n).best (k P b n).left (omega (arith, t.few))))
+    rw (sym e) (after_takes (1 + N) (length ks * (1 + N)) (suc n) (k.rest P b n).left (marked (choice k.label) (k.rest P b n)) (alternatives ks P) t.ends refl (omega (arith, t.few))
+    (alternatives_need N ks h.1 P (k.rest P b n).best (k.rest P b n).left (omega (arith, t.few))))
 
 length-map : {X Y : Type 0} (f : X → Y) (xs : List X) → length (map f xs) ≡ length xs
 length-map f [] = refl
@@ -86,7 +86,7 @@ module _ (goal : Option Objective) (D : Family) where
       within_needs 0 (λ C P b n. record { marks = solution (values_of C) ∷ []; best = best_after goal (values_of C) b; left = n; is_cut = false })
       (λ C s P b n i. record { ends = refl; few = omega arith })
 
-  labels_need : (N : ℕ) (k : Rest) (x : ℕ) (vs : List ℤ) → Needs N k → AllNeed N (map (λ v P. k (P ++ is_value x v ∷ [])) vs)
+  labels_need : (N : ℕ) (k : Rest) (x : ℕ) (vs : List ℤ) → Needs N k → AllNeed N (by_value x (λ v P. k (P ++ is_value x v ∷ [])) vs)
   labels_need N k x [] h = tt
   labels_need N k x (v ∷ vs) h = (λ P b n i. h (P ++ is_value x v ∷ []) b n i, labels_need N k x vs h)
 
@@ -94,13 +94,13 @@ module _ (goal : Option Objective) (D : Family) where
   label_needs [] k h = within_needs 0 (λ C. k) (λ C s. h)
   label_needs (x ∷ xs) k h =
       let j : Needs (cost xs) (label goal (closed goal D) xs k) = label_needs xs k h in
-      within_needs (cost (x ∷ xs)) (λ C. cond (is_single C x) (label goal (closed goal D) xs k) (alternatives (map (λ v P. label goal (closed goal D) xs k (P ++ is_value x v ∷ [])) (set_of C x))))
-      (λ C s. elim (is_single C x) as (λ b. is_single C x ≡ b → Needs (cost (x ∷ xs)) (cond b (label goal (closed goal D) xs k) (alternatives (map (λ v P. label goal (closed goal D) xs k (P ++ is_value x v ∷ [])) (set_of C x))))) [
+      within_needs (cost (x ∷ xs)) (λ C. cond (is_single C x) (label goal (closed goal D) xs k) (alternatives (by_value x (λ v P. label goal (closed goal D) xs k (P ++ is_value x v ∷ [])) (set_of C x))))
+      (λ C s. elim (is_single C x) as (λ b. is_single C x ≡ b → Needs (cost (x ∷ xs)) (cond b (label goal (closed goal D) xs k) (alternatives (by_value x (λ v P. label goal (closed goal D) xs k (P ++ is_value x v ∷ [])) (set_of C x))))) [
         | true ↦ λ e. needs_more (cost xs) (cost (x ∷ xs)) (label goal (closed goal D) xs k) (single_cost (length (set_of D x)) (length (set_of C x)) (cost xs) (eqb-true (length (set_of C x)) 1 e) (s x)) j
         | false ↦ λ e.
-            needs_more (length (map (λ v P. label goal (closed goal D) xs k (P ++ is_value x v ∷ [])) (set_of C x)) * (1 + cost xs)) (cost (x ∷ xs)) (alternatives (map (λ v P. label goal (closed goal D) xs k (P ++ is_value x v ∷ [])) (set_of C x)))
-            (rw (length-map {Y = Rest} (λ v P. label goal (closed goal D) xs k (P ++ is_value x v ∷ [])) (set_of C x)) (mul-le-mul_right (1 + cost xs) (s x)))
-            (alternatives_need (cost xs) (map (λ v P. label goal (closed goal D) xs k (P ++ is_value x v ∷ [])) (set_of C x)) (labels_need (cost xs) (label goal (closed goal D) xs k) x (set_of C x) j))
+            needs_more (length (by_value x (λ v P. label goal (closed goal D) xs k (P ++ is_value x v ∷ [])) (set_of C x)) * (1 + cost xs)) (cost (x ∷ xs)) (alternatives (by_value x (λ v P. label goal (closed goal D) xs k (P ++ is_value x v ∷ [])) (set_of C x)))
+            (rw (length-map {Y = Alternative} (λ v. record { label = Some (x, v); rest = λ P. label goal (closed goal D) xs k (P ++ is_value x v ∷ []) }) (set_of C x)) (mul-le-mul_right (1 + cost xs) (s x)))
+            (alternatives_need (cost xs) (by_value x (λ v P. label goal (closed goal D) xs k (P ++ is_value x v ∷ [])) (set_of C x)) (labels_need (cost xs) (label goal (closed goal D) xs k) x (set_of C x) j))
       ] refl)
 
 -- ---- the cost of labelling all variables

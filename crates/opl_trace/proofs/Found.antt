@@ -20,7 +20,7 @@ use Rattle.opl_trace.specs.ClosureLaws.{IsBelowSome}
 use Rattle.opl_trace.specs.Answers.{is_single, is_value}
 use Rattle.opl_trace.specs.Objective.{best_after}
 use Rattle.opl_trace.specs.Solutions.{product, satisfies}
-use Rattle.opl_trace.specs.Run.{Mark, Out, Rest, marked, behind, after, alternatives, values_of, is_dead, closed, entered, within, whole_leaf, label}
+use Rattle.opl_trace.specs.Run.{Mark, Out, Rest, marked, behind, after, by_value, alternatives, values_of, is_dead, closed, entered, within, whole_leaf, label}
 use Rattle.opl_trace.specs.Run.Mark.{choice, leaf, solution, cut}
 use Rattle.opl_trace.specs.Marks.{numbers_from, trace, solved}
 use Rattle.opl_trace.specs.SearchLaws.{clear_all, AllFound}
@@ -167,7 +167,7 @@ found_split D C P b x r h e l o =
 
 pub solved-append : (ms ns : List Mark) → solved (ms ++ ns) ≡ solved ms ++ solved ns
 solved-append [] ns = refl
-solved-append (choice ∷ ms) ns = solved-append ms ns
+solved-append (choice t ∷ ms) ns = solved-append ms ns
 solved-append (leaf P ∷ ms) ns = solved-append ms ns
 solved-append (solution a ∷ ms) ns = ap (λ as'. a ∷ as') (solved-append ms ns)
 solved-append (cut ∷ ms) ns = solved-append ms ns
@@ -183,12 +183,12 @@ after_solves o f S T h g =
       | false ↦ λ e k. solved-append o.marks (f o.best o.left).marks ∙ join_both (solved o.marks) S (solved (f o.best o.left).marks) T (h e) (g o.best o.left k)
     ] refl
 
-pub alternatives_solve : (P : List Fact) (vs : List ℤ) (k : ℤ → Rest) (T : ℤ → List (List ℤ)) → ((v : ℤ) → member v vs ≡ true → (b : Option ℤ) (n : ℕ) → Solves (T v) (k v P b n)) → (b : Option ℤ) (n : ℕ) → Solves (flat_map T vs) (alternatives (map k vs) P b n)
-alternatives_solve P [] k T h b n c = refl
-alternatives_solve P (v ∷ vs) k T h b zero c = cc
-alternatives_solve P (v ∷ vs) k T h b (suc n) c =
-    after_solves (marked choice (k v P b n)) (alternatives (map k vs) P) (T v) (flat_map T vs) (h v (member_first v vs) b n)
-    (alternatives_solve P vs k T (λ w m. h w (member_later w v vs m))) c
+pub alternatives_solve : (x : ℕ) (P : List Fact) (vs : List ℤ) (k : ℤ → Rest) (T : ℤ → List (List ℤ)) → ((v : ℤ) → member v vs ≡ true → (b : Option ℤ) (n : ℕ) → Solves (T v) (k v P b n)) → (b : Option ℤ) (n : ℕ) → Solves (flat_map T vs) (alternatives (by_value x k vs) P b n)
+alternatives_solve x P [] k T h b n c = refl
+alternatives_solve x P (v ∷ vs) k T h b zero c = cc
+alternatives_solve x P (v ∷ vs) k T h b (suc n) c =
+    after_solves (marked (choice (Some (x, v))) (k v P b n)) (alternatives (by_value x k vs) P) (T v) (flat_map T vs) (h v (member_first v vs) b n)
+    (alternatives_solve x P vs k T (λ w m. h w (member_later w v vs m))) c
 
 pub within_solves : (D : Family) (next : Family → Rest) (P : List Fact) (b : Option ℤ) (n : ℕ) (S : List (List ℤ)) → (sets D P b ≡ None → S ≡ []) → ((C : Family) → sets D P b ≡ Some C → Solves S (next C P b n)) → Solves S (within None (sets D) next P b n)
 unfolding within
@@ -271,17 +271,17 @@ label_found D r zero x l P h o b n =
 label_found D r (suc m) x l P h o b n =
     within_solves D
     (λ C. cond (is_single C x) (label None (sets D) (numbers_from (suc x) m) (whole_leaf None (sets D)))
-    (alternatives (map (λ v P. label None (sets D) (numbers_from (suc x) m) (whole_leaf None (sets D)) (P ++ is_value x v ∷ [])) (set_of C x))))
+    (alternatives (by_value x (λ v P. label None (sets D) (numbers_from (suc x) m) (whole_leaf None (sets D)) (P ++ is_value x v ∷ [])) (set_of C x))))
     P b n (found D P) (failed_found D P b h)
     (λ C e.
     let s = closed_stable None D P b C e in
     let length_is = s.within.same in
     elim (is_single C x) as (λ t. is_single C x ≡ t → Solves (found D P) (cond t (label None (sets D) (numbers_from (suc x) m) (whole_leaf None (sets D)))
-    (alternatives (map (λ v P. label None (sets D) (numbers_from (suc x) m) (whole_leaf None (sets D)) (P ++ is_value x v ∷ [])) (set_of C x))) P b n)) [
+    (alternatives (by_value x (λ v P. label None (sets D) (numbers_from (suc x) m) (whole_leaf None (sets D)) (P ++ is_value x v ∷ [])) (set_of C x))) P b n)) [
       | true ↦ λ t.
           label_found D r m (suc x) (omega arith) P h (ones_more D C P b x o e (one_from_single C x 0 t s.stable.full (omega (arith, length_is)))) b n
       | false ↦ λ t c.
-          alternatives_solve P (set_of C x) (λ v P. label None (sets D) (numbers_from (suc x) m) (whole_leaf None (sets D)) (P ++ is_value x v ∷ [])) (λ v. found D (P ++ is_value x v ∷ []))
+          alternatives_solve x P (set_of C x) (λ v P. label None (sets D) (numbers_from (suc x) m) (whole_leaf None (sets D)) (P ++ is_value x v ∷ [])) (λ v. found D (P ++ is_value x v ∷ []))
           (λ v i b' n'. label_found D r m (suc x) (omega arith) (P ++ is_value x v ∷ []) (clear_posted P x v h) (ones_posted D P x v o) b' n') b n c
           ∙ found_split D C P b x r h e (omega arith) (o b C e)
     ] refl)

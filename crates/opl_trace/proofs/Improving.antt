@@ -16,16 +16,16 @@ use Rattle.opl_expr.specs.Solutions.{is_true}
 use Rattle.opl_expr.specs.Laws.{clear, clear_fact}
 use Rattle.opl_trace.specs.Closure.{closure}
 use Rattle.opl_trace.specs.Answers.{is_single, is_value}
-use Rattle.opl_trace.specs.Objective.{Objective, better_than, bound, best_after, is_better, improving_from}
+use Rattle.opl_trace.specs.Objective.{Objective, better_than, bound, best_after, is_better, improving_from, Tighter}
 use Rattle.opl_trace.specs.Solutions.{product, satisfies}
-use Rattle.opl_trace.specs.Run.{Out, Rest, nothing, marked, behind, after, alternatives, values_of, is_dead, closed, entered, within, whole_leaf, label}
+use Rattle.opl_trace.specs.Run.{Out, Rest, nothing, marked, behind, after, by_value, alternatives, values_of, is_dead, closed, entered, within, whole_leaf, label}
 use Rattle.opl_trace.specs.Run.Mark.{choice, solution}
 use Rattle.opl_trace.specs.Marks.{numbers_from, trace, solved}
 use Rattle.opl_trace.specs.SearchLaws.{clear_all, Defines, BestFound}
 use Rattle.opl_trace.proofs.SweepLaws.{same_tests}
 use Rattle.opl_trace.proofs.Posting.{closed_stable, posting_narrows, posted_is_single}
 use Rattle.opl_trace.proofs.Products.{filter_flat, flat_alike, found_alike, join_both}
-use Rattle.opl_trace.proofs.Better.{Tighter, closed_tighter, tighter_self, tighter_join, best_of, best_tighter, improving-append, best-append, IsSame, betters, drop_worse}
+use Rattle.opl_trace.proofs.Better.{closed_tighter, tighter_self, tighter_join, best_of, best_tighter, improving-append, best-append, IsSame, betters, drop_worse}
 use Rattle.opl_trace.proofs.Found.{sets, IsOne, found, failed_found, found_split, clear_posted, solved-append, leaf_found, one_from_single}
 
 -- ---- lists
@@ -120,13 +120,13 @@ after_best g b o f S T h k =
           )
     ] refl
 
-alternatives_best : (g : Objective) (b : Option ℤ) (P : List Fact) (vs : List ℤ) (k : ℤ → Rest) (T : ℤ → List (List ℤ)) → ((v : ℤ) → member v vs ≡ true → (c : Option ℤ) → Tighter g b c → (n : ℕ) → SolvesBest g c (T v) (k v P c n)) →
-    (c : Option ℤ) → Tighter g b c → (n : ℕ) → SolvesBest g c (flat_map T vs) (alternatives (map k vs) P c n)
-alternatives_best g b P [] k T h c l n i = (refl, refl)
-alternatives_best g b P (v ∷ vs) k T h c l zero i = cc
-alternatives_best g b P (v ∷ vs) k T h c l (suc n) i =
-    after_best g c (marked choice (k v P c n)) (alternatives (map k vs) P) (T v) (flat_map T vs) (h v (member_first v vs) c l n)
-    (λ m. alternatives_best g b P vs k T (λ w j. h w (member_later w v vs j)) (best_of g c (T v)) (tighter_join g b c (best_of g c (T v)) l (best_tighter g c (T v))) m) i
+alternatives_best : (x : ℕ) (g : Objective) (b : Option ℤ) (P : List Fact) (vs : List ℤ) (k : ℤ → Rest) (T : ℤ → List (List ℤ)) → ((v : ℤ) → member v vs ≡ true → (c : Option ℤ) → Tighter g b c → (n : ℕ) → SolvesBest g c (T v) (k v P c n)) →
+    (c : Option ℤ) → Tighter g b c → (n : ℕ) → SolvesBest g c (flat_map T vs) (alternatives (by_value x k vs) P c n)
+alternatives_best x g b P [] k T h c l n i = (refl, refl)
+alternatives_best x g b P (v ∷ vs) k T h c l zero i = cc
+alternatives_best x g b P (v ∷ vs) k T h c l (suc n) i =
+    after_best g c (marked (choice (Some (x, v))) (k v P c n)) (alternatives (by_value x k vs) P) (T v) (flat_map T vs) (h v (member_first v vs) c l n)
+    (λ m. alternatives_best x g b P vs k T (λ w j. h w (member_later w v vs j)) (best_of g c (T v)) (tighter_join g b c (best_of g c (T v)) l (best_tighter g c (T v))) m) i
 
 -- ---- the sets of a moment
 
@@ -211,21 +211,21 @@ module _ (g : Objective) (D : Family) where
   label_best r t (suc m) x l P h d b o n =
       within_best
       (λ C. cond (is_single C x) (label (Some g) (closed (Some g) D) (numbers_from (suc x) m) (whole_leaf (Some g) (closed (Some g) D)))
-      (alternatives (map (λ v P. label (Some g) (closed (Some g) D) (numbers_from (suc x) m) (whole_leaf (Some g) (closed (Some g) D)) (P ++ is_value x v ∷ [])) (set_of C x))))
+      (alternatives (by_value x (λ v P. label (Some g) (closed (Some g) D) (numbers_from (suc x) m) (whole_leaf (Some g) (closed (Some g) D)) (P ++ is_value x v ∷ [])) (set_of C x))))
       P b n d (clear_bound g P b t h)
       (λ C e.
       let s = closed_stable (Some g) D P b C e in
       let length_is = s.within.same in
       elim (is_single C x) as (λ q. is_single C x ≡ q → SolvesBest g b (found D (with_bound P b)) (cond q (label (Some g) (closed (Some g) D) (numbers_from (suc x) m) (whole_leaf (Some g) (closed (Some g) D)))
-      (alternatives (map (λ v P. label (Some g) (closed (Some g) D) (numbers_from (suc x) m) (whole_leaf (Some g) (closed (Some g) D)) (P ++ is_value x v ∷ [])) (set_of C x))) P b n)) [
+      (alternatives (by_value x (λ v P. label (Some g) (closed (Some g) D) (numbers_from (suc x) m) (whole_leaf (Some g) (closed (Some g) D)) (P ++ is_value x v ∷ [])) (set_of C x))) P b n)) [
         | true ↦ λ q.
             solves_same g b (found D P) (found D (with_bound P b)) (label (Some g) (closed (Some g) D) (numbers_from (suc x) m) (whole_leaf (Some g) (closed (Some g) D)) P b n) (same_back g b (found D (with_bound P b)) (found D P) (bound_same P b d))
             (label_best r t m (suc x) (omega arith) P h d b (ones_further P b x C o e (one_from_single C x 0 q s.stable.full (omega (arith, length_is)))) n)
         | false ↦ λ q.
             solves_same g b (flat_map (λ v. found D (P ++ is_value x v ∷ [])) (set_of C x)) (found D (with_bound P b))
-            (alternatives (map (λ v P. label (Some g) (closed (Some g) D) (numbers_from (suc x) m) (whole_leaf (Some g) (closed (Some g) D)) (P ++ is_value x v ∷ [])) (set_of C x)) P b n)
+            (alternatives (by_value x (λ v P. label (Some g) (closed (Some g) D) (numbers_from (suc x) m) (whole_leaf (Some g) (closed (Some g) D)) (P ++ is_value x v ∷ [])) (set_of C x)) P b n)
             (split_same C P b x r d (clear_bound g P b t h) e (omega arith) (o b (tighter_self g b) C e))
-            (alternatives_best g b P (set_of C x) (λ v P. label (Some g) (closed (Some g) D) (numbers_from (suc x) m) (whole_leaf (Some g) (closed (Some g) D)) (P ++ is_value x v ∷ [])) (λ v. found D (P ++ is_value x v ∷ []))
+            (alternatives_best x g b P (set_of C x) (λ v P. label (Some g) (closed (Some g) D) (numbers_from (suc x) m) (whole_leaf (Some g) (closed (Some g) D)) (P ++ is_value x v ∷ [])) (λ v. found D (P ++ is_value x v ∷ []))
             (λ v i c k n'. label_best r t m (suc x) (omega arith) (P ++ is_value x v ∷ []) (clear_posted P x v h) (defines_more g P (is_value x v ∷ []) d) c (ones_after P x v b c o k) n') b (tighter_self g b) n)
       ] refl)
 

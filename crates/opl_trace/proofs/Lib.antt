@@ -16,3 +16,4 @@ pub mod Products
 pub mod Found
 pub mod Better
 pub mod Improving
+pub mod CoreSolutions

@@ -11,10 +11,10 @@ use Rattle.opl_trace.specs.Statements.Statement.{post, block, try, try_all, for_
 use Rattle.opl_trace.specs.Statements.Statements.{no_statements, more_statements}
 use Rattle.opl_trace.specs.Statements.Branch.{branch}
 use Rattle.opl_trace.specs.Statements.Branches.{no_branches, more_branches}
-use Rattle.opl_trace.specs.Run.{Rest, spent, alternatives, first_leaf, committed, selected, values_of, entered, within, whole_leaf, inner_leaf, label, rank_pairs, visit, loop, perform, perform_all, performed, arm_of, arms}
+use Rattle.opl_trace.specs.Run.{Rest, Alternative, spent, unlabelled, by_value, alternatives, first_leaf, committed, selected, values_of, entered, within, whole_leaf, inner_leaf, label, rank_pairs, visit, loop, perform, perform_all, performed, arm_of, arms}
 use Rattle.opl_trace.specs.Run.Mark.{leaf, solution}
 use Rattle.opl_trace.specs.Marks.{numbers_from, labelled, searched}
-use Rattle.opl_trace.proofs.Budgets.{Grows, grows_less, nothing_grows, stopped_agrees, AllGrow, alternatives_grow, committed_agrees}
+use Rattle.opl_trace.proofs.Budgets.{Grows, grows_less, nothing_grows, stopped_agrees, AllGrow, AllEnter, unlabelled_enter, alternatives_grow, committed_agrees}
 
 -- ---- elements
 
@@ -62,8 +62,11 @@ module _ (d : ℕ) where
   cond_grows N true k l k' l' g h = g
   cond_grows N false k l k' l' g h = h
 
-  alternatives_within : (N : ℕ) (ks ls : List Rest) → AllGrow d N ks ls → Grows d N (alternatives ks) (alternatives ls)
-  alternatives_within N ks ls h = grows_less d N (suc N) (alternatives ks) (alternatives ls) (omega arith) (alternatives_grow d N ks ls h)
+  entered_within : (N : ℕ) (ks ls : List Alternative) → AllEnter d N ks ls → Grows d N (alternatives ks) (alternatives ls)
+  entered_within N ks ls h = grows_less d N (suc N) (alternatives ks) (alternatives ls) (omega arith) (alternatives_grow d N ks ls h)
+
+  alternatives_within : (N : ℕ) (ks ls : List Rest) → AllGrow d N ks ls → Grows d N (alternatives (unlabelled ks)) (alternatives (unlabelled ls))
+  alternatives_within N ks ls h = entered_within N (unlabelled ks) (unlabelled ls) (unlabelled_enter d N ks ls h)
 
   posted_grows : (N : ℕ) (k l : Rest) (c : Fact) → Grows d N k l → Grows d N (λ P. k (P ++ c ∷ [])) (λ P. l (P ++ c ∷ []))
   posted_grows N k l c g P b n m i e = g (P ++ c ∷ []) b n m i e
@@ -89,22 +92,22 @@ module _ (d : ℕ) where
         let next : Family → Rest = λ C P b n. record { marks = leaf P ∷ []; best = b; left = n; is_cut = false } in
         within_grows N next next (λ C P b n m i e. record { counted = omega arith; alike = λ c. rw e refl; rest = []; joins = refl })
 
-    labels_grow : (N : ℕ) (k l : Rest) (x : ℕ) (vs : List ℤ) → Grows d N k l → AllGrow d N (map (λ v P. k (P ++ is_value x v ∷ [])) vs) (map (λ v P. l (P ++ is_value x v ∷ [])) vs)
+    labels_grow : (N : ℕ) (k l : Rest) (x : ℕ) (vs : List ℤ) → Grows d N k l → AllEnter d N (by_value x (λ v P. k (P ++ is_value x v ∷ [])) vs) (by_value x (λ v P. l (P ++ is_value x v ∷ [])) vs)
     labels_grow N k l x [] g = tt
-    labels_grow N k l x (v ∷ vs) g = (posted_grows N k l (is_value x v) g, labels_grow N k l x vs g)
+    labels_grow N k l x (v ∷ vs) g = ((refl, posted_grows N k l (is_value x v) g), labels_grow N k l x vs g)
 
     label_extends : (xs : List ℕ) → Extends (label goal sets xs)
     label_extends [] N k l g = within_grows N (λ C. k) (λ C. l) (λ C. g)
     label_extends (x ∷ xs) N k l g =
         let h = label_extends xs N k l g in
         within_grows N
-        (λ C. cond (is_single C x) (label goal sets xs k) (alternatives (map (λ v P. label goal sets xs k (P ++ is_value x v ∷ [])) (set_of C x))))
-        (λ C. cond (is_single C x) (label goal sets xs l) (alternatives (map (λ v P. label goal sets xs l (P ++ is_value x v ∷ [])) (set_of C x))))
+        (λ C. cond (is_single C x) (label goal sets xs k) (alternatives (by_value x (λ v P. label goal sets xs k (P ++ is_value x v ∷ [])) (set_of C x))))
+        (λ C. cond (is_single C x) (label goal sets xs l) (alternatives (by_value x (λ v P. label goal sets xs l (P ++ is_value x v ∷ [])) (set_of C x))))
         (λ C. cond_grows N (is_single C x) (label goal sets xs k) (label goal sets xs l)
-        (alternatives (map (λ v P. label goal sets xs k (P ++ is_value x v ∷ [])) (set_of C x)))
-        (alternatives (map (λ v P. label goal sets xs l (P ++ is_value x v ∷ [])) (set_of C x)))
+        (alternatives (by_value x (λ v P. label goal sets xs k (P ++ is_value x v ∷ [])) (set_of C x)))
+        (alternatives (by_value x (λ v P. label goal sets xs l (P ++ is_value x v ∷ [])) (set_of C x)))
         h
-        (alternatives_within N (map (λ v P. label goal sets xs k (P ++ is_value x v ∷ [])) (set_of C x)) (map (λ v P. label goal sets xs l (P ++ is_value x v ∷ [])) (set_of C x))
+        (entered_within N (by_value x (λ v P. label goal sets xs k (P ++ is_value x v ∷ [])) (set_of C x)) (by_value x (λ v P. label goal sets xs l (P ++ is_value x v ∷ [])) (set_of C x))
         (labels_grow N (label goal sets xs k) (label goal sets xs l) x (set_of C x) h)))
 
     -- both orders of a pair
@@ -112,14 +115,14 @@ module _ (d : ℕ) where
     both k p = (λ P. k (P ++ precedes p.0 p.1 ∷ [])) ∷ (λ P. k (P ++ precedes p.1 p.0 ∷ [])) ∷ []
 
     abbrev ranked : Rest → ℕ × ℕ → Family → Rest
-    ranked k p C = cond (is_decided C (precedes p.0 p.1)) k (cond (is_decided C (precedes p.1 p.0)) k (alternatives (both k p)))
+    ranked k p C = cond (is_decided C (precedes p.0 p.1)) k (cond (is_decided C (precedes p.1 p.0)) k (alternatives (unlabelled (both k p))))
 
     ranked_grows : (N : ℕ) (k l : Rest) (p : ℕ × ℕ) (C : Family) → Grows d N k l → Grows d N (ranked k p C) (ranked l p C)
     ranked_grows N k l p C g =
         cond_grows N (is_decided C (precedes p.0 p.1)) k l
-        (cond (is_decided C (precedes p.1 p.0)) k (alternatives (both k p))) (cond (is_decided C (precedes p.1 p.0)) l (alternatives (both l p)))
+        (cond (is_decided C (precedes p.1 p.0)) k (alternatives (unlabelled (both k p)))) (cond (is_decided C (precedes p.1 p.0)) l (alternatives (unlabelled (both l p))))
         g
-        (cond_grows N (is_decided C (precedes p.1 p.0)) k l (alternatives (both k p)) (alternatives (both l p)) g
+        (cond_grows N (is_decided C (precedes p.1 p.0)) k l (alternatives (unlabelled (both k p))) (alternatives (unlabelled (both l p))) g
         (alternatives_within N (both k p) (both l p) (posted_grows N k l (precedes p.0 p.1) g, (posted_grows N k l (precedes p.1 p.0) g, tt))))
 
     rank_extends : (ps : List (ℕ × ℕ)) → Extends (rank_pairs goal sets ps)
@@ -139,7 +142,7 @@ module _ (d : ℕ) where
         r.0 N (visit goal sets n (pick C a others).others k) (visit goal sets n (pick C a others).others l) (visit_extends n (pick C a others).others r.1 N k l g))
 
     -- with no choice there is no turn
-    no_turn : (k l : Rest) → Grows d zero (alternatives (k ∷ [])) l
+    no_turn : (k l : Rest) → Grows d zero (alternatives (unlabelled (k ∷ []))) l
     no_turn k l P b zero m i e = stopped_agrees d b (l P b m)
     no_turn k l P b (suc n) m i e = absurd (omega arith)
 
@@ -147,8 +150,8 @@ module _ (d : ℕ) where
     spent_grows l P b zero m i e = stopped_agrees d b (l P b m)
     spent_grows l P b (suc n) m i e = absurd (omega arith)
 
-    abbrev turn : Rest → List Rest
-    turn k = k ∷ []
+    abbrev turn : Rest → List Alternative
+    turn k = unlabelled (k ∷ [])
 
     loop_grows : (u w N : ℕ) (c : Fact) (body : Rest → Rest) (k l : Rest) → N ≤ u → N + d ≤ w → Extends body → Grows d N k l → Grows d N (loop goal sets u c body k) (loop goal sets w c body l)
     loop_grows zero zero zero c body k l i j h g =
@@ -169,7 +172,7 @@ module _ (d : ℕ) where
         within_grows (suc N) (λ C. cond (is_met C c) (alternatives (turn (body (loop goal sets u c body k)))) k) (λ C. cond (is_met C c) (alternatives (turn (body (loop goal sets w c body l)))) l)
         (λ C. cond_grows (suc N) (is_met C c) (alternatives (turn (body (loop goal sets u c body k)))) (alternatives (turn (body (loop goal sets w c body l)))) k l
         (alternatives_grow d N (turn (body (loop goal sets u c body k))) (turn (body (loop goal sets w c body l)))
-        (h N (loop goal sets u c body k) (loop goal sets w c body l) (loop_grows u w N c body k l (omega arith) (omega arith) h (grows_less d N (suc N) k l (omega arith) g)), tt))
+        ((refl, h N (loop goal sets u c body k) (loop goal sets w c body l) (loop_grows u w N c body k l (omega arith) (omega arith) h (grows_less d N (suc N) k l (omega arith) g))), tt))
         g)
 
     -- ---- statements
@@ -181,12 +184,12 @@ module _ (d : ℕ) where
       perform_extends (block ss) N k l g =
           within_grows N (λ C. perform_all goal sets ss k) (λ C. perform_all goal sets ss l) (λ C. all_extend ss N k l g)
       perform_extends (try ss) N k l g =
-          within_grows N (λ C. alternatives (performed goal sets ss k)) (λ C. alternatives (performed goal sets ss l))
+          within_grows N (λ C. alternatives (unlabelled (performed goal sets ss k))) (λ C. alternatives (unlabelled (performed goal sets ss l)))
           (λ C. alternatives_within N (performed goal sets ss k) (performed goal sets ss l) (each_extends ss N k l g))
       perform_extends (try_all bs) N k l g =
           within_grows N
-          (λ C. let ready = taken C (arms goal sets bs) in alternatives (map (λ a. a.body k) (ordered C (length ready) ready)))
-          (λ C. let ready = taken C (arms goal sets bs) in alternatives (map (λ a. a.body l) (ordered C (length ready) ready)))
+          (λ C. let ready = taken C (arms goal sets bs) in alternatives (unlabelled (map (λ a. a.body k) (ordered C (length ready) ready))))
+          (λ C. let ready = taken C (arms goal sets bs) in alternatives (unlabelled (map (λ a. a.body l) (ordered C (length ready) ready))))
           (λ C. let ready = taken C (arms goal sets bs) in
           alternatives_within N (map (λ a. a.body k) (ordered C (length ready) ready)) (map (λ a. a.body l) (ordered C (length ready) ready))
           (bodies_grow N k l (ordered C (length ready) ready) g (ordered_extend C (length ready) ready (taken_extend C (arms goal sets bs) (arms_extend bs)))))

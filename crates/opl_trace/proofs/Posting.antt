@@ -38,7 +38,7 @@ dead_more goal P Q b F h = false_unless (list_any (is_refuted F) (P ++ bound goa
     ] in
     cc)
 
-stable_more : (goal : Option Objective) (P Q : List Fact) (b : Option ℤ) (F : Family) → IsStable (is_dead goal (P ++ Q) b) F → IsStable (is_dead goal P b) F
+pub stable_more : (goal : Option Objective) (P Q : List Fact) (b : Option ℤ) (F : Family) → IsStable (is_dead goal (P ++ Q) b) F → IsStable (is_dead goal P b) F
 stable_more goal P Q b F s = record {
   full = s.full;
   spared = dead_more goal P Q b F s.spared;

@@ -10,7 +10,7 @@ use Rattle.opl_domain.proofs.Members.{member_cases, member_first, member_later, 
 use Rattle.opl_domain.proofs.Sets.{cut_here}
 use Rattle.opl_trace.specs.Stable.{IsMonotone, IsStable}
 use Rattle.opl_trace.specs.Closure.{families, is_stable, is_in_stable, restrict, closure}
-use Rattle.opl_trace.specs.Removals.{IsDeadValue, DeadValue, DeadPair}
+use Rattle.opl_trace.specs.Removals.{IsDeadValue, DeadValue, DeadPair, Kept}
 use Rattle.opl_trace.specs.Sweeps.{size}
 use Rattle.opl_trace.proofs.Families.{has_at, only_full, only_below_only, has_restrict, length-restrict, restrict_below}
 use Rattle.opl_trace.proofs.StableFamilies.{greatest_from_union}
@@ -49,12 +49,6 @@ passed_all dead F x v p d l w m = elim (lt_or_eq v w) [
   | inl k ↦ p.before w m k
   | inr o ↦ elim o [ inl e ↦ subst (λ y. dead (only F x y) ≡ false) (sym e) d | inr k ↦ absurd (omega (arith, ints, l w m)) ]
 ]
-
--- what has been kept of D: some of its values, and all that a stable family has
-pub record Kept (dead : Family → Bool) (D F : Family) : Type 0 where
-  pub keeps : ℕ → ℤ → Bool
-  pub is_kept : F ≡ restrict keeps D
-  pub above : (G : Family) → IsStable dead G → Below G D → Below G F
 
 pub kept_self : (dead : Family → Bool) (D : Family) → Kept dead D D
 kept_self dead D = record { keeps = λ x v. true; is_kept = sym (restrict_all D); above = λ G s b. b }

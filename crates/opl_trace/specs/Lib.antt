@@ -12,4 +12,8 @@ pub mod Solutions
 pub mod Paths
 pub mod Sweeps
 pub mod Removals
+pub mod Questions
+pub mod SoundCores
+pub mod Moments
 pub mod SearchLaws
+pub mod EngineLaws

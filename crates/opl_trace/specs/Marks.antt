@@ -53,7 +53,7 @@ prefixes (vs ∷ D) = length vs * (1 + prefixes D)
 -- the solutions among marks
 abbrev pub solved : List Mark → List (List ℤ)
 solved [] = []
-solved (choice ∷ ms) = solved ms
+solved (choice l ∷ ms) = solved ms
 solved (leaf P ∷ ms) = solved ms
 solved (solution a ∷ ms) = a ∷ solved ms
 solved (cut ∷ ms) = solved ms

@@ -1,5 +1,5 @@
 -- The objective, the bound that a best value sets, and the better ones of a list of assignments.
-use Rattle.std.specs.Prelude.{Bool, true, false, cond, List, [], ◌∷◌, ℤ, int_lt, Option, Some, None}
+use Rattle.std.specs.Prelude.{Bool, true, false, cond, List, [], ◌∷◌, ℤ, ◌≤ℤ◌, int_lt, Option, Some, None}
 use Rattle.opl_expr.specs.Forms.{Term, Fact}
 use Rattle.opl_expr.specs.Forms.Relation.{below}
 use Rattle.opl_expr.specs.Holds.{value}
@@ -39,3 +39,14 @@ improving_from g b (a ∷ others) = cond (is_better g (value a g.term) b) (a ∷
 abbrev pub improving : Option Objective → List (List ℤ) → List (List ℤ)
 improving None assignments = assignments
 improving (Some g) assignments = improving_from g None assignments
+
+-- one number is at least as good as another
+abbrev pub NotWorse : Bool → ℤ → ℤ → Type 0
+NotWorse true i j = i ≤ℤ j
+NotWorse false i j = j ≤ℤ i
+
+-- the best value c is at least as good as b
+abbrev pub Tighter : Objective → Option ℤ → Option ℤ → Type 0
+Tighter g None c = Unit {0}
+Tighter g (Some i) None = ⊥
+Tighter g (Some i) (Some j) = NotWorse g.is_most i j

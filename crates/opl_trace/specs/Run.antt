@@ -16,10 +16,10 @@ use Rattle.opl_trace.specs.Objective.{Objective, bound, best_after}
 
 -- ---- what a search makes
 
--- an alternative is entered; a statement that stands under `once` is done, with these constraints; a solution; the end of the
--- whole, as a choice was due and none was left
+-- an alternative is entered, with the variable and its value where it is one of labelling; a statement that stands under `once`
+-- is done, with these constraints; a solution; the end of the whole, as a choice was due and none was left
 pub data Mark : Type 0 where
-  choice : Mark
+  choice : Option (ℕ × ℤ) → Mark
   leaf : List Fact → Mark
   solution : List ℤ → Mark
   cut : Mark
@@ -63,18 +63,31 @@ behind ms o = record { marks = ms ++ o.marks; best = o.best; left = o.left; is_c
 abbrev pub after : Out → (Option ℤ → ℕ → Out) → Out
 after o next = cond o.is_cut o (behind o.marks (next o.best o.left))
 
+-- an alternative: the variable and its value, if it is one of labelling, and what it makes
+pub record Alternative : Type 0 where
+  pub label : Option (ℕ × ℤ)
+  pub rest : Rest
+
+-- alternatives that aren't of labelling
+abbrev pub unlabelled : List Rest → List Alternative
+unlabelled ks = map (λ k. record { label = None; rest = k }) ks
+
+-- an alternative for each value of variable x
+abbrev pub by_value : ℕ → (ℤ → Rest) → List ℤ → List Alternative
+by_value x k vs = map (λ v. record { label = Some (x, v); rest = k v }) vs
+
 -- alternatives in order: each makes a Choice mark, and starts with the constraints as on entry
-abbrev pub alternatives : List Rest → Rest
+abbrev pub alternatives : List Alternative → Rest
 alternatives [] P b n = nothing P b n
 alternatives (a ∷ others) P b zero = stopped b
-alternatives (a ∷ others) P b (suc n) = after (marked choice (a P b n)) (alternatives others P)
+alternatives (a ∷ others) P b (suc n) = after (marked (choice a.label) (a.rest P b n)) (alternatives others P)
 
 -- ---- once
 
 -- how many of the marks are choices
 abbrev pub choices : List Mark → ℕ
 choices [] = zero
-choices (choice ∷ ms) = suc (choices ms)
+choices (choice l ∷ ms) = suc (choices ms)
 choices (leaf P ∷ ms) = choices ms
 choices (solution a ∷ ms) = choices ms
 choices (cut ∷ ms) = choices ms
@@ -90,7 +103,7 @@ left_with m (Some l) = Some (record { before = m ∷ l.before; posted = l.posted
 
 abbrev pub first_leaf : List Mark → Option Left
 first_leaf [] = None
-first_leaf (choice ∷ ms) = left_with choice (first_leaf ms)
+first_leaf (choice l ∷ ms) = left_with (choice l) (first_leaf ms)
 first_leaf (leaf P ∷ ms) = Some (record { before = []; posted = P })
 first_leaf (solution a ∷ ms) = left_with (solution a) (first_leaf ms)
 first_leaf (cut ∷ ms) = left_with cut (first_leaf ms)
@@ -143,14 +156,14 @@ module _ (goal : Option Objective) (sets : List Fact → Option ℤ → Option F
   -- a value for each variable of a list, in order
   abbrev pub label : List ℕ → Rest → Rest
   label [] next = within (λ C. next)
-  label (x ∷ xs) next = within (λ C. cond (is_single C x) (label xs next) (alternatives (map (λ v P. label xs next (P ++ is_value x v ∷ [])) (set_of C x))))
+  label (x ∷ xs) next = within (λ C. cond (is_single C x) (label xs next) (alternatives (by_value x (λ v P. label xs next (P ++ is_value x v ∷ [])) (set_of C x))))
 
   -- an order for each pair of a list
   abbrev pub rank_pairs : List (ℕ × ℕ) → Rest → Rest
   rank_pairs [] next = within (λ C. next)
   rank_pairs (p ∷ ps) next =
       within (λ C. cond (is_decided C (precedes p.0 p.1)) (rank_pairs ps next) (cond (is_decided C (precedes p.1 p.0)) (rank_pairs ps next)
-      (alternatives ((λ P. rank_pairs ps next (P ++ precedes p.0 p.1 ∷ [])) ∷ (λ P. rank_pairs ps next (P ++ precedes p.1 p.0 ∷ [])) ∷ []))))
+      (alternatives (unlabelled ((λ P. rank_pairs ps next (P ++ precedes p.0 p.1 ∷ [])) ∷ (λ P. rank_pairs ps next (P ++ precedes p.1 p.0 ∷ [])) ∷ [])))))
 
   -- elements, each chosen when it is reached; n is at least their number
   abbrev pub visit : ℕ → List (Arm (Rest → Rest)) → Rest → Rest
@@ -161,15 +174,15 @@ module _ (goal : Option Objective) (sets : List Fact → Option ℤ → Option F
   -- a loop of at most n turns; each makes a Choice mark, so that the choices left are turns enough
   abbrev pub loop : ℕ → Fact → (Rest → Rest) → Rest → Rest
   loop zero c body next = within (λ C. cond (is_met C c) spent next)
-  loop (suc m) c body next = within (λ C. cond (is_met C c) (alternatives (body (loop m c body next) ∷ [])) next)
+  loop (suc m) c body next = within (λ C. cond (is_met C c) (alternatives (unlabelled (body (loop m c body next) ∷ []))) next)
 
   abbrev mutual
     -- a statement, and then what follows it
     pub perform : Statement → Rest → Rest
     perform (post c) next = within (λ C P. next (P ++ answered C c ∷ []))
     perform (block ss) next = within (λ C. perform_all ss next)
-    perform (try ss) next = within (λ C. alternatives (performed ss next))
-    perform (try_all bs) next = within (λ C. let ready = taken C (arms bs) in alternatives (map (λ a. a.body next) (ordered C (length ready) ready)))
+    perform (try ss) next = within (λ C. alternatives (unlabelled (performed ss next)))
+    perform (try_all bs) next = within (λ C. let ready = taken C (arms bs) in alternatives (unlabelled (map (λ a. a.body next) (ordered C (length ready) ready))))
     perform (for_all bs) next = within (λ C. let ready = taken C (arms bs) in visit (length ready) ready next)
     perform (select bs) next = within (λ C. selected C (taken C (arms bs)) next)
     perform (once s) next = within (λ C P b n. let o = perform s inner_leaf P b n in committed next o b n (first_leaf o.marks))

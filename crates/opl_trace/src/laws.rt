@@ -1,5 +1,6 @@
-//! Laws of stable families, of the closure and of searches. Each law is the contract of a function without effect.
+//! Laws of stable families, of the closure, of searches and of cores. Each law is the contract of a function without effect.
 ghost use Rattle.opl_trace.specs.ClosureLaws.{UnionIsStable, ClosureIsGreatest, ClosureIsUnion, NoneLost};
+ghost use Rattle.opl_trace.specs.EngineLaws.{StableForFewer, StableUnderWorse, KeptCloses, SolutionsSatisfy, BaseIsSound};
 ghost use Rattle.opl_trace.specs.SearchLaws.{Prefix, Counted, Enough, RefutingIsMonotone, MomentIsClosure, SolutionsStay, SinglesHold, SweepsClose, SweepsTrace, PostingNarrows, PostedIsSingle, AllFound, BestFound};
 
 /// The union of any stable families of the same variables is stable.
@@ -85,4 +86,29 @@ pub fn default_search_finds_all()
 /// With an objective, default search without a Cut makes exactly the solutions that are better than all before them.
 pub fn default_search_finds_the_best()
     ensures { BestFound }
+{}
+
+/// A family that is stable for some constraints is stable for the first of them.
+pub fn stable_for_fewer()
+    ensures { StableForFewer }
+{}
+
+/// A family that is stable under a best value is stable under one that is no better.
+pub fn stable_under_worse()
+    ensures { StableUnderWorse }
+{}
+
+/// Removing dead values one after another leads to the closure, or to a family that shows that there is none.
+pub fn removals_close()
+    ensures { KeptCloses }
+{}
+
+/// The solutions of a core are the assignments of its declared sets on which its constraints hold.
+pub fn solutions_satisfy()
+    ensures { SolutionsSatisfy }
+{}
+
+/// A sound core has sound constraints to begin with.
+pub fn bases_are_sound()
+    ensures { BaseIsSound }
 {}

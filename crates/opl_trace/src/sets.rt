@@ -69,6 +69,12 @@ impl View for Sets {
 }
 
 impl Narrow for Sets {
+    ghost leads_to = { λ s t. Unit {0} };
+
+    ghost leads_to_itself = { λ s. _ };
+
+    ghost leads_on = { λ s t u a b. b };
+
     fn cut(&mut self, x: u32, lo: i64, hi: i64) {
         self.domains[x as usize].cut(lo, hi);
     }

@@ -1,5 +1,5 @@
-use Rattle.opl_filter.proofs.Unmentioned.{others_dont_matter}
+use Rattle.opl_filter.proofs.Agreeing.{agreeing_same}
 use Rattle.opl_filter.proofs.laws.others_dont_matter.Goals as goal
 
 pub returns : goal.returns
-returns c = others_dont_matter
+returns c = agreeing_same

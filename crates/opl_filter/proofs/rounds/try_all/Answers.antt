@@ -5,24 +5,24 @@ use Rattle.opl_filter.proofs.Trying.{listed_at, all_first, all_next, all_end, al
 use Rattle.opl_filter.proofs.rounds.try_all.Goals as goal
 
 pub loop-x-init : goal.loop-x-init
-loop-x-init g c = all_first _ _ _
+loop-x-init g c = (all_first _ _ _, g.met.N.Narrow.leads_to_itself _)
 
 pub try_values-requires-clause-sets : goal.try_values-requires-clause-sets
-try_values-requires-clause-sets g c = left_sets _ _ _ c.requires.sets c.loop-x.invariant.removals
+try_values-requires-clause-sets g c = left_sets _ _ _ c.requires.sets c.loop-x.invariant.0.removals
 
 pub try_values-requires-clause-variable : goal.try_values-requires-clause-variable
 try_values-requires-clause-variable g c =
     let listed = listed_at c.args.variables.now c.loop-x.x-index c.loop-x-test.true in
-    omega (arith, c.requires.there _ listed, (left_below _ _ _ c.loop-x.invariant.removals).same)
+    omega (arith, c.requires.there _ listed, (left_below _ _ _ c.loop-x.invariant.0.removals).same)
 
 pub try_values-requires-clause-tests : goal.try_values-requires-clause-tests
-try_values-requires-clause-tests g c F b = c.requires.tests F (below_join F _ _ b (left_below _ _ _ c.loop-x.invariant.removals))
+try_values-requires-clause-tests g c F b = c.requires.tests F (below_join F _ _ b (left_below _ _ _ c.loop-x.invariant.0.removals))
 
-pub returns-in_err-removed : goal.returns-in_err-removed
-returns-in_err-removed g c = all_stuck _ _ _ _ _ _ c.loop-x.invariant.removals c.in_err-removed.ensures c.from_residual.ensures
+pub returns-in_err-removed-clause-tries : goal.returns-in_err-removed-clause-tries
+returns-in_err-removed-clause-tries g c = all_stuck _ _ _ _ _ _ c.loop-x.invariant.0.removals c.in_err-removed.ensures.tries c.from_residual.ensures
 
 pub loop-x-preserved : goal.loop-x-preserved
-loop-x-preserved g c = all_next _ _ _ _ _ _ _ _ c.loop-x-test.true c.loop-x.invariant c.in_ok-removed.ensures
+loop-x-preserved g c = (all_next _ _ _ _ _ _ _ _ c.loop-x-test.true c.loop-x.invariant.0 c.in_ok-removed.ensures.tries, g.met.N.Narrow.leads_on _ _ _ c.loop-x.invariant.1 c.try_values.ensures.leads_to)
 
-pub returns : goal.returns
-returns g c = all_end _ _ _ _ _ _ c.loop-x.invariant c.loop-x-test.false
+pub returns-clause-tries : goal.returns-clause-tries
+returns-clause-tries g c = all_end _ _ _ _ _ _ c.loop-x.invariant.0 c.loop-x-test.false

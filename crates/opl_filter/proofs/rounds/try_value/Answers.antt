@@ -17,11 +17,11 @@ cut-requires-clause-stays g c =
     let fits : FitsSigned w64 c.args.v = c.ranges.v in
     rw (to_z-of_z w64 c.args.v fits) (other_stays _ _ _ c.requires.sets c.requires.variable c.requires.value (λ e. c.if-size-eq1.false (c.size.ensures ∙ e)))
 
-pub returns : goal.returns
-returns g c =
+pub returns-clause-tries : goal.returns-clause-tries
+returns-clause-tries g c =
     let fits : FitsSigned w64 c.args.v = c.ranges.v in
     let e = rw (to_z-of_z w64 c.args.v fits) at c.new.ensures in
-    let cut = rw (to_z-of_z w64 c.args.v fits) at c.cut.ensures in (
+    let cut = rw (to_z-of_z w64 c.args.v fits) at c.cut.ensures.cut in (
       cut,
       record {
         dead_value = record {

@@ -532,7 +532,7 @@ cons_range-returns-in-AllDifferent g t c =
 
 pub cons_range-returns-in-None : goal.cons_range-returns-in-None
 cons_range-returns-in-None g t c =
-    let core = c.args.core.now in let F = g.V.View.family c.args.view.now in by_fact core F c.args.c.now _ _ (ap (fact core.tables core.resources) c.in-Capacity.is ∙ fact_Capacity core.tables core.resources c.in-Capacity.resource c.in-Capacity.time ∙ ap (λ o. capacity_at o c.in-Capacity.time) (sym c.in-None.ensures.value)) (ap Some c.point.ensures)
+    let core = c.args.core.now in let F = g.V.View.family c.args.view.now in by_fact core F c.args.c.now _ _ (ap (fact core.tables core.resources) c.in-Capacity.is ∙ fact_Capacity core.tables core.resources c.in-Capacity.resource c.in-Capacity.time ∙ ap (λ o. capacity_at o c.in-Capacity.time) (sym c.in-None.ensures.value)) refl
 
 pub cons_range-capacity-requires-clause-sound : goal.cons_range-capacity-requires-clause-sound
 cons_range-capacity-requires-clause-sound g t c =

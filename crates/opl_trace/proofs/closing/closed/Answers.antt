@@ -4,7 +4,8 @@ use mir.Syntax.{w64}
 use Rattle.std.proofs.lemmas.Int.{to_z-of_z}
 use Rattle.opl_trace.specs.Sweeps.{size}
 use Rattle.opl_trace.proofs.Families.{below_join}
-use Rattle.opl_trace.proofs.Removals.{Kept, kept_self, kept_below, dead_fails, kept_closed, stable_kept, single_fails, other_stays, kept_cut, cut_smaller}
+use Rattle.opl_trace.specs.Removals.{Kept}
+use Rattle.opl_trace.proofs.Removals.{kept_self, kept_below, dead_fails, kept_closed, stable_kept, single_fails, other_stays, kept_cut, cut_smaller}
 use Rattle.opl_trace.proofs.closing.closed.Goals as goal
 
 pub loop-sets-init : goal.loop-sets-init
@@ -31,13 +32,13 @@ cut-requires-clause-stays g c =
 pub loop-sets-smaller : goal.loop-sets-smaller
 loop-sets-smaller g c =
     let fits : FitsSigned w64 c.in-Some.v = search rules in
-    let e = rw (to_z-of_z w64 c.in-Some.v fits) at c.cut.ensures in
+    let e = rw (to_z-of_z w64 c.in-Some.v fits) at c.cut.ensures.cut in
     subst (λ F. size F < size c.loop-sets.sets) (sym e) (cut_smaller _ _ _ c.in-Some.ensures.found.value)
 
 pub loop-sets-preserved : goal.loop-sets-preserved
 loop-sets-preserved g c =
     let fits : FitsSigned w64 c.in-Some.v = search rules in
-    let e = rw (to_z-of_z w64 c.in-Some.v fits) at c.cut.ensures in
+    let e = rw (to_z-of_z w64 c.in-Some.v fits) at c.cut.ensures.cut in
     subst (λ F. Kept (g.T.Test.dead c.args.test.now) c.args.sets F) (sym e) (kept_cut _ _ _ _ _ c.requires.falls c.loop-sets.invariant c.in-Some.ensures.found)
 
 pub is_dead-requires : goal.is_dead-requires

@@ -1,5 +1,5 @@
 use Rattle.opl_trace.specs.Sweeps.{size}
-use Rattle.opl_trace.proofs.Removals.{Kept}
+use Rattle.opl_trace.specs.Removals.{Kept}
 use Rattle.opl_trace.proofs.closing.closed.Given as goal
 
 abbrev pub invariant-loop-sets : goal.invariant-loop-sets

@@ -20,8 +20,8 @@ invariant_of-self c =
       omega (arith, c.self.invariant.1, length-set c.self.inside.domains.items c.args.x c.cut.new.self),
     )
 
-pub returns : goal.returns
-returns c =
+pub returns-clause-cut : goal.returns-clause-cut
+returns-clause-cut c =
     let lo_fits : FitsSigned w64 c.args.lo = c.ranges.lo in
     let hi_fits : FitsSigned w64 c.args.hi = c.ranges.hi in
     cut_is _ _ _ _ _ _ _ lo_fits hi_fits c.self.view_is (read_is _ _ _ _ c.self.view_is c.requires.within c.index_mut.ensures.value) c.cut.ensures

@@ -1,0 +1,18 @@
+use Rattle.std.specs.Prelude.{slice_index_or}
+use Rattle.std.proofs.Common.{refl, ◌<◌, ◌∷◌, length, map, ap, ◌∙◌, arith}
+use Rattle.opl_trace.specs.SoundCores.{facts_in}
+use Rattle.opl_reference_search.specs.Tasks.{element, statement_in, tasks_in}
+use Rattle.opl_reference_search.specs.Tasks.Task.{act, elements}
+use Rattle.opl_reference_search.specs.Steps.{on}
+use Rattle.opl_reference_search.proofs.Performed.{visit_made}
+use Rattle.opl_reference_search.proofs.step.visit.Goals as goal
+
+pub returns : goal.returns
+returns g c =
+    let core = c.args.search.now.core.now in
+    let P = facts_in core c.args.posted.now in
+    let some : 0 < length c.args.elements.now = grind (arith, c.if-is_empty.false, c.if-is_empty.ensures) in
+    visit_made c.args.sets.now (λ e. element core e.now) P c.args.elements.now (tasks_in core c.args.others.now) c.in_ok-at.at (slice_index_or c.args.elements.now c.in_ok-at.at c.index-elements-at.result) c.index-elements-at.result _
+    c.in_ok-at.ensures.place (c.in_ok-at.ensures.there some) refl
+    (c.in_ok-way.ensures ∙ ap (λ us. on P (act (statement_in core (slice_index_or c.args.elements.now c.in_ok-at.at c.index-elements-at.result).now.body) ∷ tasks_in core us)) (c.as_slice.ensures ∙ c.in_ok-rest.ensures)
+    ∙ ap (λ es. on P (act (statement_in core (slice_index_or c.args.elements.now c.in_ok-at.at c.index-elements-at.result).now.body) ∷ elements (map (λ e. element core e.now) es) ∷ tasks_in core c.args.others.now)) c.in_ok-left.ensures)

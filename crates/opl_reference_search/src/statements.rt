@@ -1,0 +1,235 @@
+//! What a statement does at a moment.
+ghost use Rattle.std.specs.Prelude.{◌≡◌, ◌∷◌, [], ◌++◌, cond, map, IfOk};
+ghost use Rattle.opl_domain.specs.Family.{Below};
+ghost use Rattle.opl_expr.specs.Forms.{fact};
+ghost use Rattle.opl_expr.specs.Solutions.{declared};
+ghost use Rattle.opl_trace.specs.Answers.{answered, is_met};
+ghost use Rattle.opl_trace.specs.SoundCores.{facts_in};
+ghost use Rattle.opl_trace.specs.Questions.{IsOpenFact};
+ghost use Rattle.opl_trace.specs.SoundCores.{IsSoundStatement};
+ghost use Rattle.opl_reference_search.specs.Sound.{AreSoundElements};
+ghost use Rattle.opl_reference_search.specs.Tasks.{element, statement_in, task_of, tasks_in, acts};
+ghost use Rattle.opl_reference_search.specs.Tasks.Task.{act};
+ghost use Rattle.opl_reference_search.specs.Steps.{on, way_of, ways_in, next_of, bodies_then, first_then, performed};
+
+use crate::elements::{ordered, place, taken};
+use crate::next::{Next, Way};
+use crate::task::{Task, before, one_before, steps_before};
+use opl_expr::{Branch, Cons, Core, OutOfMemory, Step};
+use opl_list::Seq;
+use opl_reference_labelling::{Ranges, Search, answered, copies};
+use opl_trace::Sets;
+use std::alloc::Global;
+
+/// The path goes on with the same constraints and one more task.
+pub fn with_task<'a>(
+    alloc: Global,
+    core: &Core,
+    task: Task<'a>,
+    others: &[Task<'a>],
+    posted: &[Cons],
+) -> Result<Way<'a>, OutOfMemory>
+    ensures { IfOk result (λ w. way_of core.now w ≡ on (facts_in core.now posted.now) (tasks_in core.now (task.entry ∷ others.now))) }
+{
+    let posted = copies(alloc, posted)?;
+    let tasks = one_before(alloc, task, others)?;
+    Ok(Way {
+        label: None,
+        posted,
+        tasks,
+    })
+}
+
+/// The path goes on with the other tasks, and with these constraints.
+pub fn without_task<'a>(
+    alloc: Global,
+    core: &Core,
+    others: &[Task<'a>],
+    posted: &[Cons],
+) -> Result<Way<'a>, OutOfMemory>
+    ensures { IfOk result (λ w. way_of core.now w ≡ on (facts_in core.now posted.now) (tasks_in core.now others.now)) }
+{
+    let posted = copies(alloc, posted)?;
+    let tasks = before(alloc, Seq::new(alloc), others)?;
+    Ok(Way {
+        label: None,
+        posted,
+        tasks,
+    })
+}
+
+/// A constraint is posted, with its questions answered.
+fn post<'a>(
+    alloc: Global,
+    core: &Core,
+    sets: &Sets,
+    c: &Cons,
+    others: &[Task<'a>],
+    posted: &[Cons],
+) -> Result<Way<'a>, OutOfMemory>
+    ensures { IfOk result (λ w. way_of core.now w ≡ on (facts_in core.now posted.now ++ answered sets.now (fact core.now.tables core.now.resources c.now) ∷ []) (tasks_in core.now others.now)) }
+{
+    let mut more = copies(alloc, posted)?;
+    more.push(answered(alloc, core, sets, c)?.into_inner())?;
+    let way = without_task(alloc, core, others, more.as_slice())?;
+    Ok(way)
+}
+
+/// The statements one after another.
+fn block<'a>(
+    alloc: Global,
+    core: &Core,
+    steps: &'a [Step],
+    others: &[Task<'a>],
+    posted: &[Cons],
+) -> Result<Way<'a>, OutOfMemory>
+    ensures { IfOk result (λ w. way_of core.now w ≡ on (facts_in core.now posted.now) (acts core.now steps.now ++ tasks_in core.now others.now)) }
+{
+    let posted = copies(alloc, posted)?;
+    let tasks = steps_before(alloc, core, steps, others)?;
+    Ok(Way {
+        label: None,
+        posted,
+        tasks,
+    })
+}
+
+/// Each statement as an alternative.
+fn each_step<'a>(
+    alloc: Global,
+    core: &Core,
+    steps: &'a [Step],
+    others: &[Task<'a>],
+    posted: &[Cons],
+) -> Result<Seq<Way<'a>>, OutOfMemory>
+    ensures { IfOk result (λ ws. ways_in core.now ws ≡ map (λ s. on (facts_in core.now posted.now) (act (statement_in core.now s) ∷ tasks_in core.now others.now)) steps.now) }
+{
+    let mut ways = Seq::new(alloc);
+    for step in steps {
+        ways.push(with_task(alloc, core, Task::Perform(step), others, posted)?)?;
+    }
+    Ok(ways)
+}
+
+/// The body of each element as an alternative.
+fn each_body<'a>(
+    alloc: Global,
+    core: &Core,
+    elements: &[&'a Branch],
+    others: &[Task<'a>],
+    posted: &[Cons],
+) -> Result<Seq<Way<'a>>, OutOfMemory>
+    ensures { IfOk result (λ ws. ways_in core.now ws ≡ bodies_then (facts_in core.now posted.now) (map (λ e. element core.now e.now) elements.now) (tasks_in core.now others.now)) }
+{
+    let mut ways = Seq::new(alloc);
+    for element in elements {
+        ways.push(with_task(alloc, core, Task::Perform(&element.body), others, posted)?)?;
+    }
+    Ok(ways)
+}
+
+/// The body of the first element by its key, if there is one.
+fn first_body<'a, R: Ranges>(
+    alloc: Global,
+    search: &Search<'_, R>,
+    sets: &Sets,
+    elements: &[&'a Branch],
+    others: &[Task<'a>],
+    posted: &[Cons],
+) -> Result<Next<'a>, OutOfMemory>
+    requires sound { AreSoundElements search.now.core.now.sets (map (λ e. element search.now.core.now e.now) elements.now) }
+    requires within { Below sets.now (declared search.now.core.now) }
+    ensures { IfOk result (λ n. next_of search.now.core.now n ≡ first_then sets.now (facts_in search.now.core.now posted.now) (map (λ e. element search.now.core.now e.now) elements.now) (tasks_in search.now.core.now others.now)) }
+{
+    if elements.is_empty() {
+        return Ok(Next::Nothing);
+    }
+    let at = place(alloc, search, sets, elements)?;
+    let way = with_task(
+        alloc,
+        search.core,
+        Task::Perform(&elements[at].body),
+        others,
+        posted,
+    )?;
+    Ok(Next::Go(way))
+}
+
+/// One of two statements, by a condition.
+fn decide<'a, R: Ranges>(
+    alloc: Global,
+    search: &Search<'_, R>,
+    sets: &Sets,
+    c: &Cons,
+    then: &'a Step,
+    or: &'a Step,
+) -> Result<Task<'a>, OutOfMemory>
+    requires open { IsOpenFact search.now.core.now.sets (fact search.now.core.now.tables search.now.core.now.resources c.now) }
+    requires within { Below sets.now (declared search.now.core.now) }
+    ensures { IfOk result (λ t. task_of search.now.core.now t ≡ act (cond (is_met sets.now (fact search.now.core.now.tables search.now.core.now.resources c.now)) (statement_in search.now.core.now then.now) (statement_in search.now.core.now or.now))) }
+{
+    if search.is_met(alloc, sets, c)? {
+        Ok(Task::Perform(then))
+    } else {
+        Ok(Task::Perform(or))
+    }
+}
+
+/// What a statement does with the sets of a moment, and then the other tasks.
+pub fn perform<'a, R: Ranges>(
+    alloc: Global,
+    search: &Search<'_, R>,
+    sets: &Sets,
+    step: &'a Step,
+    others: &[Task<'a>],
+    posted: &[Cons],
+    left: u64,
+) -> Result<Next<'a>, OutOfMemory>
+    requires sound { IsSoundStatement search.now.core.now.sets (statement_in search.now.core.now step.now) }
+    requires within { Below sets.now (declared search.now.core.now) }
+    ensures { IfOk result (λ n. next_of search.now.core.now n ≡ performed sets.now (facts_in search.now.core.now posted.now) left (statement_in search.now.core.now step.now) (tasks_in search.now.core.now others.now)) }
+{
+    let core = search.core;
+    match step {
+        Step::Post(c) => Ok(Next::Go(post(alloc, core, sets, c, others, posted)?)),
+        Step::Block(steps) => Ok(Next::Go(block(alloc, core, steps.as_slice(), others, posted)?)),
+        Step::Try(steps) => Ok(Next::Choose(each_step(
+            alloc,
+            core,
+            steps.as_slice(),
+            others,
+            posted,
+        )?)),
+        Step::TryAll(elements) => {
+            let taken = taken(alloc, search, sets, elements.as_slice())?;
+            let ordered = ordered(alloc, search, sets, taken.as_slice())?;
+            Ok(Next::Choose(each_body(alloc, core, ordered.as_slice(), others, posted)?))
+        }
+        Step::ForAll(elements) => {
+            let taken = taken(alloc, search, sets, elements.as_slice())?;
+            Ok(Next::Go(with_task(alloc, core, Task::Visit(taken), others, posted)?))
+        }
+        Step::Select(elements) => {
+            let taken = taken(alloc, search, sets, elements.as_slice())?;
+            let next = first_body(alloc, search, sets, taken.as_slice(), others, posted)?;
+            Ok(next)
+        }
+        Step::Once(body) => Ok(Next::Commit(body.get(), before(alloc, Seq::new(alloc), others)?)),
+        Step::While(c, body) => {
+            let task = Task::Loop(left, c, body.get());
+            Ok(Next::Go(with_task(alloc, core, task, others, posted)?))
+        }
+        Step::If(c, then, or) => {
+            let task = decide(alloc, search, sets, c, then.get(), or.get())?;
+            Ok(Next::Go(with_task(alloc, core, task, others, posted)?))
+        }
+        Step::Generate(variables) => {
+            let task = Task::Label(variables.as_slice());
+            Ok(Next::Go(with_task(alloc, core, task, others, posted)?))
+        }
+        Step::Rank(pairs) => {
+            let task = Task::Rank(pairs.as_slice());
+            Ok(Next::Go(with_task(alloc, core, task, others, posted)?))
+        }
+    }
+}

@@ -1,8 +1,0 @@
-use Rattle.std.proofs.Common.{◌≡◌, map, take}
-use Rattle.opl_marks.specs.Outcomes.{facts_in}
-use Rattle.opl_run.specs.Tasks.{element, tasks_in}
-use Rattle.opl_run.specs.Steps.{bodies_then, ways_in}
-use Rattle.opl_run.proofs.statements.each_body.Given as goal
-
-abbrev pub invariant-loop-element : goal.invariant-loop-element
-invariant-loop-element l = ways_in l.core l.ways ≡ bodies_then (facts_in l.core l.posted) (map (λ e. element l.core e.now) (take l.element-index l.elements)) (tasks_in l.core l.others)

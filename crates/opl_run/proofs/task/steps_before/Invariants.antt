@@ -1,6 +1,0 @@
-use Rattle.std.proofs.Common.{◌≡◌, take}
-use Rattle.opl_run.specs.Tasks.{acts, tasks_in}
-use Rattle.opl_run.proofs.task.steps_before.Given as goal
-
-abbrev pub invariant-loop-step : goal.invariant-loop-step
-invariant-loop-step l = tasks_in l.core l.first ≡ acts l.core (take l.step-index l.steps)
