@@ -1,7 +1,7 @@
 //! What the first item of a model says.
 use crate::stop::Stop;
 use crate::term::tell_term;
-use crate::token::tokens_of;
+use crate::token::{end_of, tokens_of};
 use crate::word::say;
 use opl_parse::parse_model;
 use opl_term::expr_term;
@@ -39,6 +39,6 @@ fn tell_first(alloc: Global, model: &ModelTree, out: &mut Vec<u8>) -> Result<(),
 /// Adds what the first item of a text's model says.
 pub fn tell_item(alloc: Global, text: &[u8], out: &mut Vec<u8>) -> Result<(), Stop> {
     let tokens = tokens_of(alloc, text)?;
-    let model = parse_model(alloc, tokens.as_slice(), text.len() as u32)?;
+    let model = parse_model(alloc, tokens.as_slice(), end_of(text))?;
     tell_first(alloc, &model, out).map_err(Stop::from)
 }

@@ -2,7 +2,7 @@
 use crate::same::are_same;
 use crate::spelt::text_of;
 use crate::stop::Stop;
-use crate::token::tokens_of;
+use crate::token::{end_of, tokens_of};
 use opl_data::{DataFile, depth_data, parse_data, spell_data};
 use opl_depth::depth_model;
 use opl_parse::parse_model;
@@ -75,7 +75,7 @@ fn data_file(alloc: Global, tokens: &[Token], end: u32) -> Result<Told, Stop> {
 /// How a text reads.
 fn read_text(alloc: Global, language: Language, text: &[u8]) -> Result<Reading, Stop> {
     let tokens = tokens_of(alloc, text)?;
-    let end = text.len() as u32;
+    let end = end_of(text);
     let told = match language {
         Language::Model => model(alloc, tokens.as_slice(), end)?,
         Language::Data => data_file(alloc, tokens.as_slice(), end)?,

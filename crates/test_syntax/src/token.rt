@@ -7,12 +7,24 @@ use std::alloc::{AllocError, Global};
 /// Words and texts of more bytes are told by how many they are.
 const MAX_SHOWN: usize = 100;
 
+/// Longer texts are not read.
+const MAX_BYTES: usize = 0x0fff_ffff;
+
 /// The tokens of a text.
 pub fn tokens_of(alloc: Global, text: &[u8]) -> Result<Seq<Token>, Stop> {
-    if text.len() > 0x0fff_ffff {
+    if text.len() > MAX_BYTES {
         return Err(Stop::OutOfMemory);
     }
     Ok(scan(alloc, text)?)
+}
+
+/// The place behind a text that is read.
+pub fn end_of(text: &[u8]) -> u32 {
+    if text.len() > MAX_BYTES {
+        u32::MAX
+    } else {
+        text.len() as u32
+    }
 }
 
 /// Adds the tokens of a text, each behind its place.
