@@ -1,6 +1,5 @@
 //! What an expression says, each form in brackets with its name and its place.
 use crate::word::{say, say_bytes, say_number};
-use opl_list::Boxed;
 use opl_term::{GroupTerm, Pattern, SetTerm, Step, Term};
 use opl_token::Seq;
 use opl_tree::{AggregateOp, CallOp, QuestionOp, Relation};
@@ -98,24 +97,29 @@ fn tell_parts(t: &Term, out: &mut Vec<u8>) -> Result<(), AllocError> {
             tell_part(a.get(), out)?;
             tell_steps(steps.as_slice(), out)
         }
-        Term::Related(_, a, relation, b) => tell_two(
-            a.get(),
-            relation_word(*relation),
-            b.get(),
-            out,
-        ),
+        Term::Related(_, a, relation, b) => {
+            tell_part(a.get(), out)?;
+            tell_of(relation_word(*relation), b.get(), out)
+        }
         Term::Member(_, a, over) => {
             tell_part(a.get(), out)?;
             tell_set(over, out)
         }
         Term::Equivalent(_, parts) => tell_all(parts.as_slice(), out),
-        Term::Implied(_, a, b) => tell_two(a.get(), " =>", b.get(), out),
+        Term::Implied(_, a, b) => {
+            tell_part(a.get(), out)?;
+            tell_of(" =>", b.get(), out)
+        }
         Term::Or(_, parts) => tell_all(parts.as_slice(), out),
         Term::And(_, parts) => tell_all(parts.as_slice(), out),
         Term::Not(_, a) => tell_part(a.get(), out),
         Term::Aggregate(_, op, groups, condition, a) => {
             say(out, aggregate_word(*op))?;
-            tell_params(groups.as_slice(), condition, out)?;
+            tell_groups(groups.as_slice(), out)?;
+            match condition {
+                Some(c) => tell_of(" if", c.get(), out)?,
+                None => (),
+            }
             tell_part(a.get(), out)
         }
         Term::Call(_, op, a) => tell_of(call_word(*op), a.get(), out),
@@ -135,10 +139,18 @@ fn tell_parts(t: &Term, out: &mut Vec<u8>) -> Result<(), AllocError> {
         Term::Listed(_, parts) => tell_all(parts.as_slice(), out),
         Term::Described(_, a, groups, condition) => {
             tell_part(a.get(), out)?;
-            tell_params(groups.as_slice(), condition, out)
+            tell_groups(groups.as_slice(), out)?;
+            match condition {
+                Some(c) => tell_of(" if", c.get(), out),
+                None => Ok(()),
+            }
         }
         Term::Array(_, parts) => tell_all(parts.as_slice(), out),
-        Term::KeyedArray(_, keys, cells) => tell_pairs(keys.as_slice(), cells.as_slice(), out),
+        Term::KeyedArray(_, keys, cells) => {
+            tell_all(keys.as_slice(), out)?;
+            say(out, " :")?;
+            tell_all(cells.as_slice(), out)
+        }
     }
 }
 
@@ -162,27 +174,11 @@ fn tell_of(word: &str, t: &Term, out: &mut Vec<u8>) -> Result<(), AllocError> {
     tell_part(t, out)
 }
 
-/// Adds two parts with a word between.
-#[cycle(terms)]
-fn tell_two(a: &Term, word: &str, b: &Term, out: &mut Vec<u8>) -> Result<(), AllocError> {
-    tell_part(a, out)?;
-    tell_of(word, b, out)
-}
-
 /// Adds parts in their order.
 #[cycle(terms)]
 fn tell_all(parts: &[Term], out: &mut Vec<u8>) -> Result<(), AllocError> {
     for part in parts {
         tell_part(part, out)?;
-    }
-    Ok(())
-}
-
-/// Adds keys, each with its cell behind it.
-#[cycle(terms)]
-fn tell_pairs(keys: &[Term], cells: &[Term], out: &mut Vec<u8>) -> Result<(), AllocError> {
-    for (key, cell) in keys.iter().zip(cells) {
-        tell_two(key, " :", cell, out)?;
     }
     Ok(())
 }
@@ -215,25 +211,19 @@ fn tell_set(over: &SetTerm, out: &mut Vec<u8>) -> Result<(), AllocError> {
         SetTerm::Whole(a) => tell_of(" in", a.get(), out),
         SetTerm::Between(low, high) => {
             say(out, " in")?;
-            tell_two(low.get(), " ..", high.get(), out)
+            tell_part(low.get(), out)?;
+            tell_of(" ..", high.get(), out)
         }
     }
 }
 
-/// Adds groups of parameters, and their condition.
+/// Adds groups of parameters.
 #[cycle(terms)]
-fn tell_params(
-    groups: &[GroupTerm],
-    condition: &Option<Boxed<Term>>,
-    out: &mut Vec<u8>,
-) -> Result<(), AllocError> {
+fn tell_groups(groups: &[GroupTerm], out: &mut Vec<u8>) -> Result<(), AllocError> {
     for group in groups {
         tell_group(group, out)?;
     }
-    match condition {
-        Some(a) => tell_of(" if", a.get(), out),
-        None => Ok(()),
-    }
+    Ok(())
 }
 
 /// Adds a group of parameters.
