@@ -110,7 +110,8 @@ fn push_scanned(
     tokens: &[Token],
     case: &Case,
 ) -> Result<(), AllocError> {
-    match parse_model(alloc, tokens, case.model.len() as u32) {
+    let end = u32::try_from(case.model.len()).map_err(|_| AllocError)?;
+    match parse_model(alloc, tokens, end) {
         Ok(tree) => push_parsed(alloc, text, tree, case),
         Err(fault) => push_syntax_fault(text, 0, &fault),
     }
