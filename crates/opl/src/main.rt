@@ -4,8 +4,8 @@
 ghost use Rattle.std.specs.Prelude.{◌≡◌};
 ghost use Rattle.opl.specs.Status.{status_of};
 
-use opl_call::{Answer, run};
 use opl_outside::{RealShelf, RealSink, Sink};
+use opl_tool::{Answer, run};
 use std::env;
 use std::io::{self, ErrorKind};
 use std::process::ExitCode;
