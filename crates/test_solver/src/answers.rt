@@ -11,7 +11,7 @@ use crate::shown::{
 use opl_domain::{Domain, Steps, View};
 use opl_expr::{Cons, Core, Expr, OutOfMemory, holds};
 use opl_filter::{Filter, GenericFilter, Outcome, sweep, variables_of};
-use opl_list::Seq;
+use opl_list::{Boxed, Seq};
 use opl_range::{cons_range, range, refuted};
 use opl_reference_labelling::{CoreRanges, closure_of, default_marks};
 use opl_reference_search::marks;
@@ -378,8 +378,8 @@ fn push_copied(
     core: &Core,
     line: &str,
 ) -> Result<(), OutOfMemory> {
-    let copy = core.copy(alloc)?;
-    push_answer(alloc, text, &copy, line)
+    let copy = Boxed::new(alloc, core.copy(alloc)?)?;
+    push_answer(alloc, text, copy.get(), line)
 }
 
 /// Adds a line, and its answer where it is a question.

@@ -11,6 +11,7 @@ mod shown;
 use answers::push_answers;
 use model::Parts;
 use opl_expr::OutOfMemory;
+use opl_list::Boxed;
 use opl_outside::{Found, OutsideError, RealShelf, RealSink, Shelf, Sink};
 use std::alloc::Global;
 use std::process::ExitCode;
@@ -40,8 +41,8 @@ fn parts_of(alloc: Global, written: &str) -> Result<Parts, OutOfMemory> {
 /// Adds the lines of a case, each question with its answer.
 fn push_case(alloc: Global, text: &mut Vec<u8>, written: &str) -> Result<(), OutOfMemory> {
     let parts = parts_of(alloc, written)?;
-    let core = parts.into_core();
-    push_answers(alloc, text, &core, written)
+    let core = Boxed::new(alloc, parts.into_core())?;
+    push_answers(alloc, text, core.get(), written)
 }
 
 /// The cases of a file with their answers. A blank line stands between cases.
