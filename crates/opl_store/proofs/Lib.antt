@@ -1,0 +1,4 @@
+pub mod Picked
+pub mod Ends
+pub mod Families
+pub mod New

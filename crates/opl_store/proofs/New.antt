@@ -1,0 +1,119 @@
+-- The sets of a new store.
+use Rattle.std.proofs.Common.{◌≡◌, ◌∙◌, ℕ, zero, suc, ◌+◌, ◌-◌, ◌*◌, ◌/◌, ◌%◌, ◌<◌, ◌≤◌, ◌^◌, Bool, true, false, refl, List, [], ◌∷◌, ◌++◌, length, replicate, get_or, drop, map, ℤ, pos, ◌+ℤ◌, ◌≤ℤ◌, ◌<ℤ◌, neg_ℤ, ap, sym, subst, arith, inl, inr}
+use Rattle.std.specs.Prelude.{slice_index, slice_get, Some, nat_eq}
+use Rattle.std.specs.List.{All}
+use Rattle.std.specs.Int.{bit_at}
+use Rattle.std.proofs.lemmas.Int.{ints}
+use Rattle.std.proofs.lemmas.Bool.{cases_lt}
+use Rattle.std.proofs.lemmas.Bool.Decides.{nat_tests}
+use Rattle.std.proofs.lemmas.Nat.Bits.{bit_at-zero}
+use Rattle.std.proofs.lemmas.List.{get_or-replicate, get_or_past, length-replicate, append_assoc}
+use Rattle.std.proofs.lemmas.List.Elements.{All-head, All-tail}
+use Rattle.opl_domain.specs.Span.{ints_from, span_size, values}
+use Rattle.opl_domain.specs.Family.{Family}
+use Rattle.opl_domain.proofs.Sets.{size_is}
+use Rattle.opl_store.specs.declared.shape.Shape.{Shape}
+use Rattle.opl_trail.specs.Gone.{is_gone}
+use Rattle.opl_trail.specs.Levels.{Levels}
+use Rattle.opl_store.specs.Ranges.{IsRange, size_between, values_between, blocks, all_blocks, shapes_from}
+use Rattle.opl_store.specs.Stored.{picked, low_gone, high_gone, between_ends, set_in, family_from, family_in, IsSet, AreSets, IsShape, AreShapes, IsStore}
+
+read_zero : (n p : ℕ) → slice_index (replicate n 0) p ≡ 0
+read_zero n p = elim (cases_lt p n) [
+  | inl l ↦ get_or-replicate n p 0 0 l
+  | inr l ↦ get_or_past (replicate n 0) p 0 (omega (arith, l, length-replicate {A = ℕ} n 0))
+]
+
+none_gone : (n g : ℕ) → is_gone (replicate n 0) g ≡ false
+unfolding is_gone
+none_gone n g = ap (λ w. nat_eq (bit_at w (g % 64)) 1) (read_zero n (g / 64)) ∙ ap (λ b. nat_eq b 1) (bit_at-zero (g % 64))
+
+all_picked : (n g : ℕ) (v : ℤ) (k : ℕ) → picked (replicate n 0) g v k ≡ ints_from v k
+all_picked n g v zero = refl
+all_picked n g v (suc k) = rw (none_gone n g, all_picked n (suc g) (v +ℤ pos 1) k) refl
+
+set_zero : (n x : ℕ) (s : Shape) → set_in (replicate n 0) x s ≡ ints_from s.least s.size
+unfolding set_in low_gone high_gone
+set_zero n x s =
+    let z : s.least +ℤ pos 0 ≡ s.least = omega (arith, ints) in
+    let m : s.size - 0 - 0 ≡ s.size = omega arith in
+    rw (read_zero n x) (all_picked n (s.first * 64 + 0) (s.least +ℤ pos 0) (s.size - 0 - 0) ∙ ap (λ v. ints_from v (s.size - 0 - 0)) z ∙ ap (ints_from s.least) m)
+
+new_from : (n x first : ℕ) (ps : List (ℤ × ℤ)) → family_from (replicate n 0) x (shapes_from first ps) ≡ map values_between ps
+unfolding values
+new_from n x first [] = refl
+new_from n x first (p ∷ ps) = rw (set_zero n x (record { least = p.0; size = size_between p; first = first }), new_from n (suc x) (first + blocks p) ps) refl
+
+pub new_family : (n first : ℕ) (ps : List (ℤ × ℤ)) → family_in (shapes_from first ps) (replicate n 0) ≡ map values_between ps
+unfolding family_in
+new_family n first ps = new_from n 0 first ps
+
+pub length-shapes : (first : ℕ) (ps : List (ℤ × ℤ)) → length (shapes_from first ps) ≡ length ps
+length-shapes first [] = refl
+length-shapes first (p ∷ ps) = ap suc (length-shapes (first + blocks p) ps)
+
+-- what is known of the place of a set
+pub record IsPlaced (first : ℕ) (ps : List (ℤ × ℤ)) (s : Shape) : Type 0 where
+  pub some : 0 < s.size
+  pub few : s.size ≤ 1048576
+  pub fits : (s.least +ℤ pos s.size) ≤ℤ pos (2 ^ 63)
+  pub start : first ≤ s.first
+  pub within : s.first * 64 + s.size ≤ 64 * (first + all_blocks ps)
+
+pub placed_at : (first x : ℕ) (ps : List (ℤ × ℤ)) (s : Shape) → All IsRange ps → slice_get (shapes_from first ps) x ≡ Some s → IsPlaced first ps s
+placed_at first x [] s a h = cc
+placed_at first zero (p ∷ ps) s a h =
+    let r = All-head IsRange p ps a in
+    let z = size_is p.0 p.1 r.0 in
+    let e : record { least = p.0; size = size_between p; first = first } ≡ s = cc in
+    subst (λ t. IsPlaced first (p ∷ ps) t) e (record {
+      some = omega (arith, ints, z, r.0);
+      few = r.1;
+      fits = omega (arith, ints, z, r.2);
+      start = omega arith;
+      within = omega arith;
+    })
+placed_at first (suc x) (p ∷ ps) s a h =
+    let i = placed_at (first + blocks p) x ps s (All-tail IsRange p ps a) h in
+    record { some = i.some; few = i.few; fits = i.fits; start = omega (arith, i.start); within = omega (arith, i.within) }
+
+apart_at : (first x y : ℕ) (ps : List (ℤ × ℤ)) (s t : Shape) → All IsRange ps → slice_get (shapes_from first ps) x ≡ Some s → slice_get (shapes_from first ps) y ≡ Some t → x < y → s.first * 64 + s.size ≤ t.first * 64
+apart_at first x y [] s t a h k l = cc
+apart_at first x zero (p ∷ ps) s t a h k l = absurd (omega arith)
+apart_at first zero (suc y) (p ∷ ps) s t a h k l =
+    let i = placed_at (first + blocks p) y ps t (All-tail IsRange p ps a) k in
+    let e : record { least = p.0; size = size_between p; first = first } ≡ s = cc in
+    subst (λ u. u.first * 64 + u.size ≤ t.first * 64) e (omega (arith, i.start))
+apart_at first (suc x) (suc y) (p ∷ ps) s t a h k l = apart_at (first + blocks p) x y ps s t (All-tail IsRange p ps a) h k (omega arith)
+
+set_new : (n x : ℕ) (s : Shape) → 0 < s.size → IsSet (replicate n 0) x s
+unfolding low_gone high_gone
+set_new n x s h = record {
+  order = rw (read_zero n x) (omega arith);
+  low = none_gone n (s.first * 64 + low_gone (slice_index (replicate n 0) x));
+  high = none_gone n (s.first * 64 + (s.size - 1 - high_gone (slice_index (replicate n 0) x)));
+}
+
+pub new_store : (ps : List (ℤ × ℤ)) (levels : Levels) → All IsRange ps → length ps + all_blocks ps < 2 ^ 32 → levels ≡ record { top = replicate (length ps + all_blocks ps) 0; below = [] } → IsStore (shapes_from (length ps) ps) (length levels.top) levels
+new_store ps levels a h e =
+    let n : ℕ = length ps + all_blocks ps in
+    let l : length (replicate {A = ℕ} n 0) ≡ n = length-replicate {A = ℕ} n 0 in
+    rw (e, l) (record {
+      small = h;
+      apart = record {
+        each = λ x s k. let i = placed_at (length ps) x ps s a k in record { behind = omega (arith, i.start, length-shapes (length ps) ps); within = i.within; few = i.few; fits = i.fits };
+        apart = λ x y s t k m d. apart_at (length ps) x y ps s t a k m d;
+      };
+      sets = ((l, λ x s k. set_new n x s (placed_at (length ps) x ps s a k).some), tt);
+    })
+
+-- one more set
+pub shapes_more : (first : ℕ) (ps : List (ℤ × ℤ)) (p : ℤ × ℤ) (rest : List (ℤ × ℤ)) → ps ≡ p ∷ rest → shapes_from first ps ≡ record { least = p.0; size = size_between p; first = first } ∷ shapes_from (first + blocks p) rest
+shapes_more first ps p rest e = rw e refl
+
+pub shapes_step : (old new others : List Shape) (first size : ℕ) (p : ℤ × ℤ) (ps rest : List (ℤ × ℤ)) (s : Shape) → new ≡ old ++ s ∷ [] → s ≡ record { least = p.0; size = size; first = first } → size ≡ size_between p → ps ≡ p ∷ rest → old ++ shapes_from first ps ≡ others → new ++ shapes_from (first + (size + 63) / 64) rest ≡ others
+shapes_step old new others first size p ps rest s e i j d h =
+    rw (e, i, j) (append_assoc old (record { least = p.0; size = size_between p; first = first } ∷ []) (shapes_from (first + blocks p) rest) ∙ sym (ap (λ qs. old ++ shapes_from first qs) d) ∙ h)
+
+pub words_step : (first size n : ℕ) (p : ℤ × ℤ) (ps rest : List (ℤ × ℤ)) → size ≡ size_between p → ps ≡ p ∷ rest → first + all_blocks ps ≡ n → first + (size + 63) / 64 + all_blocks rest ≡ n
+words_step first size n p ps rest j d h = let k = ap all_blocks d in rw j (omega (arith, h, k))
