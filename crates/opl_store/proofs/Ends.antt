@@ -9,8 +9,8 @@ use Rattle.opl_domain.proofs.Members.{from_filter, member_first, member_later}
 use Rattle.std.specs.List.{filter}
 use Rattle.std.proofs.lemmas.Bool.Decides.{nat_tests}
 use Rattle.opl_store.specs.declared.shape.Shape.{Shape}
-use Rattle.opl_trail.specs.Gone.{is_gone, IsFirstLeft, IsLastLeft, GoBetween, is_between}
-use Rattle.opl_store.specs.Stored.{picked, low_gone, high_gone, between_ends, set_in, IsSet, IsReady, PlaceOf, TouchesOnly}
+use Rattle.opl_trail.specs.Gone.{is_gone, IsFirstLeft, IsLastLeft, GoBetween, ChangesWhereLeft, is_between}
+use Rattle.opl_store.specs.Stored.{picked, low_gone, high_gone, between_ends, set_in, IsSet, IsReady, PlaceOf, TouchesOnly, Narrows, blocks_of}
 use Rattle.opl_store.proofs.Picked.{IsAt, in_picked, from_picked, picked_outside, picked_tail, picked_front, picked_same}
 use Rattle.opl_trail.proofs.Words.{same_gone}
 
@@ -202,11 +202,58 @@ high_moves words x w m s lo hi r a b c d stays gone =
     let moved = rw z at front in
     rw (e, a, b) (kept ∙ moved)
 
+-- the words of a set that stay narrow nothing
+pub narrows_same : (words new : List ℕ) (x : ℕ) (s : Shape) → slice_index new x ≡ slice_index words x → ((k : ℕ) → s.first ≤ k → k < s.first + blocks_of s → slice_index new k ≡ slice_index words k) → Narrows x s words new
+narrows_same words new x s e f = record {
+  low = rw e (omega arith);
+  high = rw e (omega arith);
+  gone = λ k l g. same_gone words new (s.first * 64 + k) (f ((s.first * 64 + k) / 64) (omega arith) (omega (arith, l))) ∙ g;
+  blocks = λ b l. inl (f (s.first + b) (omega arith) (omega (arith, l)));
+}
+
+pub narrows_refl : (words : List ℕ) (x : ℕ) (s : Shape) → Narrows x s words words
+narrows_refl words x s = narrows_same words words x s refl (λ k a b. refl)
+
+-- what is lost later was within the ends before
+pub narrows_on : (x : ℕ) (s : Shape) (old mid new : List ℕ) → Narrows x s old mid → Narrows x s mid new → Narrows x s old new
+narrows_on x s old mid new m n = record {
+  low = omega (arith, m.low, n.low);
+  high = omega (arith, m.high, n.high);
+  gone = λ k l g. n.gone k l (m.gone k l g);
+  blocks = λ b l. elim (m.blocks b l) [
+    | inr h ↦ inr (record { offset = h.offset; block = h.block; low = h.low; high = h.high; was = h.was; gone = n.gone h.offset (omega (arith, h.block, l)) h.gone })
+    | inl e ↦ elim (n.blocks b l) [
+      | inl d ↦ inl (d ∙ e)
+      | inr h ↦
+        let i : slice_index mid ((s.first * 64 + h.offset) / 64) ≡ slice_index old ((s.first * 64 + h.offset) / 64) = subst (λ k. slice_index mid k ≡ slice_index old k) (omega (arith, h.block)) e in
+        inr (record {
+          offset = h.offset;
+          block = h.block;
+          low = omega (arith, h.low, m.low);
+          high = omega (arith, h.high, m.high);
+          was = sym (same_gone old mid (s.first * 64 + h.offset) i) ∙ h.was;
+          gone = h.gone;
+        })
+    ]
+  ];
+}
+
+-- the ends move inwards
+pub narrows_ends : (words : List ℕ) (x w : ℕ) (s : Shape) → IsReady words x s → low_gone (slice_index words x) ≤ low_gone w → high_gone (slice_index words x) ≤ high_gone w → Narrows x s words (set words x w)
+narrows_ends words x w s r a b =
+    let inside : x < length words = omega (arith, r.behind, r.within, r.set.order) in
+    let e : slice_index (set words x w) x ≡ w = get_or-set_same words x w 0 inside in
+    record {
+      low = rw e a;
+      high = rw e b;
+      gone = λ k l g. gaps_stay words x w s (s.first * 64 + k) r.behind (omega arith) ∙ g;
+      blocks = λ c l. inl (get_or-set_other words x (s.first + c) w 0 (omega (arith, r.behind)));
+    }
+
 pub touches : (words : List ℕ) (x w : ℕ) (s : Shape) → TouchesOnly x s words (set words x w)
 touches words x w s = record {
   same = length-set words x w;
-  ends = λ y n h. get_or-set_other words x y w 0 n;
-  gaps = λ g n h. same_gone words (set words x w) g (get_or-set_other words x (g / 64) w 0 n);
+  words = λ k n h. get_or-set_other words x k w 0 n;
 }
 
 pub ready_written : (words : List ℕ) (x w : ℕ) (s : Shape) → IsReady words x s → low_gone w + high_gone w < s.size → is_gone words (s.first * 64 + low_gone w) ≡ false → is_gone words (s.first * 64 + (s.size - 1 - high_gone w)) ≡ false → IsReady (set words x w) x s
@@ -252,6 +299,7 @@ is_in lo hi v h k = grind (arith, ints)
 pub record CutsLow (words : List ℕ) (x : ℕ) (s : Shape) (hi : ℤ) (w : ℕ) : Type 0 where
   pub ready : IsReady (set words x w) x s
   pub cuts : (lo : ℤ) → ((v : ℤ) → IsLeast (set_in words x s) v → lo ≤ℤ v) → set_in (set words x w) x s ≡ outside lo hi (set_in words x s)
+  pub narrows : Narrows x s words (set words x w)
   pub more : slice_index words x < w
 
 pub cuts_low : (words : List ℕ) (x : ℕ) (s : Shape) (hi top : ℤ) (g h r w : ℕ) → IsReady words x s → ((v : ℤ) → IsLeast (set_in words x s) v → v ≤ℤ hi) → IsGreatest (set_in words x s) top → hi <ℤ top → PlaceOf s hi g → PlaceOf s top h → IsFirstLeft words (g + 1) r →
@@ -278,6 +326,7 @@ cuts_low words x s hi top g h r w i least greatest stays pg ph f a b value =
         | inr l ↦ inr (is_in lo hi (s.least +ℤ pos j) (omega (arith, ints, lower, p)) (omega (arith, ints, n.value, n.place, l)))
       ])
       (λ j p q. is_out_high lo hi (s.least +ℤ pos j) (omega (arith, ints, n.value, n.place, rk, f.behind, p)));
+      narrows = narrows_ends words x w s i (omega (arith, a, lk)) (omega (arith, b));
       more = more_low (slice_index words x) w value (omega (arith, a, lk));
     }
 
@@ -310,6 +359,7 @@ last_at_least words to r h f l e = elim (cases_lt r h) [ inl k ↦ absurd (let q
 pub record CutsHigh (words : List ℕ) (x : ℕ) (s : Shape) (lo : ℤ) (w : ℕ) : Type 0 where
   pub ready : IsReady (set words x w) x s
   pub cuts : (hi : ℤ) → ((v : ℤ) → IsGreatest (set_in words x s) v → v ≤ℤ hi) → set_in (set words x w) x s ≡ outside lo hi (set_in words x s)
+  pub narrows : Narrows x s words (set words x w)
   pub more : slice_index words x < w
 
 pub cuts_high : (words : List ℕ) (x : ℕ) (s : Shape) (lo bottom : ℤ) (g h r w : ℕ) → IsReady words x s → ((v : ℤ) → IsGreatest (set_in words x s) v → lo ≤ℤ v) → IsLeast (set_in words x s) bottom → bottom <ℤ lo → PlaceOf s lo g → PlaceOf s bottom h → IsLastLeft words (g - 1) r →
@@ -339,6 +389,7 @@ cuts_high words x s lo bottom g h r w i greatest least stays pg ph f a b value =
         | inl l ↦ inl (f.last (s.first * 64 + j) (omega (arith, rk, km, p)) (omega (arith, l)))
         | inr l ↦ inr (is_in lo hi (s.least +ℤ pos j) (omega (arith, ints, n.value, n.place, l)) (omega (arith, ints, upper, q, i.set.order)))
       ]);
+      narrows = narrows_ends words x w s i (omega (arith, a)) (omega (arith, b, hm));
       more = more_high (slice_index words x) w value (omega (arith, b, hm));
     }
 
@@ -366,15 +417,22 @@ between_is s lo hi v a b q pa pb pq = elim (cases_lt q a) [
   ]
 ]
 
+goes : (b c : Bool) → c ≡ true → (b || c) ≡ true
+goes b c e = elim b as (λ d. (d || c) ≡ true) [ true ↦ refl | false ↦ e ]
+
+is_inside : (a b q : ℕ) → a ≤ q → q ≤ b → is_between a b q ≡ true
+is_inside a b q h l = grind (arith, nat_tests)
+
 pub record CutsMid (words new : List ℕ) (x : ℕ) (s : Shape) (lo hi : ℤ) : Type 0 where
   pub cut : set_in new x s ≡ outside lo hi (set_in words x s)
   pub ready : IsReady new x s
   pub others : TouchesOnly x s words new
+  pub narrows : Narrows x s words new
 
 pub cuts_mid : (words new : List ℕ) (x : ℕ) (s : Shape) (lo hi bottom top : ℤ) (a b : ℕ) → IsReady words x s → IsLeast (set_in words x s) bottom → IsGreatest (set_in words x s) top → bottom <ℤ lo → lo ≤ℤ hi → hi <ℤ top → PlaceOf s lo a → PlaceOf s hi b →
-    GoBetween words new a b → length new ≡ length words → ((k : ℕ) → (k < a / 64) ⊎ (b / 64 < k) → slice_index new k ≡ slice_index words k) → CutsMid words new x s lo hi
+    GoBetween words new a b → ChangesWhereLeft words new a b → length new ≡ length words → ((k : ℕ) → (k < a / 64) ⊎ (b / 64 < k) → slice_index new k ≡ slice_index words k) → CutsMid words new x s lo hi
 unfolding set_in
-cuts_mid words new x s lo hi bottom top a b i least greatest p q r pa pb gone long others =
+cuts_mid words new x s lo hi bottom top a b i least greatest p q r pa pb gone changes long others =
     let e = one_least (set_in words x s) bottom _ least (least_in words x s i.set) in
     let f = one_greatest (set_in words x s) top _ greatest (greatest_in words x s i.set) in
     let w : slice_index new x ≡ slice_index words x = others x (inl (omega (arith, i.behind, pa.0))) in
@@ -400,8 +458,26 @@ cuts_mid words new x s lo hi bottom top a b i least greatest p q r pa pb gone lo
       };
       others = record {
         same = long;
-        ends = λ y n z. others y (inl (omega (arith, z, pa.0)));
-        gaps = λ g n z. stay g (elim z [ inl u ↦ inl (omega (arith, u, pa.0)) | inr u ↦ inr (omega (arith, u, hb, i.set.order)) ]);
+        words = λ k n z. others k (elim z [ inl u ↦ inl (omega (arith, u, pa.0)) | inr u ↦ inr (omega (arith, u, hb, i.set.order)) ]);
+      };
+      narrows = record {
+        low = rw w (omega arith);
+        high = rw w (omega arith);
+        gone = λ k m g. gone (s.first * 64 + k) ∙ ap (λ c. c || is_between a b (s.first * 64 + k)) g;
+        blocks = λ c m. elim (changes (s.first + c)) [
+          | inl e ↦ inl e
+          | inr v ↦
+            let o : ℕ = v.place - s.first * 64 in
+            let g : v.place ≡ s.first * 64 + o = omega (arith, la, v.from) in
+            inr (record {
+              offset = o;
+              block = omega (arith, g, v.word);
+              low = omega (arith, g, la, v.from);
+              high = omega (arith, g, hb, v.to);
+              was = subst (λ k. is_gone words k ≡ false) g v.is_left;
+              gone = gone (s.first * 64 + o) ∙ goes (is_gone words (s.first * 64 + o)) (is_between a b (s.first * 64 + o)) (subst (λ k. is_between a b k ≡ true) g (is_inside a b v.place v.from v.to));
+            })
+        ];
       };
     }
 

@@ -15,8 +15,8 @@ use Rattle.opl_domain.proofs.Sets.{size_is}
 use Rattle.opl_store.specs.declared.shape.Shape.{Shape}
 use Rattle.opl_trail.specs.Gone.{is_gone}
 use Rattle.opl_trail.specs.Levels.{Levels}
-use Rattle.opl_store.specs.Ranges.{IsRange, size_between, values_between, blocks, all_blocks, shapes_from}
-use Rattle.opl_store.specs.Stored.{picked, low_gone, high_gone, between_ends, set_in, family_from, family_in, IsSet, AreSets, IsShape, AreShapes, IsStore}
+use Rattle.opl_store.specs.Stacks.{IsRange, size_between, values_between, blocks, all_blocks}
+use Rattle.opl_store.specs.Stored.{range_of, shapes_from, FillsFrom, picked, low_gone, high_gone, between_ends, set_in, family_from, family_in, IsSet, AreSets, IsShape, AreShapes, IsStore}
 
 read_zero : (n p : ℕ) → slice_index (replicate n 0) p ≡ 0
 read_zero n p = elim (cases_lt p n) [
@@ -52,39 +52,33 @@ pub length-shapes : (first : ℕ) (ps : List (ℤ × ℤ)) → length (shapes_fr
 length-shapes first [] = refl
 length-shapes first (p ∷ ps) = ap suc (length-shapes (first + blocks p) ps)
 
--- what is known of the place of a set
-pub record IsPlaced (first : ℕ) (ps : List (ℤ × ℤ)) (s : Shape) : Type 0 where
-  pub some : 0 < s.size
-  pub few : s.size ≤ 1048576
-  pub fits : (s.least +ℤ pos s.size) ≤ℤ pos (2 ^ 63)
-  pub start : first ≤ s.first
-  pub within : s.first * 64 + s.size ≤ 64 * (first + all_blocks ps)
+-- where the sets are kept
+fills_new : (first : ℕ) (ps : List (ℤ × ℤ)) → FillsFrom first (first + all_blocks ps) (shapes_from first ps)
+fills_new first [] = omega arith
+fills_new first (p ∷ ps) = let e : first + blocks p + all_blocks ps ≡ first + all_blocks (p ∷ ps) = omega arith in (refl, subst (λ n. FillsFrom (first + blocks p) n (shapes_from (first + blocks p) ps)) e (fills_new (first + blocks p) ps))
 
-pub placed_at : (first x : ℕ) (ps : List (ℤ × ℤ)) (s : Shape) → All IsRange ps → slice_get (shapes_from first ps) x ≡ Some s → IsPlaced first ps s
-placed_at first x [] s a h = cc
-placed_at first zero (p ∷ ps) s a h =
+-- what is known of the shape of a set
+record IsNew (s : Shape) : Type 0 where
+  pub some : 0 < s.size
+  pub shape : IsShape s
+
+new_at : (first x : ℕ) (ps : List (ℤ × ℤ)) (s : Shape) → All IsRange ps → slice_get (shapes_from first ps) x ≡ Some s → IsNew s
+new_at first x [] s a h = cc
+new_at first zero (p ∷ ps) s a h =
     let r = All-head IsRange p ps a in
     let z = size_is p.0 p.1 r.0 in
     let e : record { least = p.0; size = size_between p; first = first } ≡ s = cc in
-    subst (λ t. IsPlaced first (p ∷ ps) t) e (record {
-      some = omega (arith, ints, z, r.0);
-      few = r.1;
-      fits = omega (arith, ints, z, r.2);
-      start = omega arith;
-      within = omega arith;
-    })
-placed_at first (suc x) (p ∷ ps) s a h =
-    let i = placed_at (first + blocks p) x ps s (All-tail IsRange p ps a) h in
-    record { some = i.some; few = i.few; fits = i.fits; start = omega (arith, i.start); within = omega (arith, i.within) }
+    subst (λ t. IsNew t) e (record { some = omega (arith, ints, z, r.0); shape = record { few = r.1; fits = omega (arith, ints, z, r.2) } })
+new_at first (suc x) (p ∷ ps) s a h = new_at (first + blocks p) x ps s (All-tail IsRange p ps a) h
 
-apart_at : (first x y : ℕ) (ps : List (ℤ × ℤ)) (s t : Shape) → All IsRange ps → slice_get (shapes_from first ps) x ≡ Some s → slice_get (shapes_from first ps) y ≡ Some t → x < y → s.first * 64 + s.size ≤ t.first * 64
-apart_at first x y [] s t a h k l = cc
-apart_at first x zero (p ∷ ps) s t a h k l = absurd (omega arith)
-apart_at first zero (suc y) (p ∷ ps) s t a h k l =
-    let i = placed_at (first + blocks p) y ps t (All-tail IsRange p ps a) k in
-    let e : record { least = p.0; size = size_between p; first = first } ≡ s = cc in
-    subst (λ u. u.first * 64 + u.size ≤ t.first * 64) e (omega (arith, i.start))
-apart_at first (suc x) (suc y) (p ∷ ps) s t a h k l = apart_at (first + blocks p) x y ps s t (All-tail IsRange p ps a) h k (omega arith)
+-- a shape has its declared set
+pub declared_new : (first : ℕ) (ps : List (ℤ × ℤ)) → All IsRange ps → map range_of (shapes_from first ps) ≡ ps
+declared_new first [] a = refl
+declared_new first (p ∷ ps) a =
+    let r = All-head IsRange p ps a in
+    let z = size_is p.0 p.1 r.0 in
+    let e : p.0 +ℤ pos (size_between p - 1) ≡ p.1 = omega (arith, ints, z, r.0) in
+    rw (e, declared_new (first + blocks p) ps (All-tail IsRange p ps a)) refl
 
 set_new : (n x : ℕ) (s : Shape) → 0 < s.size → IsSet (replicate n 0) x s
 unfolding low_gone high_gone
@@ -100,11 +94,12 @@ new_store ps levels a h e =
     let l : length (replicate {A = ℕ} n 0) ≡ n = length-replicate {A = ℕ} n 0 in
     rw (e, l) (record {
       small = h;
-      apart = record {
-        each = λ x s k. let i = placed_at (length ps) x ps s a k in record { behind = omega (arith, i.start, length-shapes (length ps) ps); within = i.within; few = i.few; fits = i.fits };
-        apart = λ x y s t k m d. apart_at (length ps) x y ps s t a k m d;
+      shapes_fit = record {
+        each = λ x s k. (new_at (length ps) x ps s a k).shape;
+        fills = subst (λ k. FillsFrom k n (shapes_from (length ps) ps)) (sym (length-shapes (length ps) ps)) (fills_new (length ps) ps);
       };
-      sets = ((l, λ x s k. set_new n x s (placed_at (length ps) x ps s a k).some), tt);
+      sets = ((l, λ x s k. set_new n x s (new_at (length ps) x ps s a k).some), tt);
+      narrower = tt;
     })
 
 -- one more set

@@ -6,7 +6,7 @@ use Rattle.std.proofs.lemmas.Int.{ints}
 use Rattle.std.proofs.lemmas.Bool.{cases_eq, cases_lt}
 use Rattle.opl_domain.specs.Family.{member, IsRising, is_outside, outside}
 use Rattle.opl_domain.proofs.Members.{member_cases, member_first, member_later, member_here}
-use Rattle.opl_trail.specs.Gone.{is_gone}
+use Rattle.opl_trail.specs.Gone.{is_gone, count_left}
 use Rattle.opl_store.specs.Stored.{picked}
 
 pub in_picked : (words : List ℕ) (g : ℕ) (v : ℤ) (n k : ℕ) → k < n → is_gone words (g + k) ≡ false → member (v +ℤ pos k) (picked words g v n) ≡ true
@@ -129,14 +129,13 @@ picked_front words g v lo hi (suc m) d s h =
       | false ↦ sym (outside_more (is_outside lo hi) v (picked words (suc g) (v +ℤ pos 1) (m + d)) o)
     ])
 
-pub length-picked : (words : List ℕ) (g : ℕ) (v : ℤ) (n : ℕ) → length (picked words g v (n + 1)) ≡ length (picked words g v n) + cond (is_gone words (g + n)) 0 1
-length-picked words g v zero = let e : 0 + 1 ≡ suc zero = omega arith in let z : g + 0 ≡ g = omega arith in rw (e, z) (elim (is_gone words g) as (λ b. length (cond b (picked words (suc g) (v +ℤ pos 1) zero) (v ∷ picked words (suc g) (v +ℤ pos 1) zero)) ≡ 0 + cond b 0 1) [ true ↦ omega arith | false ↦ omega arith ])
+-- as many values as places that are left
+pub length-picked : (words : List ℕ) (g : ℕ) (v : ℤ) (n : ℕ) → length (picked words g v n) ≡ count_left words g n
+length-picked words g v zero = refl
 length-picked words g v (suc n) =
-    let e : suc n + 1 ≡ suc (n + 1) = omega arith in
-    let z : g + suc n ≡ suc g + n = omega arith in
     let r = length-picked words (suc g) (v +ℤ pos 1) n in
-    rw (e, z) (elim (is_gone words g) as (λ b. length (cond b (picked words (suc g) (v +ℤ pos 1) (n + 1)) (v ∷ picked words (suc g) (v +ℤ pos 1) (n + 1))) ≡ length (cond b (picked words (suc g) (v +ℤ pos 1) n) (v ∷ picked words (suc g) (v +ℤ pos 1) n)) + cond (is_gone words (suc g + n)) 0 1) [ true ↦ r | false ↦ omega (arith, r) ])
+    elim (is_gone words g) as (λ b. length (cond b (picked words (suc g) (v +ℤ pos 1) n) (v ∷ picked words (suc g) (v +ℤ pos 1) n)) ≡ cond b 0 1 + count_left words (suc g) n) [ true ↦ omega (arith, r) | false ↦ omega (arith, r) ]
 
-pub picked_shorter : (words : List ℕ) (g : ℕ) (v : ℤ) (n : ℕ) → length (picked words g v n) ≤ n
-picked_shorter words g v zero = omega arith
-picked_shorter words g v (suc n) = let r = picked_shorter words (suc g) (v +ℤ pos 1) n in elim (is_gone words g) as (λ b. length (cond b (picked words (suc g) (v +ℤ pos 1) n) (v ∷ picked words (suc g) (v +ℤ pos 1) n)) ≤ suc n) [ true ↦ omega (arith, r) | false ↦ omega (arith, r) ]
+pub count_most : (words : List ℕ) (g n : ℕ) → count_left words g n ≤ n
+count_most words g zero = omega arith
+count_most words g (suc n) = let r = count_most words (suc g) n in elim (is_gone words g) as (λ b. cond b 0 1 + count_left words (suc g) n ≤ suc n) [ true ↦ omega (arith, r) | false ↦ omega (arith, r) ]

@@ -2,11 +2,10 @@
 ghost use Rattle.std.specs.Prelude.{◌≡◌, ◌≢◌, ℕ, ℤ, ◌+◌, ◌-◌, ◌*◌, ◌/◌, ◌<◌, ◌≤◌, ◌^◌, ◌+ℤ◌, ◌≤ℤ◌, ◌<ℤ◌, pos, true, false, cond, length, slice_index};
 ghost use Rattle.opl_domain.specs.Family.{member, outside, IsLeast, IsGreatest, IsNext};
 ghost use Rattle.opl_trail.specs.Gone.{is_gone};
-ghost use Rattle.opl_store.specs.Stored.{low_gone, high_gone, set_in, IsReady, PlaceOf, TouchesOnly};
+ghost use Rattle.opl_store.specs.Stored.{low_gone, high_gone, set_in, IsReady, PlaceOf, TouchesOnly, Narrows};
 
-use opl_trail::{first_left, last_left, let_go};
 use crate::shape::Shape;
-use opl_trail::Trail;
+use opl_trail::{Trail, count_left, first_left, last_left, let_go};
 
 /// How many values have gone at the low end.
 #[inline(always)]
@@ -77,29 +76,16 @@ pub fn max(trail: &Trail, x: u32, shape: Shape) -> i64
     value_at(shape, shape.first as usize * 64 + high)
 }
 
-/// 1 where the value at a place is left, else 0.
-#[inline(always)]
-fn one_left(trail: &Trail, place: usize) -> u32
-    requires within { place < 64 * length trail.now.top }
-    requires small { length trail.now.top < 2 ^ 32 }
-    ensures { result ≡ cond (is_gone trail.now.top place) 0 1 }
-{
-    if is_gone(trail, place) { 0 } else { 1 }
-}
-
-/// The number of values.
+/// The number of values, counted by words.
 pub fn size(trail: &Trail, x: u32, shape: Shape) -> u32
     requires { IsReady trail.now.top x shape }
     ensures { result ≡ length (set_in trail.now.top x shape) }
 {
-    let word = trail.word(x);
-    let low = shape.first as usize * 64 + low_gone(word) as usize;
-    let size = shape.size - high_gone(word) - low_gone(word);
-    let mut count = 0;
-    for k in 0..size as usize {
-        count += one_left(trail, low + k);
-    }
-    count
+    let ends = trail.word(x);
+    let start = shape.first as usize * 64;
+    let low = start + low_gone(ends) as usize;
+    let high = start + (shape.size - 1 - high_gone(ends)) as usize;
+    count_left(trail, low, high) as u32
 }
 
 /// Whether the value at a place has gone.
@@ -152,6 +138,7 @@ fn cut_low(trail: &mut Trail, x: u32, shape: Shape, hi: i64, greatest: i64)
     ensures ready { IsReady trail.new.top x shape }
     ensures below { trail.new.below ≡ trail.old.below }
     ensures others { TouchesOnly x shape trail.old.top trail.new.top }
+    ensures narrows { Narrows x shape trail.old.top trail.new.top }
 {
     let place = first_left(trail, place_of(shape, hi) + 1, place_of(shape, greatest));
     let low = place - shape.first as usize * 64;
@@ -168,6 +155,7 @@ fn cut_high(trail: &mut Trail, x: u32, shape: Shape, lo: i64, least: i64)
     ensures ready { IsReady trail.new.top x shape }
     ensures below { trail.new.below ≡ trail.old.below }
     ensures others { TouchesOnly x shape trail.old.top trail.new.top }
+    ensures narrows { Narrows x shape trail.old.top trail.new.top }
 {
     let place = last_left(trail, place_of(shape, least), place_of(shape, lo) - 1);
     let high = shape.first as usize * 64 + (shape.size as usize - 1) - place;
@@ -183,6 +171,7 @@ pub fn cut(trail: &mut Trail, x: u32, shape: Shape, lo: i64, hi: i64)
     ensures ready { IsReady trail.new.top x shape }
     ensures below { trail.new.below ≡ trail.old.below }
     ensures others { TouchesOnly x shape trail.old.top trail.new.top }
+    ensures narrows { Narrows x shape trail.old.top trail.new.top }
 {
     let least = min(trail, x, shape);
     let greatest = max(trail, x, shape);

@@ -2,17 +2,18 @@
 ghost use Rattle.std.specs.Prelude.{◌≡◌, ◌<◌, ◌∷◌, [], ◌≤◌, ◌+◌, ◌^◌, map, length, IfOk, OnOk, OnErr};
 ghost use Rattle.std.proofs.Common.{refl, ◌∙◌};
 ghost use Rattle.std.specs.List.{All};
-ghost use Rattle.opl_store.specs.Ranges.{IsRange, size_between, values_between, all_blocks, shapes_from};
-ghost use Rattle.opl_store.specs.Stored.{Stack};
+ghost use Rattle.opl_store.specs.Stacks.{IsRange, size_between, values_between, all_blocks, differing_blocks};
+ghost use Rattle.opl_store.specs.Stored.{shapes_from};
 
 use crate::set;
 use crate::shape::Shape;
-use opl_trail::Trail;
 use opl_domain::{Narrow, OutOfMemory, Steps, View};
+use opl_trail::Trail;
 use std::alloc::Global;
 use std::marker::Model;
 
-/// A stack of families, which is a view of the top one.
+/// A non-empty stack of families, which is a view of the top one. Each level that is opened has a copy of the family
+/// below it, and is kept by what its cuts have changed.
 #[derive(Debug, Drop)]
 pub struct Store {
     shapes: Vec<Shape>,
@@ -21,13 +22,13 @@ pub struct Store {
 
 impl Model for Store {
     ghost use Rattle.std.specs.Prelude.{map, length, ◌<◌, ◌^◌};
-    ghost use Rattle.opl_store.specs.Stored.{Stack};
+    ghost use Rattle.opl_store.specs.Stacks.{Stack};
 
     ghost Value = { Stack };
 
-    ghost use Rattle.opl_store.specs.Stored.{family_in, IsStore};
+    ghost use Rattle.opl_store.specs.Stored.{stack_in, IsStore};
 
-    ghost view = { λ s. record { top = family_in s.shapes.items s.trail.top; below = map (family_in s.shapes.items) s.trail.below } };
+    ghost view = { λ s. stack_in s.shapes.items s.trail };
 
     ghost invariant = { λ s. IsStore s.shapes.items (length s.trail.top) s.trail × (length s.shapes.items < 2 ^ 32) };
 }
@@ -61,32 +62,44 @@ fn shapes_of(alloc: Global, sets: &[(i64, i64)]) -> Result<(Vec<Shape>, u32), Ou
 }
 
 impl Store {
-    /// Sets of the values between two ends each, and no open level.
+    /// Sets that are declared by their least and their greatest values, and no open level.
     pub fn new(alloc: Global, sets: &[(i64, i64)]) -> Result<Store, OutOfMemory>
         requires ranges { All IsRange sets.now }
         requires few { length sets.now + all_blocks sets.now < 2 ^ 32 }
-        ensures { IfOk result (λ s. s ≡ record { top = map values_between sets.now; below = [] }) }
+        ensures { IfOk result (λ s. s ≡ record { declared = sets.now; top = map values_between sets.now; below = [] }) }
     {
         let (shapes, words) = shapes_of(alloc, sets)?;
         let trail = Trail::new(alloc, words)?;
         Ok(Store { shapes, trail })
     }
 
-    /// Opens a level.
+    /// How many levels are open.
+    pub fn levels(&self) -> u64
+        ensures { result ≡ length self.now.below }
+    {
+        self.trail.levels()
+    }
+
+    /// Opens a level, and takes the memory for all cuts in it. Where memory is wanting, all stays as it was.
     pub fn open_level(&mut self) -> Result<(), OutOfMemory>
-        ensures ok { OnOk result (self.new ≡ record { top = self.old.top; below = self.old.top ∷ self.old.below }) }
+        ensures ok { OnOk result (self.new ≡ record self.old { below = self.old.top ∷ self.old.below }) }
         ensures err { OnErr result (self.new ≡ self.old) }
     {
         self.trail.open_level()?;
         Ok(())
     }
 
-    /// Gives back the family at the opening of the last open level. It takes no memory.
+    /// Gives back the family at the opening of the last open level. It takes no memory. Each word of bits that it writes
+    /// counts one step, and it writes those of blocks alone in which the family differs from the one that it gives back.
+    /// Words that keep ends are no blocks, and have a count of their own.
     pub fn close_level(&mut self, steps: &mut Steps)
         requires { 0 < length self.old.below }
-        ensures { self.old.below ≡ self.new.top ∷ self.new.below }
+        ensures levels { self.old.below ≡ self.new.top ∷ self.new.below }
+        ensures declared { self.new.declared ≡ self.old.declared }
+        ensures steps { steps.new ≤ steps.old + differing_blocks self.old.declared self.old.top self.new.top }
     {
-        self.trail.close_level(steps);
+        let mut ends = Steps::new();
+        self.trail.close_level(self.shapes.len() as u32, &mut ends, steps);
     }
 }
 
@@ -119,12 +132,13 @@ impl View for Store {
 }
 
 impl Narrow for Store {
-    ghost leads_to = { λ s t. t.below ≡ s.below };
+    ghost leads_to = { λ s t. (t.declared ≡ s.declared) × (t.below ≡ s.below) };
 
-    ghost stays = { λ s. refl };
+    ghost leads_to_itself = { λ s. (refl, refl) };
 
-    ghost goes_on = { λ s t u h k. k ∙ h };
+    ghost leads_on = { λ s t u h k. (k.0 ∙ h.0, k.1 ∙ h.1) };
 
+    /// Removes the values of `x` from `lo` to `hi`. It takes no memory; where no level is open they stay removed for good.
     fn cut(&mut self, x: u32, lo: i64, hi: i64) {
         set::cut(&mut self.trail, x, self.shapes[x as usize], lo, hi);
     }

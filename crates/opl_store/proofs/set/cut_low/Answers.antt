@@ -91,3 +91,6 @@ returns-clause-ready c = rw (ap (λ (l : Levels). l.top) c.raise.ensures) (made 
 
 pub returns-clause-others : goal.returns-clause-others
 returns-clause-others c = rw (ap (λ (l : Levels). l.top) c.raise.ensures) (touches c.args.trail.now.top c.args.x c.ends.result c.args.shape)
+
+pub returns-clause-narrows : goal.returns-clause-narrows
+returns-clause-narrows c = rw (ap (λ (l : Levels). l.top) c.raise.ensures) (made c).narrows

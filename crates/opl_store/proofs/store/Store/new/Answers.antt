@@ -1,8 +1,8 @@
 use Rattle.std.proofs.Common.{◌≡◌, ◌∙◌, ◌+◌, ◌<◌, ◌^◌, ℕ, [], map, length, replicate, ap, sym, subst, arith, refl}
 use Rattle.opl_trail.specs.Levels.{Levels}
-use Rattle.opl_store.specs.Ranges.{all_blocks, shapes_from, values_between}
-use Rattle.opl_store.specs.Stored.{Stack, IsStore, family_in}
-use Rattle.opl_store.proofs.New.{new_store, new_family, length-shapes}
+use Rattle.opl_store.specs.Stacks.{all_blocks, values_between}
+use Rattle.opl_store.specs.Stored.{shapes_from, IsStore, family_in}
+use Rattle.opl_store.proofs.New.{new_store, new_family, declared_new, length-shapes}
 use Rattle.opl_store.proofs.store.Store.new.Goals as goal
 
 pub invariant_of-result : goal.invariant_of-result
@@ -17,4 +17,4 @@ returns c =
     let n = length c.args.sets.now in
     let e = c.in_ok-shapes.ensures.0 in
     let made : c.in_ok-trail.trail ≡ record { top = replicate (n + all_blocks c.args.sets.now) 0; below = [] } = c.in_ok-trail.ensures ∙ ap (λ k. record { top = replicate k 0; below = [] }) c.in_ok-shapes.ensures.1 in
-    rw (e, made) (ap (λ F. record { top = F; below = [] }) (new_family (n + all_blocks c.args.sets.now) n c.args.sets.now))
+    rw (e, made, declared_new n c.args.sets.now c.requires.ranges) (ap (λ F. record { declared = c.args.sets.now; top = F; below = [] }) (new_family (n + all_blocks c.args.sets.now) n c.args.sets.now))
