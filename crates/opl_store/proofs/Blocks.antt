@@ -28,7 +28,7 @@ agree_at zero j v xs ys h l = absurd (omega arith)
 agree_at (suc n) zero v xs ys h l =
     let z : v +ℤ pos 0 ≡ v = omega (arith, ints) in
     rw z (elim (member v xs) as (λ b. (cond b (member v ys) (not (member v ys)) && agree n (v +ℤ pos 1) xs ys) ≡ true → b ≡ member v ys) [
-      | true ↦ λ k. elim (member v ys) as (λ c. (c && agree n (v +ℤ pos 1) xs ys) ≡ true → true ≡ c) [ true ↦ λ i. refl | false ↦ λ i. i ] k
+      | true ↦ λ k. elim (member v ys) as (λ c. (c && agree n (v +ℤ pos 1) xs ys) ≡ true → true ≡ c) [ true ↦ λ i. refl | false ↦ λ i. sym i ] k
       | false ↦ λ k. elim (member v ys) as (λ c. (not c && agree n (v +ℤ pos 1) xs ys) ≡ true → false ≡ c) [ true ↦ λ i. i | false ↦ λ i. refl ] k
     ] h)
 agree_at (suc n) (suc j) v xs ys h l =
