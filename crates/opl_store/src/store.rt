@@ -81,7 +81,7 @@ impl Store {
     }
 
     /// Opens a level, and takes the memory for all cuts in it. Where memory is wanting, all stays as it was.
-    pub fn open_level(&mut self) -> Result<(), OutOfMemory>
+    pub fn open_level(&mut self, _alloc: Global) -> Result<(), OutOfMemory>
         ensures ok { OnOk result (self.new ≡ record self.old { below = self.old.top ∷ self.old.below }) }
         ensures err { OnErr result (self.new ≡ self.old) }
     {
