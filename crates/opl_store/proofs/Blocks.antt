@@ -41,15 +41,15 @@ same_block : (above under : List ℕ) (x b : ℕ) (s : Shape) → Narrows x s un
 same_block above under x b s n l a = elim (n.blocks b l) [
   | inl e ↦ e
   | inr h ↦ absurd (
-    let j : ℕ = h.offset - 64 * b in
-    let e : s.least +ℤ pos (64 * b) +ℤ pos j ≡ s.least +ℤ pos h.offset = omega (arith, ints, h.block) in
-    let i = agree_at 64 j (s.least +ℤ pos (64 * b)) (set_in above x s) (set_in under x s) a (omega (arith, h.block)) in
-    let m : member (s.least +ℤ pos h.offset) (set_in above x s) ≡ true = rw e at i ∙ in_set under x s h.offset h.low h.high h.was in
-    let o = from_set above x s (s.least +ℤ pos h.offset) m in
-    let k : o.offset ≡ h.offset = omega (arith, ints, o.value) in
-    let left : is_gone above (s.first * 64 + h.offset) ≡ false = subst (λ q. is_gone above (s.first * 64 + q) ≡ false) k o.is_left in
-    let gone = h.gone in
-    cc)
+      let j : ℕ = h.offset - 64 * b in
+      let e : s.least +ℤ pos (64 * b) +ℤ pos j ≡ s.least +ℤ pos h.offset = omega (arith, ints, h.block) in
+      let i = agree_at 64 j (s.least +ℤ pos (64 * b)) (set_in above x s) (set_in under x s) a (omega (arith, h.block)) in
+      let m : member (s.least +ℤ pos h.offset) (set_in above x s) ≡ true = rw e at i ∙ in_set under x s h.offset h.low h.high h.was in
+      let o = from_set above x s (s.least +ℤ pos h.offset) m in
+      let k : o.offset ≡ h.offset = omega (arith, ints, o.value) in
+      let left : is_gone above (s.first * 64 + h.offset) ≡ false = subst (λ q. is_gone above (s.first * 64 + q) ≡ false) k o.is_left in
+      let gone = h.gone in
+      cc)
 ]
 
 one_block : (w v : ℕ) (b : Bool) → (b ≡ true → w ≡ v) → cond (nat_eq w v) 0 1 ≤ cond b 0 1
@@ -96,14 +96,14 @@ pub few_words : (shapes : List Shape) (levels new : Levels) → IsStore shapes (
 few_words shapes levels new i e =
     let narrow = (rw e at i.narrower).0 in
     few_from levels.top new.top (family_in shapes levels.top) (family_in shapes new.top) (length shapes) (length levels.top) 0 shapes i.shapes_fit.fills (λ y s g.
-      let z : 0 + y ≡ y = omega arith in
-      let a = i.sets.0.1 y s g in
-      rw z (record {
-        narrows = narrow y s g;
-        some = omega (arith, a.order);
-        top = set_of_family levels.top y shapes s g;
-        below = set_of_family new.top y shapes s g;
-      }))
+    let z : 0 + y ≡ y = omega arith in
+    let a = i.sets.0.1 y s g in
+    rw z (record {
+      narrows = narrow y s g;
+      some = omega (arith, a.order);
+      top = set_of_family levels.top y shapes s g;
+      below = set_of_family new.top y shapes s g;
+    }))
 
 pub fits_split : (shapes : List Shape) (levels : Levels) → IsStore shapes (length levels.top) levels → length shapes ≤ length levels.top
 fits_split shapes levels i = fills_most (length shapes) (length levels.top) shapes i.shapes_fit.fills

@@ -93,11 +93,11 @@ inner_member words x s v g n =
     elim (is_gone words g) as (λ b. is_gone words g ≡ b → not b ≡ member v (set_in words x s)) [
       | true ↦ λ e. elim (member v (set_in words x s)) as (λ b. member v (set_in words x s) ≡ b → false ≡ b) [
         | true ↦ λ m. absurd (
-          let o = from_set words x s v m in
-          let k : o.offset ≡ n.offset = omega (arith, ints, o.value, n.value) in
-          let d = subst (λ j. is_gone words (s.first * 64 + j) ≡ false) k o.is_left in
-          let t = subst (λ j. is_gone words j ≡ true) n.place e in
-          cc)
+            let o = from_set words x s v m in
+            let k : o.offset ≡ n.offset = omega (arith, ints, o.value, n.value) in
+            let d = subst (λ j. is_gone words (s.first * 64 + j) ≡ false) k o.is_left in
+            let t = subst (λ j. is_gone words j ≡ true) n.place e in
+            cc)
         | false ↦ λ m. refl
       ] refl
       | false ↦ λ e. sym (subst (λ u. member u (set_in words x s) ≡ true) (sym n.value) (in_set words x s n.offset n.low n.high (subst (λ j. is_gone words j ≡ false) n.place e)))
@@ -126,12 +126,12 @@ next_inner words x s after v g r n f o b =
       among = subst (λ u. member u (set_in words x s) ≡ true) (sym vk) (in_set words x s k (omega (arith, rk, f.behind, n.place, n.low)) (omega (arith, rk, b)) (subst (λ j. is_gone words j ≡ false) rk f.is_left));
       above = omega (arith, ints, vk, n.value, rk, f.behind, n.place);
       least = λ w m h.
-        let q = from_set words x s w m in
-        let beyond : n.offset < q.offset = omega (arith, ints, q.value, n.value, h) in
-        elim (cases_lt q.offset k) [
-          | inl l ↦ absurd (let t = f.first (s.first * 64 + q.offset) (omega (arith, n.place, beyond)) (omega (arith, rk, l)) in let u = q.is_left in cc)
-          | inr l ↦ omega (arith, ints, vk, q.value, l)
-        ];
+          let q = from_set words x s w m in
+          let beyond : n.offset < q.offset = omega (arith, ints, q.value, n.value, h) in
+          elim (cases_lt q.offset k) [
+            | inl l ↦ absurd (let t = f.first (s.first * 64 + q.offset) (omega (arith, n.place, beyond)) (omega (arith, rk, l)) in let u = q.is_left in cc)
+            | inr l ↦ omega (arith, ints, vk, q.value, l)
+          ];
     }
 
 -- ---- values by their places
@@ -225,15 +225,15 @@ narrows_on x s old mid new m n = record {
     | inl e ↦ elim (n.blocks b l) [
       | inl d ↦ inl (d ∙ e)
       | inr h ↦
-        let i : slice_index mid ((s.first * 64 + h.offset) / 64) ≡ slice_index old ((s.first * 64 + h.offset) / 64) = subst (λ k. slice_index mid k ≡ slice_index old k) (omega (arith, h.block)) e in
-        inr (record {
-          offset = h.offset;
-          block = h.block;
-          low = omega (arith, h.low, m.low);
-          high = omega (arith, h.high, m.high);
-          was = sym (same_gone old mid (s.first * 64 + h.offset) i) ∙ h.was;
-          gone = h.gone;
-        })
+          let i : slice_index mid ((s.first * 64 + h.offset) / 64) ≡ slice_index old ((s.first * 64 + h.offset) / 64) = subst (λ k. slice_index mid k ≡ slice_index old k) (omega (arith, h.block)) e in
+          inr (record {
+            offset = h.offset;
+            block = h.block;
+            low = omega (arith, h.low, m.low);
+            high = omega (arith, h.high, m.high);
+            was = sym (same_gone old mid (s.first * 64 + h.offset) i) ∙ h.was;
+            gone = h.gone;
+          })
     ]
   ];
 }
@@ -320,12 +320,12 @@ cuts_low words x s hi top g h r w i least greatest stays pg ph f a b value =
     record {
       ready = ready_written words x w s i (omega (arith, a, b, order)) (subst (λ q. is_gone words q ≡ false) (omega (arith, rk, a)) f.is_left) (rw b i.set.high);
       cuts = λ lo below. let lower = below (s.least +ℤ pos (low_gone (slice_index words x))) lowest in
-      low_moves words x w k s lo hi i a b (omega (arith, lk)) order
-      (λ j p q. elim (cases_lt g (s.first * 64 + j)) [
-        | inl l ↦ inl (f.first (s.first * 64 + j) (omega (arith, l)) (omega (arith, rk, q)))
-        | inr l ↦ inr (is_in lo hi (s.least +ℤ pos j) (omega (arith, ints, lower, p)) (omega (arith, ints, n.value, n.place, l)))
-      ])
-      (λ j p q. is_out_high lo hi (s.least +ℤ pos j) (omega (arith, ints, n.value, n.place, rk, f.behind, p)));
+          low_moves words x w k s lo hi i a b (omega (arith, lk)) order
+          (λ j p q. elim (cases_lt g (s.first * 64 + j)) [
+            | inl l ↦ inl (f.first (s.first * 64 + j) (omega (arith, l)) (omega (arith, rk, q)))
+            | inr l ↦ inr (is_in lo hi (s.least +ℤ pos j) (omega (arith, ints, lower, p)) (omega (arith, ints, n.value, n.place, l)))
+          ])
+          (λ j p q. is_out_high lo hi (s.least +ℤ pos j) (omega (arith, ints, n.value, n.place, rk, f.behind, p)));
       narrows = narrows_ends words x w s i (omega (arith, a, lk)) (omega (arith, b));
       more = more_low (slice_index words x) w value (omega (arith, a, lk));
     }
@@ -383,12 +383,12 @@ cuts_high words x s lo bottom g h r w i greatest least stays pg ph f a b value =
     record {
       ready = ready_written words x w s i (omega (arith, a, b, order)) (rw a i.set.low) (subst (λ q. is_gone words q ≡ false) (omega (arith, rk, km, b)) f.is_left);
       cuts = λ hi above. let upper = above (s.least +ℤ pos (s.size - 1 - high_gone (slice_index words x))) highest in
-      high_moves words x w m s lo hi i a b (omega (arith, hm)) order
-      (λ j p q. is_out_low lo hi (s.least +ℤ pos j) (omega (arith, ints, n.value, n.place, rk, rg, km, q)))
-      (λ j p q. elim (cases_lt (s.first * 64 + j) g) [
-        | inl l ↦ inl (f.last (s.first * 64 + j) (omega (arith, rk, km, p)) (omega (arith, l)))
-        | inr l ↦ inr (is_in lo hi (s.least +ℤ pos j) (omega (arith, ints, n.value, n.place, l)) (omega (arith, ints, upper, q, i.set.order)))
-      ]);
+          high_moves words x w m s lo hi i a b (omega (arith, hm)) order
+          (λ j p q. is_out_low lo hi (s.least +ℤ pos j) (omega (arith, ints, n.value, n.place, rk, rg, km, q)))
+          (λ j p q. elim (cases_lt (s.first * 64 + j) g) [
+            | inl l ↦ inl (f.last (s.first * 64 + j) (omega (arith, rk, km, p)) (omega (arith, l)))
+            | inr l ↦ inr (is_in lo hi (s.least +ℤ pos j) (omega (arith, ints, n.value, n.place, l)) (omega (arith, ints, upper, q, i.set.order)))
+          ]);
       narrows = narrows_ends words x w s i (omega (arith, a)) (omega (arith, b, hm));
       more = more_high (slice_index words x) w value (omega (arith, b, hm));
     }
@@ -443,7 +443,7 @@ cuts_mid words new x s lo hi bottom top a b i least greatest p q r pa pb gone ch
     let stay : (g : ℕ) → (g < a) ⊎ (b < g) → is_gone new g ≡ is_gone words g = λ g z. gone g ∙ or_false (is_gone words g) (is_between a b g) (not_between a b g z) in
     record {
       cut = rw w (picked_outside words new (s.first * 64 + l) (s.least +ℤ pos l) lo hi (s.size - h - l) (λ k z.
-      gone (s.first * 64 + l + k) ∙ ap (λ c. is_gone words (s.first * 64 + l + k) || c) (between_is s lo hi (s.least +ℤ pos l +ℤ pos k) a b (s.first * 64 + l + k) pa pb (omega arith, omega (arith, ints)))));
+          gone (s.first * 64 + l + k) ∙ ap (λ c. is_gone words (s.first * 64 + l + k) || c) (between_is s lo hi (s.least +ℤ pos l +ℤ pos k) a b (s.first * 64 + l + k) pa pb (omega arith, omega (arith, ints)))));
       ready = record {
         small = omega (arith, i.small, long);
         behind = i.behind;
@@ -467,16 +467,16 @@ cuts_mid words new x s lo hi bottom top a b i least greatest p q r pa pb gone ch
         blocks = λ c m. elim (changes (s.first + c)) [
           | inl e ↦ inl e
           | inr v ↦
-            let o : ℕ = v.place - s.first * 64 in
-            let g : v.place ≡ s.first * 64 + o = omega (arith, la, v.from) in
-            inr (record {
-              offset = o;
-              block = omega (arith, g, v.word);
-              low = omega (arith, g, la, v.from);
-              high = omega (arith, g, hb, v.to);
-              was = subst (λ k. is_gone words k ≡ false) g v.is_left;
-              gone = gone (s.first * 64 + o) ∙ goes (is_gone words (s.first * 64 + o)) (is_between a b (s.first * 64 + o)) (subst (λ k. is_between a b k ≡ true) g (is_inside a b v.place v.from v.to));
-            })
+              let o : ℕ = v.place - s.first * 64 in
+              let g : v.place ≡ s.first * 64 + o = omega (arith, la, v.from) in
+              inr (record {
+                offset = o;
+                block = omega (arith, g, v.word);
+                low = omega (arith, g, la, v.from);
+                high = omega (arith, g, hb, v.to);
+                was = subst (λ k. is_gone words k ≡ false) g v.is_left;
+                gone = gone (s.first * 64 + o) ∙ goes (is_gone words (s.first * 64 + o)) (is_between a b (s.first * 64 + o)) (subst (λ k. is_between a b k ≡ true) g (is_inside a b v.place v.from v.to));
+              })
         ];
       };
     }

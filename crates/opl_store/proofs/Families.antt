@@ -111,22 +111,32 @@ others_same y t old new u i =
 
 -- ---- what a store's fields tell
 
-pub read_shape : (shapes : List Shape) (x : ℕ) (s : Shape) → x < length shapes → s ≡ get_or shapes x s → slice_get shapes x ≡ Some s
+read_shape : (shapes : List Shape) (x : ℕ) (s : Shape) → x < length shapes → s ≡ get_or shapes x s → slice_get shapes x ≡ Some s
 read_shape shapes x s l e = slice_get_read shapes (length shapes) x s refl l e
 
 pub in_shapes : (shapes : List Shape) (levels : Levels) (st : Stack) (x : ℕ) → stack_in shapes levels ≡ st → x < length st.top → x < length shapes
 unfolding family_in
 in_shapes shapes levels st x e l = let k = ap (λ (t : Stack). length t.top) e in omega (arith, k, l, length-family levels.top 0 shapes)
 
-pub ready_of : (shapes : List Shape) (levels : Levels) (x : ℕ) (s : Shape) → IsStore shapes (length levels.top) levels → slice_get shapes x ≡ Some s → IsReady levels.top x s
+ready_of : (shapes : List Shape) (levels : Levels) (x : ℕ) (s : Shape) → IsStore shapes (length levels.top) levels → slice_get shapes x ≡ Some s → IsReady levels.top x s
 ready_of shapes levels x s i h =
     let e = i.shapes_fit.each x s h in
     let w = slice_get_within shapes x s h in
     let f = fills_at (length shapes) (length levels.top) x shapes s i.shapes_fit.fills h in
     record { small = i.small; behind = omega (arith, f.0, w); within = omega (arith, f.1); few = e.few; fits = e.fits; set = i.sets.0.1 x s h }
 
-pub set_is : (shapes : List Shape) (levels : Levels) (st : Stack) (x : ℕ) (s : Shape) → stack_in shapes levels ≡ st → slice_get shapes x ≡ Some s → set_in levels.top x s ≡ set_of st.top x
+set_is : (shapes : List Shape) (levels : Levels) (st : Stack) (x : ℕ) (s : Shape) → stack_in shapes levels ≡ st → slice_get shapes x ≡ Some s → set_in levels.top x s ≡ set_of st.top x
 set_is shapes levels st x s e h = sym (set_of_family levels.top x shapes s h) ∙ ap (λ (t : Stack). set_of t.top x) e
+
+-- the same at a variable of the family that is seen
+pub shape_at : (shapes : List Shape) (levels : Levels) (st : Stack) (x : ℕ) (s : Shape) → stack_in shapes levels ≡ st → x < length st.top → s ≡ get_or shapes x s → slice_get shapes x ≡ Some s
+shape_at shapes levels st x s e l h = read_shape shapes x s (in_shapes shapes levels st x e l) h
+
+pub ready_at : (shapes : List Shape) (levels : Levels) (st : Stack) (x : ℕ) (s : Shape) → IsStore shapes (length levels.top) levels → stack_in shapes levels ≡ st → x < length st.top → s ≡ get_or shapes x s → IsReady levels.top x s
+ready_at shapes levels st x s i e l h = ready_of shapes levels x s i (shape_at shapes levels st x s e l h)
+
+pub set_at : (shapes : List Shape) (levels : Levels) (st : Stack) (x : ℕ) (s : Shape) → stack_in shapes levels ≡ st → x < length st.top → s ≡ get_or shapes x s → set_in levels.top x s ≡ set_of st.top x
+set_at shapes levels st x s e l h = set_is shapes levels st x s e (shape_at shapes levels st x s e l h)
 
 none_shape : Shape
 none_shape = record { least = pos 0; size = 0; first = 0 }

@@ -99,7 +99,8 @@ impl Store {
         ensures steps { steps.new ≤ steps.old + differing_blocks self.old.declared self.old.top self.new.top }
     {
         let mut ends = Steps::new();
-        self.trail.close_level(self.shapes.len() as u32, &mut ends, steps);
+        self.trail
+            .close_level(self.shapes.len() as u32, &mut ends, steps);
     }
 }
 

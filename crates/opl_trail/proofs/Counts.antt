@@ -1,8 +1,7 @@
 -- How many places are left, word by word.
-use Rattle.std.proofs.Common.{◌≡◌, ◌∙◌, ℕ, zero, suc, ◌+◌, ◌-◌, ◌*◌, ◌/◌, ◌%◌, ◌^◌, ◌<◌, ◌≤◌, ◌⊎◌, Bool, true, false, cond, refl, List, ap, sym, subst, arith, inl, inr, w64}
+use Rattle.std.proofs.Common.{◌≡◌, ◌∙◌, ℕ, zero, suc, ◌+◌, ◌-◌, ◌*◌, ◌/◌, ◌%◌, ◌^◌, ◌<◌, ◌≤◌, ◌⊎◌, true, false, cond, refl, List, ap, sym, arith, inl, inr, w64}
 use Rattle.std.specs.Prelude.{nat_eq, slice_index, bit_and, min, count_ones}
 use Rattle.std.specs.Int.{bit_at, bit_not}
-use Rattle.std.proofs.lemmas.Bool.{cases_eq, cases_lt}
 use Rattle.std.proofs.lemmas.Bool.Decides.{nat_tests}
 use Rattle.std.proofs.lemmas.Nat.Bits.{bit_at_and, bit_at_not, bit_at-lt, bit_at_lowest, bit_at-suc}
 use Rattle.std.proofs.lemmas.Nat.{and_le_l}
@@ -62,11 +61,11 @@ ones_left words a b k mask m f =
     let w : ℕ = slice_index words k in
     let small : bit_and (bit_not w64 w) mask < 2 ^ 64 = omega (arith, and_le_l (bit_not w64 w) mask) in
     ones_sum (left_in words a b) (k * 64) 64 (bit_and (bit_not w64 w) mask) small (λ i l.
-      bit_at_and (bit_not w64 w) mask i
-      ∙ ap (λ n. min n (bit_at mask i)) (bit_at_not w64 w i f l)
-      ∙ bit_left (bit_at w i) (bit_at mask i) (bit_at-lt w i) (bit_at-lt mask i)
-      ∙ ap (λ c. cond (nat_eq (bit_at w i) 1) 0 (cond c 1 0)) (m i l)
-      ∙ ap (λ c. cond c 0 (cond (is_between a b (k * 64 + i)) 1 0)) (sym (gone_at words k i l)))
+    bit_at_and (bit_not w64 w) mask i
+    ∙ ap (λ n. min n (bit_at mask i)) (bit_at_not w64 w i f l)
+    ∙ bit_left (bit_at w i) (bit_at mask i) (bit_at-lt w i) (bit_at-lt mask i)
+    ∙ ap (λ c. cond (nat_eq (bit_at w i) 1) 0 (cond c 1 0)) (m i l)
+    ∙ ap (λ c. cond c 0 (cond (is_between a b (k * 64 + i)) 1 0)) (sym (gone_at words k i l)))
 
 inside : (a b g : ℕ) → a ≤ g → g ≤ b → is_between a b g ≡ true
 inside a b g h l = grind (arith, nat_tests)

@@ -1,15 +1,15 @@
 -- What raising a word, and opening and closing a level, leave of the levels.
-use Rattle.std.proofs.Common.{◌≡◌, ◌∙◌, ℕ, zero, suc, ◌+◌, ◌-◌, ◌<◌, ◌≤◌, ◌^◌, Bool, true, false, cond, ◌||◌, refl, List, [], ◌∷◌, ◌++◌, length, get_or, set, take, drop, ap, sym, subst, arith, inl, inr, ◌⊎◌, reverse}
-use Rattle.std.specs.Prelude.{nat_eq, nat_lt, ◌≢◌, slice_index, slice_set}
+use Rattle.std.proofs.Common.{◌≡◌, ◌∙◌, ℕ, zero, suc, ◌+◌, ◌-◌, ◌<◌, ◌≤◌, ◌^◌, cond, refl, List, [], ◌∷◌, ◌++◌, length, get_or, set, take, drop, ap, sym, subst, arith, inl, inr, ◌⊎◌}
+use Rattle.std.specs.Prelude.{nat_eq, nat_lt, ◌≢◌, slice_index}
 use Rattle.std.specs.List.{All}
 use Rattle.std.proofs.lemmas.Bool.{cases_eq, cases_lt}
-use Rattle.std.proofs.lemmas.List.{length-set, get_or-set_same, get_or-set_other, set-set, set-get_or, reverse-append, length-take-le, length-drop, take-append-le, drop-append-le, length_push, take_all, drop_all}
+use Rattle.std.proofs.lemmas.List.{length-set, get_or-set_same, get_or-set_other, set-set, set-get_or, length-take-le, length-drop, take-append-le, drop-append-le, length_push, take_all, drop_all}
 use Rattle.std.proofs.lemmas.List.Elements.{All-push, All-take, All-drop, All-head, All-tail}
 use Rattle.std.proofs.lemmas.Bool.Decides.{nat_tests}
 use Rattle.opl_trail.specs.declared.trail.Saved.{Saved}
 use Rattle.opl_trail.specs.Levels.{changed}
-use Rattle.opl_trail.specs.Trails.{undo, word_of, at_of, below, saves_of, saves_in, AreWithin, IsLevel, AreLevels, HasRoom, IsTrail}
-use Rattle.opl_trail.proofs.Undo.{undo_append, length-undo, undo_saved, undo_last}
+use Rattle.opl_trail.specs.Trails.{undo, word_of, at_of, below, saves_of, saves_in, AreWithin, AreLevels, HasRoom, IsTrail}
+use Rattle.opl_trail.proofs.Undo.{length-undo, undo_saved, undo_last}
 
 -- ---- one number of a list changes
 
@@ -77,15 +77,15 @@ saved_once : (m : ℕ) (trail : List Saved) (ats : List ℕ) (p q : ℕ) (e : Sa
     saves_of q (drop m trail) + cond (nat_eq q e.place) 1 0 ≡ cond (nat_lt m (slice_index (set ats p (length trail + 1)) q)) 1 0
 saved_once m trail ats p q e once inside h s ep = elim (set_read ats p q (length trail + 1) inside) [
   | inl r ↦
-    let i : slice_index ats q ≡ slice_index ats p = ap (slice_index ats) r.1 in
-    let a = not_since m (slice_index ats q) (omega (arith, i, h)) in
-    let b = here q e.place (r.1 ∙ sym ep) in
-    let c = since m (slice_index (set ats p (length trail + 1)) q) (omega (arith, r.0, s)) in
-    omega (arith, once q, a, b, c)
+      let i : slice_index ats q ≡ slice_index ats p = ap (slice_index ats) r.1 in
+      let a = not_since m (slice_index ats q) (omega (arith, i, h)) in
+      let b = here q e.place (r.1 ∙ sym ep) in
+      let c = since m (slice_index (set ats p (length trail + 1)) q) (omega (arith, r.0, s)) in
+      omega (arith, once q, a, b, c)
   | inr r ↦
-    let b = elsewhere q e.place (λ i. r.1 (i ∙ ep)) in
-    let c : ◌≡◌ {A = ℕ} (cond (nat_lt m (slice_index (set ats p (length trail + 1)) q)) 1 0) (cond (nat_lt m (slice_index ats q)) 1 0) = ap (λ a. cond {A = ℕ} (nat_lt m a) 1 0) r.0 in
-    omega (arith, once q, b, c)
+      let b = elsewhere q e.place (λ i. r.1 (i ∙ ep)) in
+      let c : ◌≡◌ {A = ℕ} (cond (nat_lt m (slice_index (set ats p (length trail + 1)) q)) 1 0) (cond (nat_lt m (slice_index ats q)) 1 0) = ap (λ a. cond {A = ℕ} (nat_lt m a) 1 0) r.0 in
+      omega (arith, once q, b, c)
 ]
 
 -- a word that was not: it is saved

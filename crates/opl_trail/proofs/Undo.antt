@@ -1,8 +1,8 @@
 -- What undoing leaves.
-use Rattle.std.proofs.Common.{◌≡◌, ◌∙◌, ℕ, zero, suc, ◌+◌, ◌-◌, ◌<◌, ◌≤◌, Bool, true, false, cond, ◌||◌, refl, List, [], ◌∷◌, ◌++◌, length, get_or, set, take, drop, ap, sym, subst, arith, inl, inr}
-use Rattle.std.specs.Prelude.{nat_eq, ◌≢◌}
+use Rattle.std.proofs.Common.{◌≡◌, ◌∙◌, ℕ, ◌+◌, ◌<◌, ◌≤◌, true, false, cond, refl, List, [], ◌∷◌, ◌++◌, length, set, take, drop, ap, sym, subst, arith, inl, inr}
+use Rattle.std.specs.Prelude.{nat_eq}
 use Rattle.std.proofs.lemmas.Bool.{cases_eq}
-use Rattle.std.proofs.lemmas.List.{length-set, set-set, set_comm, get_or-set_same, get_or-set_other, take-append-le, drop-append-le}
+use Rattle.std.proofs.lemmas.List.{length-set, set-set, set_comm, take-append-le, drop-append-le}
 use Rattle.opl_trail.specs.declared.trail.Saved.{Saved}
 use Rattle.opl_trail.specs.Trails.{undo, saves_of}
 
@@ -20,7 +20,7 @@ write_hidden old [] xs p w v = set-set xs p w v
 write_hidden old (e ∷ es) xs p w v =
     elim (cases_eq e.place p) [
       | inl i ↦ subst (λ q. set (set (undo old es (set xs p w)) q (old e)) p v ≡ set (set (undo old es xs) q (old e)) p v) (sym i)
-        (set-set (undo old es (set xs p w)) p (old e) v ∙ write_hidden old es xs p w v ∙ sym (set-set (undo old es xs) p (old e) v))
+          (set-set (undo old es (set xs p w)) p (old e) v ∙ write_hidden old es xs p w v ∙ sym (set-set (undo old es xs) p (old e) v))
       | inr n ↦ set_comm (undo old es (set xs p w)) e.place p (old e) v n ∙ ap (λ ys. set ys e.place (old e)) (write_hidden old es xs p w v) ∙ sym (set_comm (undo old es xs) e.place p (old e) v n)
     ]
 

@@ -1,10 +1,10 @@
 -- Scans of words.
-use Rattle.std.proofs.Common.{◌≡◌, ◌∙◌, ℕ, zero, suc, ◌+◌, ◌-◌, ◌*◌, ◌/◌, ◌%◌, ◌^◌, ◌<◌, ◌≤◌, Bool, true, false, cond, ◌||◌, ◌⊎◌, refl, List, [], ◌∷◌, length, ap, sym, subst, arith, inl, inr, w64}
-use Rattle.std.specs.Prelude.{nat_eq, slice_index, bit_and, bit_or, nat_le, min, max, ◌&&◌, ◌↔◌, ◌≢◌}
+use Rattle.std.proofs.Common.{◌≡◌, ◌∙◌, ℕ, zero, suc, ◌+◌, ◌-◌, ◌*◌, ◌/◌, ◌%◌, ◌^◌, ◌<◌, ◌≤◌, true, false, ◌||◌, ◌⊎◌, refl, List, ap, sym, subst, arith, inl, inr, w64}
+use Rattle.std.specs.Prelude.{nat_eq, slice_index, bit_and, bit_or, min, max, ◌↔◌, ◌≢◌}
 use Rattle.std.specs.Int.{bit_at, bit_not, trailing_zeros}
 use Rattle.std.proofs.lemmas.Bool.{cases_eq, cases_lt}
 use Rattle.std.proofs.lemmas.Bool.Decides.{nat_tests}
-use Rattle.std.proofs.lemmas.Nat.Bits.{bit_at_and, bit_at_not, bit_at-zero, bit_at-lt, ones_shl, bit_at_mask_inside, bit_at_mask_below, bit_at_ones, bit_at_ones_above, bit_at_or, bit_at_above, ones_shr, bit_at-trailing_zeros, same_from_bits_below}
+use Rattle.std.proofs.lemmas.Nat.Bits.{bit_at_and, bit_at_not, bit_at-zero, bit_at-lt, bit_at_mask_inside, bit_at_mask_below, bit_at_ones, bit_at_ones_above, bit_at_or, bit_at_above, bit_at-trailing_zeros, same_from_bits_below}
 use Rattle.std.proofs.lemmas.Nat.{and_le_l, or_lt, leading_top, pow_pos, div_below, le-div}
 use lib.Count.{count_leading_zeros}
 use Rattle.opl_trail.specs.Gone.{is_gone, IsFirstLeft, IsLastLeft, IsMask, GoBetween, ChangesWhereLeft, HasLeft, HasOff, is_between}
@@ -49,7 +49,7 @@ scans_next words from last k left s z h v f =
     let gone : (g : ℕ) → from ≤ g → g < (k + 1) * 64 → is_gone words g ≡ true = λ g a b. elim (cases_lt g (k * 64)) [
       | inl l ↦ s.gone g a l
       | inr l ↦ let p = split_place g k l b in
-        subst (λ n. is_gone words n ≡ true) (sym p.1) (s.off (g - k * 64) p.0 (ap (λ w. bit_at w (g - k * 64)) z ∙ bit_at-zero (g - k * 64)) (omega (arith, a, p.1)))
+          subst (λ n. is_gone words n ≡ true) (sym p.1) (s.off (g - k * 64) p.0 (ap (λ w. bit_at w (g - k * 64)) z ∙ bit_at-zero (g - k * 64)) (omega (arith, a, p.1)))
     ] in
     let past : k + 1 ≤ last / 64 = elim (cases_lt last ((k + 1) * 64)) [
       | inl l ↦ absurd (let t = gone last h l in cc)
@@ -98,7 +98,7 @@ scans_end words from last k left s p =
       first = λ g a l. elim (cases_lt g (k * 64)) [
         | inl b ↦ s.gone g a b
         | inr b ↦ let q = split_place g k b (omega (arith, l, t.0)) in
-          subst (λ n. is_gone words n ≡ true) (sym q.1) (s.off (g - k * 64) q.0 (t.2 (g - k * 64) (omega (arith, l, b))) (omega (arith, a, q.1)))
+            subst (λ n. is_gone words n ≡ true) (sym q.1) (s.off (g - k * 64) q.0 (t.2 (g - k * 64) (omega (arith, l, b))) (omega (arith, a, q.1)))
       ];
     }
 
@@ -235,7 +235,7 @@ pub down_next : (words : List ℕ) (from to k left : ℕ) → ScansDown words fr
 down_next words from to k left s z h v f =
     let gone : (g : ℕ) → k * 64 ≤ g → g ≤ to → is_gone words g ≡ true = λ g a b. elim (cases_lt g ((k + 1) * 64)) [
       | inl l ↦ let p = split_place g k a l in
-        subst (λ n. is_gone words n ≡ true) (sym p.1) (s.off (g - k * 64) p.0 (ap (λ w. bit_at w (g - k * 64)) z ∙ bit_at-zero (g - k * 64)) (omega (arith, b, p.1)))
+          subst (λ n. is_gone words n ≡ true) (sym p.1) (s.off (g - k * 64) p.0 (ap (λ w. bit_at w (g - k * 64)) z ∙ bit_at-zero (g - k * 64)) (omega (arith, b, p.1)))
       | inr l ↦ s.gone g l b
     ] in
     let past : from / 64 < k = elim (cases_lt from (k * 64)) [
@@ -284,7 +284,7 @@ down_end words from to k left s p =
       is_left = here.1;
       last = λ g a l. elim (cases_lt g ((k + 1) * 64)) [
         | inl b ↦ let q = split_place g k (omega (arith, a)) b in
-          subst (λ n. is_gone words n ≡ true) (sym q.1) (s.off (g - k * 64) q.0 (bit_at_above left (suc j) (g - k * 64) t.3 (omega (arith, a, b))) (omega (arith, l, q.1)))
+            subst (λ n. is_gone words n ≡ true) (sym q.1) (s.off (g - k * 64) q.0 (bit_at_above left (suc j) (g - k * 64) t.3 (omega (arith, a, b))) (omega (arith, l, q.1)))
         | inr b ↦ s.gone g b l
       ];
     })

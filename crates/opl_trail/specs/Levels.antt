@@ -1,5 +1,5 @@
 -- Lists of words, level by level.
-use Rattle.std.specs.Prelude.{ℕ, zero, suc, ◌+◌, Bool, true, false, cond, nat_eq, List, slice_index}
+use Rattle.std.specs.Prelude.{ℕ, zero, suc, ◌+◌, cond, nat_eq, List, slice_index}
 
 -- the words now, and those at the opening of each open level, the last level first
 pub record Levels : Type 0 where

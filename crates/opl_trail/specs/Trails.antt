@@ -1,5 +1,5 @@
 -- How a trail gives back the words of each level: by what each word was, in the order of saving.
-use Rattle.std.specs.Prelude.{◌≡◌, ℕ, zero, suc, ◌+◌, ◌<◌, ◌≤◌, ◌^◌, Bool, true, false, cond, nat_eq, nat_lt, List, [], ◌∷◌, length, take, drop, slice_index, slice_set}
+use Rattle.std.specs.Prelude.{◌≡◌, ℕ, zero, suc, ◌+◌, ◌<◌, ◌≤◌, ◌^◌, cond, nat_eq, nat_lt, List, [], ◌∷◌, length, take, drop, slice_index, slice_set}
 use Rattle.std.specs.List.{All}
 use Rattle.opl_trail.specs.declared.trail.Saved.{Saved}
 

@@ -38,17 +38,16 @@ fn write_set<W: Write>(out: &mut W, store: &Store, x: u32) -> io::Result<()> {
 }
 
 /// Writes which of some numbers are values of variable `x`.
-pub fn write_held<W: Write>(
-    out: &mut W,
-    store: &Store,
-    x: u32,
-    numbers: &[i64],
-) -> io::Result<()> {
+pub fn write_held<W: Write>(out: &mut W, store: &Store, x: u32, numbers: &[i64]) -> io::Result<()> {
     if x >= store.vars() {
         return Ok(());
     }
     for number in numbers {
-        let held = if store.has(x, *number) { "has" } else { "has not" };
+        let held = if store.has(x, *number) {
+            "has"
+        } else {
+            "has not"
+        };
         writeln!(out, "  {x} {held} {number}")?;
     }
     Ok(())

@@ -1,7 +1,6 @@
-use Rattle.std.proofs.Common.{rules, ◌≡◌, ◌∙◌, ◌+◌, ◌-◌, ◌*◌, ◌/◌, ◌<◌, ◌≤◌, ◌^◌, ap, sym, subst, arith, length, refl, ℕ, w64}
-use Rattle.std.specs.Prelude.{slice_index, bit_and, count_ones}
-use Rattle.std.specs.Int.{bit_not}
-use Rattle.opl_trail.proofs.Counts.{sum_from, left_in, sum_most, left_one, left_step, left_between}
+use Rattle.std.proofs.Common.{◌≡◌, ◌∙◌, ◌+◌, ◌-◌, ◌*◌, ◌/◌, ◌<◌, ◌^◌, arith, refl}
+use Rattle.std.specs.Prelude.{slice_index}
+use Rattle.opl_trail.proofs.Counts.{left_in, sum_most, left_one, left_step, left_between}
 use Rattle.opl_trail.proofs.scan.count_left.Goals as goal
 
 pub loop-place-init : goal.loop-place-init

@@ -1,4 +1,4 @@
-use Rattle.std.proofs.Common.{◌≡◌, ◌+◌, ◌-◌, ◌*◌, ◌/◌, ◌≤◌}
+use Rattle.std.proofs.Common.{◌≡◌, ◌-◌, ◌*◌, ◌/◌, ◌≤◌}
 use Rattle.opl_trail.proofs.Counts.{sum_from, left_in}
 use Rattle.opl_trail.proofs.scan.count_left.Given as goal
 

@@ -1,9 +1,7 @@
-use Rattle.std.proofs.Common.{◌≡◌, ◌+◌, ◌-◌, ◌*◌, ◌/◌, ◌%◌, ◌<◌, ◌≤◌, ◌^◌, length, sym, subst, ap, arith, w64, ℕ}
-use Rattle.std.specs.Prelude.{slice_index, bit_and}
-use Rattle.std.specs.Int.{bit_not}
+use Rattle.std.proofs.Common.{◌≡◌, ◌+◌, ◌/◌, ◌%◌, ◌<◌, ◌^◌, arith}
+use Rattle.std.specs.Prelude.{slice_index}
 use Rattle.std.proofs.lemmas.Nat.Bits.{ones_shl}
-use Rattle.opl_trail.specs.Gone.{IsFirstLeft}
-use Rattle.opl_trail.proofs.Words.{Scans, scans_first, scans_next, scans_end}
+use Rattle.opl_trail.proofs.Words.{scans_first, scans_next, scans_end}
 use Rattle.opl_trail.proofs.scan.first_left.Goals as goal
 
 pub loop-left-init : goal.loop-left-init

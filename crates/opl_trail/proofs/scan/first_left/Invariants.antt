@@ -1,4 +1,4 @@
-use Rattle.std.proofs.Common.{◌≡◌, ◌+◌, ◌-◌, ◌*◌, ◌/◌, ◌<◌, ◌≤◌, length, true}
+use Rattle.std.proofs.Common.{◌-◌, ◌/◌}
 use Rattle.opl_trail.proofs.Words.{Scans}
 use Rattle.opl_trail.proofs.scan.first_left.Given as goal
 

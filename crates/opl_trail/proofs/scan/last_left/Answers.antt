@@ -1,9 +1,7 @@
-use Rattle.std.proofs.Common.{◌≡◌, ◌+◌, ◌-◌, ◌*◌, ◌/◌, ◌%◌, ◌<◌, ◌≤◌, ◌^◌, ◌∙◌, length, sym, subst, ap, arith, w64, ℕ}
-use Rattle.std.specs.Prelude.{slice_index, bit_and}
-use Rattle.std.specs.Int.{bit_not}
+use Rattle.std.proofs.Common.{◌≡◌, ◌+◌, ◌-◌, ◌/◌, ◌%◌, ◌<◌, ◌^◌, ◌∙◌, ap, arith, ℕ}
+use Rattle.std.specs.Prelude.{slice_index}
 use Rattle.std.proofs.lemmas.Nat.Bits.{ones_shr}
-use Rattle.opl_trail.specs.Gone.{IsLastLeft}
-use Rattle.opl_trail.proofs.Words.{ScansDown, down_first, down_next, down_end}
+use Rattle.opl_trail.proofs.Words.{down_first, down_next, down_end}
 use Rattle.opl_trail.proofs.scan.last_left.Goals as goal
 
 pub loop-left-init : goal.loop-left-init

@@ -1,8 +1,8 @@
-use Rattle.std.proofs.Common.{◌≡◌, ◌+◌, ◌-◌, ◌*◌, ◌/◌, ◌<◌, ◌≤◌, ◌∙◌, ℕ, arith, ap, length, sym, subst, length-set}
+use Rattle.std.proofs.Common.{◌≡◌, ◌+◌, ◌/◌, ◌<◌, ◌∙◌, arith, ap, length, length-set}
 use Rattle.std.specs.Prelude.{slice_index, slice_set, bit_or}
 use Rattle.std.proofs.lemmas.List.{get_or-set_same, get_or-set_other}
 use Rattle.opl_trail.specs.Levels.{Levels}
-use Rattle.opl_trail.proofs.Words.{Clears, clears_first, clears_next, clears_end}
+use Rattle.opl_trail.proofs.Words.{clears_next, clears_end}
 use Rattle.opl_trail.proofs.scan.let_go.Goals as goal
 
 pub loop-place-preserved : goal.loop-place-preserved

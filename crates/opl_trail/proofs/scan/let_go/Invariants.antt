@@ -1,4 +1,4 @@
-use Rattle.std.proofs.Common.{◌≡◌, ◌+◌, ◌-◌, ◌*◌, ◌/◌, ◌<◌, ◌≤◌, length, true}
+use Rattle.std.proofs.Common.{◌≡◌, ◌/◌, ◌≤◌, length}
 use Rattle.opl_trail.proofs.Words.{Clears}
 use Rattle.opl_trail.proofs.scan.let_go.Given as goal
 

@@ -1,4 +1,4 @@
-use Rattle.std.proofs.Common.{◌≡◌, ◌+◌, ◌-◌, ◌^◌, ◌<◌, ◌≤◌, ◌∙◌, ℕ, arith, ap}
+use Rattle.std.proofs.Common.{◌≡◌, ◌+◌, ◌-◌, ◌^◌, ◌∙◌, ℕ, arith, ap}
 use Rattle.std.proofs.lemmas.Nat.Bits.{ones_shl, ones_shr}
 use Rattle.opl_trail.proofs.Words.{mask_is}
 use Rattle.opl_trail.proofs.scan.mask.Goals as goal

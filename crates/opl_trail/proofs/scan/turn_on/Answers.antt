@@ -1,5 +1,4 @@
-use Rattle.std.proofs.Common.{◌≡◌, ◌<◌, ◌≤◌, arith}
-use Rattle.std.specs.Prelude.{slice_index, bit_or}
+use Rattle.std.proofs.Common.{arith}
 use Rattle.std.proofs.lemmas.Nat.{le_or_l}
 use Rattle.opl_trail.proofs.Words.{or_changes}
 use Rattle.opl_trail.proofs.scan.turn_on.Goals as goal

@@ -1,10 +1,10 @@
-use Rattle.std.proofs.Common.{rules, ◌≡◌, ◌∙◌, ◌+◌, ◌-◌, ◌<◌, ◌≤◌, ◌∷◌, [], ◌++◌, take, drop, length, subst, sym, ap, arith, Some, List, length-set, refl}
+use Rattle.std.proofs.Common.{◌≡◌, ◌∙◌, ◌+◌, ◌-◌, ◌<◌, ◌≤◌, ◌∷◌, [], ◌++◌, length, subst, sym, ap, arith, Some, length-set, refl}
 use Rattle.std.specs.Prelude.{slice_set}
 use Rattle.std.specs.List.{All}
 use Rattle.std.proofs.lemmas.List.Elements.{All-pop}
 use Rattle.std.proofs.lemmas.List.{length_push}
 use Rattle.opl_trail.specs.declared.trail.Saved.{Saved}
-use Rattle.opl_trail.specs.Trails.{undo, word_of, at_of, saves_in}
+use Rattle.opl_trail.specs.Trails.{word_of, at_of}
 use Rattle.opl_trail.proofs.Undo.{step_back, front_back}
 use Rattle.opl_trail.proofs.Levels.{save_before, save_from, saves_back}
 use Rattle.opl_trail.proofs.trail.undo_to.Goals as goal

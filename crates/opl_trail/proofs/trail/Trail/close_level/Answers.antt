@@ -1,6 +1,5 @@
-use Rattle.std.proofs.Common.{◌≡◌, ◌∙◌, ◌+◌, ◌-◌, ◌≤◌, ◌<◌, ◌^◌, ◌∷◌, [], List, ℕ, reverse, length, ap, arith, sym, subst, refl}
+use Rattle.std.proofs.Common.{◌≡◌, ◌∙◌, ◌-◌, ◌∷◌, ℕ, reverse, length, ap, arith}
 use Rattle.opl_trail.specs.Levels.{Levels}
-use Rattle.opl_trail.specs.Trails.{IsTrail}
 use Rattle.std.specs.Vec.{vec_capacity}
 use Rattle.opl_trail.proofs.Marks.{reverse_last}
 use Rattle.opl_trail.proofs.Levels.{close_trail, few_writes}

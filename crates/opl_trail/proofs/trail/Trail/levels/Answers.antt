@@ -1,4 +1,4 @@
-use Rattle.std.proofs.Common.{rules, ◌≡◌, ◌∙◌, length, reverse, ap, sym, ℕ}
+use Rattle.std.proofs.Common.{rules, ◌≡◌, ◌∙◌, length, reverse, ap, sym}
 use Rattle.std.proofs.lemmas.List.{length-reverse}
 use Rattle.opl_trail.specs.Levels.{Levels}
 use Rattle.opl_trail.proofs.Levels.{length-below}

@@ -1,6 +1,5 @@
-use Rattle.std.proofs.Common.{rules, ◌≡◌, ◌∙◌, ◌+◌, ◌≤◌, ◌<◌, ◌^◌, ◌∷◌, [], List, ℕ, reverse, length, ap, arith, sym, subst, refl}
+use Rattle.std.proofs.Common.{rules, ◌≡◌, ◌∙◌, ◌+◌, ◌≤◌, ◌<◌, ◌^◌, ◌∷◌, ℕ, reverse, length, ap, arith}
 use Rattle.std.specs.Vec.{vec_capacity}
-use Rattle.opl_trail.specs.Trails.{IsTrail}
 use Rattle.opl_trail.proofs.Marks.{reverse_last}
 use Rattle.opl_trail.proofs.Levels.{open_trail}
 use Rattle.opl_trail.proofs.trail.Trail.open_level.Goals as goal
