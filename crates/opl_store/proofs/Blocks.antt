@@ -1,5 +1,5 @@
 -- The words of blocks that differ between a level and the level below.
-use Rattle.std.proofs.Common.{◌≡◌, ◌∙◌, ℕ, zero, suc, ◌+◌, ◌-◌, ◌*◌, ◌/◌, ◌<◌, ◌≤◌, ◌⊎◌, ◌&&◌, Bool, true, false, cond, refl, List, [], ◌∷◌, length, map, ℤ, pos, ◌+ℤ◌, ◌≤ℤ◌, neg_ℤ, ap, sym, subst, arith, inl, inr}
+use Rattle.std.proofs.Common.{◌≡◌, ◌∙◌, ℕ, zero, suc, ◌+◌, ◌-◌, ◌*◌, ◌/◌, ◌<◌, ◌≤◌, ◌&&◌, Bool, true, false, cond, refl, List, [], ◌∷◌, length, map, ℤ, pos, ◌+ℤ◌, ap, sym, subst, arith, inl, inr}
 use Rattle.std.specs.Prelude.{not, nat_eq, slice_index, slice_get, Some}
 use Rattle.std.proofs.lemmas.Int.{ints}
 use Rattle.std.proofs.lemmas.Bool.Decides.{nat_tests}
@@ -9,7 +9,7 @@ use Rattle.opl_trail.specs.Gone.{is_gone}
 use Rattle.opl_trail.specs.Levels.{Levels, changed}
 use Rattle.opl_store.specs.declared.shape.Shape.{Shape}
 use Rattle.opl_store.specs.Stacks.{size_between, blocks, agree, blocks_differing, differing_from, differing_blocks}
-use Rattle.opl_store.specs.Stored.{low_gone, high_gone, set_in, family_in, IsSet, IsStore, Narrows, HasLost, FillsFrom, blocks_of, range_of}
+use Rattle.opl_store.specs.Stored.{set_in, family_in, IsStore, Narrows, FillsFrom, blocks_of, range_of}
 use Rattle.opl_store.proofs.Ends.{from_set, in_set}
 use Rattle.opl_store.proofs.Families.{fills_most, set_of_family}
 

@@ -1,18 +1,18 @@
 -- The set of one variable by its ends and its gaps.
-use Rattle.std.proofs.Common.{◌≡◌, ◌∙◌, ℕ, zero, suc, ◌+◌, ◌-◌, ◌*◌, ◌/◌, ◌%◌, ◌^◌, ◌<◌, ◌≤◌, ◌⊎◌, Bool, true, false, ◌||◌, refl, List, [], ◌∷◌, length, set, ℤ, pos, negsuc, ◌+ℤ◌, ◌≤ℤ◌, ◌<ℤ◌, neg_ℤ, ap, sym, subst, arith, inl, inr}
-use Rattle.std.specs.Prelude.{not, slice_index, slice_set, Option, Some, None, ◌≢◌, int_lt}
+use Rattle.std.proofs.Common.{◌≡◌, ◌∙◌, ℕ, ◌+◌, ◌-◌, ◌*◌, ◌/◌, ◌^◌, ◌<◌, ◌≤◌, ◌⊎◌, Bool, true, false, ◌||◌, refl, List, [], ◌∷◌, length, set, ℤ, pos, ◌+ℤ◌, ◌≤ℤ◌, ◌<ℤ◌, ap, sym, subst, arith, inl, inr}
+use Rattle.std.specs.Prelude.{not, slice_index, Some, None, int_lt}
 use Rattle.std.proofs.lemmas.Int.{ints}
-use Rattle.std.proofs.lemmas.Bool.{cases_eq, cases_lt}
+use Rattle.std.proofs.lemmas.Bool.{cases_lt}
 use Rattle.std.proofs.lemmas.List.{length-set, get_or-set_same, get_or-set_other}
-use Rattle.opl_domain.specs.Family.{member, is_outside, outside, IsLeast, IsGreatest, IsNext, IsLeastAbove}
+use Rattle.opl_domain.specs.Family.{member, is_outside, outside, IsLeast, IsGreatest, IsNext}
 use Rattle.opl_domain.proofs.Members.{from_filter, member_first, member_later}
 use Rattle.std.specs.List.{filter}
 use Rattle.std.proofs.lemmas.Bool.Decides.{nat_tests}
 use Rattle.opl_store.specs.declared.shape.Shape.{Shape}
 use Rattle.opl_trail.specs.Gone.{is_gone, IsFirstLeft, IsLastLeft, GoBetween, ChangesWhereLeft, is_between}
 use Rattle.opl_store.specs.Stored.{picked, low_gone, high_gone, between_ends, set_in, IsSet, IsReady, PlaceOf, TouchesOnly, Narrows, blocks_of}
-use Rattle.opl_store.proofs.Picked.{IsAt, in_picked, from_picked, picked_outside, picked_tail, picked_front, picked_same}
-use Rattle.opl_trail.proofs.Words.{same_gone}
+use Rattle.opl_store.proofs.Picked.{in_picked, from_picked, picked_outside, picked_tail, picked_front, picked_same}
+use Rattle.opl_trail.proofs.Words.{same_gone, between, not_between}
 
 -- offset k of a value that is left
 pub record IsOffset (words : List ℕ) (x : ℕ) (s : Shape) (u : ℤ) : Type 0 where
@@ -404,9 +404,6 @@ next_room words x s top h r i greatest ph l =
 or_false : (b c : Bool) → c ≡ false → (b || c) ≡ b
 or_false b c e = elim b as (λ d. (d || c) ≡ d) [ true ↦ refl | false ↦ e ]
 
-not_between : (a b q : ℕ) → (q < a) ⊎ (b < q) → is_between a b q ≡ false
-not_between a b q h = elim h [ inl l ↦ grind (arith, nat_tests) | inr l ↦ grind (arith, nat_tests) ]
-
 between_is : (s : Shape) (lo hi v : ℤ) (a b q : ℕ) → PlaceOf s lo a → PlaceOf s hi b → PlaceOf s v q → is_between a b q ≡ not (is_outside lo hi v)
 unfolding is_outside
 between_is s lo hi v a b q pa pb pq = elim (cases_lt q a) [
@@ -419,9 +416,6 @@ between_is s lo hi v a b q pa pb pq = elim (cases_lt q a) [
 
 goes : (b c : Bool) → c ≡ true → (b || c) ≡ true
 goes b c e = elim b as (λ d. (d || c) ≡ true) [ true ↦ refl | false ↦ e ]
-
-is_inside : (a b q : ℕ) → a ≤ q → q ≤ b → is_between a b q ≡ true
-is_inside a b q h l = grind (arith, nat_tests)
 
 pub record CutsMid (words new : List ℕ) (x : ℕ) (s : Shape) (lo hi : ℤ) : Type 0 where
   pub cut : set_in new x s ≡ outside lo hi (set_in words x s)
@@ -475,7 +469,7 @@ cuts_mid words new x s lo hi bottom top a b i least greatest p q r pa pb gone ch
                 low = omega (arith, g, la, v.from);
                 high = omega (arith, g, hb, v.to);
                 was = subst (λ k. is_gone words k ≡ false) g v.is_left;
-                gone = gone (s.first * 64 + o) ∙ goes (is_gone words (s.first * 64 + o)) (is_between a b (s.first * 64 + o)) (subst (λ k. is_between a b k ≡ true) g (is_inside a b v.place v.from v.to));
+                gone = gone (s.first * 64 + o) ∙ goes (is_gone words (s.first * 64 + o)) (is_between a b (s.first * 64 + o)) (subst (λ k. is_between a b k ≡ true) g (between a b v.place v.from v.to));
               })
         ];
       };

@@ -1,15 +1,15 @@
 -- The families that words keep.
-use Rattle.std.proofs.Common.{◌≡◌, ◌∙◌, ℕ, zero, suc, ◌+◌, ◌-◌, ◌*◌, ◌/◌, ◌<◌, ◌≤◌, ◌⊎◌, Bool, true, false, refl, List, [], ◌∷◌, length, get_or, set, map, ℤ, pos, ◌+ℤ◌, ap, sym, subst, arith, inl, inr}
-use Rattle.std.specs.Prelude.{slice_index, slice_get, slice_set, Some, None, ◌≢◌}
+use Rattle.std.proofs.Common.{◌≡◌, ◌∙◌, ℕ, zero, suc, ◌+◌, ◌-◌, ◌*◌, ◌/◌, ◌<◌, ◌≤◌, ◌⊎◌, true, false, refl, List, [], ◌∷◌, length, get_or, set, ℤ, pos, ◌+ℤ◌, ap, sym, subst, arith, inl, inr}
+use Rattle.std.specs.Prelude.{slice_index, slice_get, Some, ◌≢◌}
 use Rattle.std.proofs.lemmas.Bool.{cases_eq, cases_lt}
 use Rattle.std.proofs.lemmas.Option.{slice_get_within, slice_get_read, slice_get-get_or}
-use Rattle.opl_domain.specs.Family.{Family, IsFamily, IsRising, member, set_of, has, cut_of, outside, Full}
+use Rattle.opl_domain.specs.Family.{IsFamily, IsRising, member, set_of, cut_of, outside, Full}
 use Rattle.opl_domain.proofs.Sets.{set_of-past}
 use Rattle.opl_store.specs.declared.shape.Shape.{Shape}
 use Rattle.opl_trail.specs.Gone.{is_gone}
 use Rattle.opl_trail.specs.Levels.{Levels}
 use Rattle.opl_store.specs.Stacks.{Stack}
-use Rattle.opl_store.specs.Stored.{stack_in, picked, low_gone, high_gone, between_ends, set_in, family_from, family_in, IsSet, AreSets, IsShape, AreShapes, AreAllSets, IsStore, IsReady, TouchesOnly, Narrows, AllNarrow, AreNarrower, FillsFrom, blocks_of}
+use Rattle.opl_store.specs.Stored.{stack_in, low_gone, high_gone, between_ends, set_in, family_from, family_in, IsSet, AreSets, AreShapes, IsStore, IsReady, TouchesOnly, Narrows, AllNarrow, AreNarrower, FillsFrom, blocks_of}
 use Rattle.opl_trail.proofs.Words.{same_gone}
 use Rattle.opl_store.proofs.Picked.{picked_same, in_picked, picked_rises}
 use Rattle.opl_store.proofs.Ends.{narrows_same, narrows_refl, narrows_on}

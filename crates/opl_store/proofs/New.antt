@@ -1,22 +1,20 @@
 -- The sets of a new store.
-use Rattle.std.proofs.Common.{◌≡◌, ◌∙◌, ℕ, zero, suc, ◌+◌, ◌-◌, ◌*◌, ◌/◌, ◌%◌, ◌<◌, ◌≤◌, ◌^◌, Bool, true, false, refl, List, [], ◌∷◌, ◌++◌, length, replicate, get_or, drop, map, ℤ, pos, ◌+ℤ◌, ◌≤ℤ◌, ◌<ℤ◌, neg_ℤ, ap, sym, subst, arith, inl, inr}
+use Rattle.std.proofs.Common.{◌≡◌, ◌∙◌, ℕ, zero, suc, ◌+◌, ◌-◌, ◌*◌, ◌/◌, ◌%◌, ◌<◌, ◌^◌, false, refl, List, [], ◌∷◌, ◌++◌, length, replicate, map, ℤ, pos, ◌+ℤ◌, ap, sym, subst, arith, inl, inr}
 use Rattle.std.specs.Prelude.{slice_index, slice_get, Some, nat_eq}
 use Rattle.std.specs.List.{All}
 use Rattle.std.specs.Int.{bit_at}
 use Rattle.std.proofs.lemmas.Int.{ints}
 use Rattle.std.proofs.lemmas.Bool.{cases_lt}
-use Rattle.std.proofs.lemmas.Bool.Decides.{nat_tests}
 use Rattle.std.proofs.lemmas.Nat.Bits.{bit_at-zero}
 use Rattle.std.proofs.lemmas.List.{get_or-replicate, get_or_past, length-replicate, append_assoc}
 use Rattle.std.proofs.lemmas.List.Elements.{All-head, All-tail}
-use Rattle.opl_domain.specs.Span.{ints_from, span_size, values}
-use Rattle.opl_domain.specs.Family.{Family}
+use Rattle.opl_domain.specs.Span.{ints_from, values}
 use Rattle.opl_domain.proofs.Sets.{size_is}
 use Rattle.opl_store.specs.declared.shape.Shape.{Shape}
 use Rattle.opl_trail.specs.Gone.{is_gone}
 use Rattle.opl_trail.specs.Levels.{Levels}
 use Rattle.opl_store.specs.Stacks.{IsRange, size_between, values_between, blocks, all_blocks}
-use Rattle.opl_store.specs.Stored.{range_of, shapes_from, FillsFrom, picked, low_gone, high_gone, between_ends, set_in, family_from, family_in, IsSet, AreSets, IsShape, AreShapes, IsStore}
+use Rattle.opl_store.specs.Stored.{range_of, shapes_from, FillsFrom, picked, low_gone, high_gone, set_in, family_from, family_in, IsSet, IsShape, IsStore}
 
 read_zero : (n p : ℕ) → slice_index (replicate n 0) p ≡ 0
 read_zero n p = elim (cases_lt p n) [

@@ -1,11 +1,10 @@
 -- The values that are left.
-use Rattle.std.proofs.Common.{◌≡◌, ◌∙◌, ℕ, zero, suc, ◌+◌, ◌-◌, ◌*◌, ◌<◌, ◌≤◌, Bool, true, false, cond, ◌||◌, ◌⊎◌, refl, List, [], ◌∷◌, length, ℤ, pos, negsuc, ◌+ℤ◌, ◌≤ℤ◌, ◌<ℤ◌, neg_ℤ, ap, sym, subst, arith, inl, inr}
-use Rattle.std.specs.Prelude.{not, ◌≢◌}
+use Rattle.std.proofs.Common.{◌≡◌, ℕ, zero, suc, ◌+◌, ◌<◌, ◌≤◌, Bool, true, false, cond, ◌||◌, ◌⊎◌, refl, List, [], ◌∷◌, length, ℤ, pos, ◌+ℤ◌, sym, subst, arith, inl, inr}
+use Rattle.std.specs.Prelude.{not}
 use Rattle.std.specs.List.{filter}
 use Rattle.std.proofs.lemmas.Int.{ints}
-use Rattle.std.proofs.lemmas.Bool.{cases_eq, cases_lt}
 use Rattle.opl_domain.specs.Family.{member, IsRising, is_outside, outside}
-use Rattle.opl_domain.proofs.Members.{member_cases, member_first, member_later, member_here}
+use Rattle.opl_domain.proofs.Members.{member_cases, member_later, member_here}
 use Rattle.opl_trail.specs.Gone.{is_gone, count_left}
 use Rattle.opl_store.specs.Stored.{picked}
 

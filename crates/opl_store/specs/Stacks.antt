@@ -1,5 +1,5 @@
 -- Stacks of families over declared sets, and in how many blocks two families differ.
-use Rattle.std.specs.Prelude.{ℕ, zero, suc, ◌+◌, ◌*◌, ◌/◌, ◌≤◌, ◌^◌, ◌&&◌, not, Bool, true, false, cond, List, [], ◌∷◌, ℤ, pos, ◌+ℤ◌, ◌≤ℤ◌, ◌<ℤ◌}
+use Rattle.std.specs.Prelude.{ℕ, zero, suc, ◌+◌, ◌/◌, ◌≤◌, ◌^◌, ◌&&◌, not, Bool, true, cond, List, [], ◌∷◌, ℤ, pos, ◌+ℤ◌, ◌≤ℤ◌, ◌<ℤ◌}
 use Rattle.opl_domain.specs.Span.{values, span_size}
 use Rattle.opl_domain.specs.Family.{Family, member, set_of, most_values}
 

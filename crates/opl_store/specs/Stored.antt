@@ -1,7 +1,7 @@
 -- How families are kept in words. Word x has the ends of the set of variable x; behind the words of all ends, each
 -- variable has a word for each block of its declared set, with a bit for each value, on where the value has gone. A set
 -- has the values between its ends that have not gone; bits outside the ends mean nothing.
-use Rattle.std.specs.Prelude.{◌≡◌, ℕ, zero, suc, ◌+◌, ◌-◌, ◌*◌, ◌/◌, ◌%◌, ◌^◌, ◌<◌, ◌≤◌, Bool, true, false, cond, List, [], ◌∷◌, length, ℤ, pos, ◌+ℤ◌, ◌≤ℤ◌, slice_index, slice_get, Some, map, ◌≢◌, ◌⊎◌}
+use Rattle.std.specs.Prelude.{◌≡◌, ℕ, zero, suc, ◌+◌, ◌-◌, ◌*◌, ◌/◌, ◌%◌, ◌^◌, ◌<◌, ◌≤◌, true, false, cond, List, [], ◌∷◌, length, ℤ, pos, ◌+ℤ◌, ◌≤ℤ◌, slice_index, slice_get, Some, map, ◌≢◌, ◌⊎◌}
 use Rattle.opl_domain.specs.Family.{Family, most_values}
 use Rattle.opl_trail.specs.Gone.{is_gone}
 use Rattle.opl_trail.specs.Levels.{Levels}

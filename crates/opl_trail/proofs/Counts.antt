@@ -7,7 +7,7 @@ use Rattle.std.proofs.lemmas.Nat.Bits.{bit_at_and, bit_at_not, bit_at-lt, bit_at
 use Rattle.std.proofs.lemmas.Nat.{and_le_l}
 use lib.Count.{ones, ones_step}
 use Rattle.opl_trail.specs.Gone.{is_gone, count_left, is_between, IsMask}
-use Rattle.opl_trail.proofs.Words.{gone_at, pow_double}
+use Rattle.opl_trail.proofs.Words.{gone_at, pow_double, between, not_between}
 
 -- the sum of f over n numbers from g on
 abbrev pub sum_from : (ℕ → ℕ) → ℕ → ℕ → ℕ
@@ -67,20 +67,14 @@ ones_left words a b k mask m f =
     ∙ ap (λ c. cond (nat_eq (bit_at w i) 1) 0 (cond c 1 0)) (m i l)
     ∙ ap (λ c. cond c 0 (cond (is_between a b (k * 64 + i)) 1 0)) (sym (gone_at words k i l)))
 
-inside : (a b g : ℕ) → a ≤ g → g ≤ b → is_between a b g ≡ true
-inside a b g h l = grind (arith, nat_tests)
-
-not_inside : (a b g : ℕ) → (g < a) ⊎ (b < g) → is_between a b g ≡ false
-not_inside a b g h = elim h [ inl l ↦ grind (arith, nat_tests) | inr l ↦ grind (arith, nat_tests) ]
-
 none_in : (words : List ℕ) (a b g : ℕ) → (g < a) ⊎ (b < g) → left_in words a b g ≡ 0
-none_in words a b g h = rw (not_inside a b g h) (elim (is_gone words g) as (λ c. ◌≡◌ {A = ℕ} (cond c 0 0) 0) [ true ↦ refl | false ↦ refl ])
+none_in words a b g h = rw (not_between a b g h) (elim (is_gone words g) as (λ c. ◌≡◌ {A = ℕ} (cond c 0 0) 0) [ true ↦ refl | false ↦ refl ])
 
 all_in : (words : List ℕ) (a b g n : ℕ) → a ≤ g → g + n ≤ b + 1 → sum_from (left_in words a b) g n ≡ count_left words g n
 all_in words a b g zero h l = refl
 all_in words a b g (suc n) h l =
     let r = all_in words a b (suc g) n (omega (arith, h)) (omega (arith, l)) in
-    rw (inside a b g h (omega (arith, l)), r) refl
+    rw (between a b g h (omega (arith, l)), r) refl
 
 -- of all words that the places from a to b lie in
 pub left_between : (words : List ℕ) (a b : ℕ) → a ≤ b → sum_from (left_in words a b) (a / 64 * 64) ((b / 64 + 1 - a / 64) * 64) ≡ count_left words a (b + 1 - a)

@@ -111,6 +111,12 @@ pub record Clears (old new : List ℕ) (first last k : ℕ) : Type 0 where
   pub before : (j : ℕ) → j < first / 64 → slice_index new j ≡ slice_index old j
   pub changes : ChangesWhereLeft old new first last
 
+pub between : (a b g : ℕ) → a ≤ g → g ≤ b → is_between a b g ≡ true
+between a b g h l = grind (arith, nat_tests)
+
+pub not_between : (a b g : ℕ) → (g < a) ⊎ (b < g) → is_between a b g ≡ false
+not_between a b g h = elim h [ inl l ↦ grind (arith, nat_tests) | inr l ↦ grind (arith, nat_tests) ]
+
 outside_is : (words : List ℕ) (first last g : ℕ) → (g < first) ⊎ (last < g) → is_gone words g ≡ (is_gone words g || is_between first last g)
 outside_is words first last g h = elim (is_gone words g) as (λ b. b ≡ (b || is_between first last g)) [ true ↦ refl | false ↦ elim h [ inl l ↦ grind (arith, nat_tests) | inr l ↦ grind (arith, nat_tests) ] ]
 

@@ -1,10 +1,10 @@
-use Rattle.std.proofs.Common.{◌≡◌, ◌∙◌, ◌+◌, ◌-◌, ◌*◌, ◌<◌, ◌≤◌, ◌^◌, ◌≤ℤ◌, ◌<ℤ◌, ◌+ℤ◌, pos, ℤ, ℕ, length, ap, sym, subst, rules, arith, refl, set}
-use Rattle.std.specs.Prelude.{FitsSigned, slice_index}
+use Rattle.std.proofs.Common.{◌∙◌, ◌-◌, ◌≤ℤ◌, ◌<ℤ◌, ◌+ℤ◌, pos, ℤ, ℕ, length, ap, arith}
+use Rattle.std.specs.Prelude.{FitsSigned}
 use mir.Syntax.{w64}
 use Rattle.std.proofs.lemmas.Int.{to_z-of_z, ints}
-use Rattle.opl_domain.specs.Family.{IsLeast, IsGreatest}
+use Rattle.opl_domain.specs.Family.{IsGreatest}
 use Rattle.opl_trail.specs.Levels.{Levels}
-use Rattle.opl_store.specs.Stored.{low_gone, high_gone, set_in, IsReady, TouchesOnly, PlaceOf}
+use Rattle.opl_store.specs.Stored.{low_gone, set_in, IsReady}
 use Rattle.opl_store.proofs.Ends.{CutsHigh, cuts_high, greatest_in, low_declared, high_declared, bottom_place, place_order, place_small, last_at_least, touches}
 use Rattle.opl_store.proofs.set.cut_high.Goals as goal
 

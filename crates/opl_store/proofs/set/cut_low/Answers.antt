@@ -1,9 +1,9 @@
-use Rattle.std.proofs.Common.{◌≡◌, ◌∙◌, ◌+◌, ◌-◌, ◌*◌, ◌<◌, ◌≤◌, ◌^◌, ◌≤ℤ◌, ◌<ℤ◌, ◌+ℤ◌, pos, ℤ, ℕ, length, ap, sym, subst, rules, arith, refl, set}
-use Rattle.std.specs.Prelude.{FitsSigned, slice_index}
+use Rattle.std.proofs.Common.{◌∙◌, ◌+◌, ◌≤ℤ◌, ℤ, ℕ, length, ap, arith}
+use Rattle.std.specs.Prelude.{FitsSigned}
 use mir.Syntax.{w64}
 use Rattle.std.proofs.lemmas.Int.{to_z-of_z, ints}
 use Rattle.opl_trail.specs.Levels.{Levels}
-use Rattle.opl_store.specs.Stored.{low_gone, high_gone, set_in, IsReady, TouchesOnly, PlaceOf}
+use Rattle.opl_store.specs.Stored.{high_gone, set_in, IsReady}
 use Rattle.opl_store.proofs.Ends.{CutsLow, cuts_low, least_in, low_declared, high_declared, top_place, place_order, place_small, first_at_most, touches}
 use Rattle.opl_store.proofs.set.cut_low.Goals as goal
 

@@ -1,5 +1,4 @@
-use Rattle.std.proofs.Common.{◌≡◌, ◌∙◌, ◌%◌, ℕ, ap, sym, subst, rules, refl}
-use Rattle.std.specs.Prelude.{nat_eq}
+use Rattle.std.proofs.Common.{◌%◌, refl}
 use Rattle.std.proofs.lemmas.Nat.Bits.{shr_and_one}
 use Rattle.opl_trail.specs.Gone.{is_gone}
 use Rattle.opl_store.proofs.set.is_gone.Goals as goal

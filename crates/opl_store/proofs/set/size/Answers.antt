@@ -1,4 +1,4 @@
-use Rattle.std.proofs.Common.{◌≡◌, ◌∙◌, ◌+◌, ◌*◌, ◌-◌, ◌<◌, ◌≤◌, ◌^◌, ◌+ℤ◌, pos, ℕ, length, ap, sym, arith}
+use Rattle.std.proofs.Common.{◌≡◌, ◌∙◌, ◌+◌, ◌*◌, ◌-◌, ◌+ℤ◌, pos, ℕ, ap, sym, arith}
 use Rattle.std.specs.Prelude.{slice_index}
 use Rattle.opl_trail.specs.Gone.{count_left}
 use Rattle.opl_store.specs.Stored.{low_gone, high_gone, set_in}

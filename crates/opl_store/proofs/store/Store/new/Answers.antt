@@ -1,7 +1,5 @@
-use Rattle.std.proofs.Common.{◌≡◌, ◌∙◌, ◌+◌, ◌<◌, ◌^◌, ℕ, [], map, length, replicate, ap, sym, subst, arith, refl}
-use Rattle.opl_trail.specs.Levels.{Levels}
-use Rattle.opl_store.specs.Stacks.{all_blocks, values_between}
-use Rattle.opl_store.specs.Stored.{shapes_from, IsStore, family_in}
+use Rattle.std.proofs.Common.{◌≡◌, ◌∙◌, ◌+◌, [], length, replicate, ap, arith}
+use Rattle.opl_store.specs.Stacks.{all_blocks}
 use Rattle.opl_store.proofs.New.{new_store, new_family, declared_new, length-shapes}
 use Rattle.opl_store.proofs.store.Store.new.Goals as goal
 
