@@ -1,4 +1,4 @@
-use Rattle.std.proofs.Common.{rules, ◌≡◌, ◌<◌, ◌||◌, ℕ, ℤ, Bool, true, false, length, sym, subst, arith, refl, ◌<ℤ◌}
+use Rattle.std.proofs.Common.{rules, ◌≡◌, ◌<◌, ◌||◌, ℕ, ℤ, true, false, length, sym, subst, arith, refl, ◌<ℤ◌}
 use Rattle.std.specs.Prelude.{FitsSigned, int_lt}
 use mir.Syntax.{w64}
 use Rattle.std.proofs.lemmas.Int.{to_z-of_z, ints}
