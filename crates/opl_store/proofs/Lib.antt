@@ -1,0 +1,5 @@
+pub mod Picked
+pub mod Ends
+pub mod Families
+pub mod Blocks
+pub mod New

@@ -1,0 +1,5 @@
+pub mod Undo
+pub mod Marks
+pub mod Levels
+pub mod Words
+pub mod Counts
