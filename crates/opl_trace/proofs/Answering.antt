@@ -1,5 +1,5 @@
 -- Where nothing is asked, an answered constraint means what it meant.
-use Rattle.std.proofs.Common.{◌≡◌, ◌∙◌, Bool, true, false, cond, ◌&&◌, refl, List, [], ◌∷◌, ℤ, pos, ◌+ℤ◌, ◌*ℤ◌, neg_ℤ, ap, sym}
+use Rattle.std.proofs.Common.{◌≡◌, ◌∙◌, true, false, ◌&&◌, refl, List, ℤ, pos, ◌+ℤ◌, ◌*ℤ◌, neg_ℤ, ap, sym}
 use Rattle.std.specs.Prelude.{not, ◌||◌, unsigned_abs, Option, Some, None}
 use Rattle.std.proofs.Math.Bool.{and-true}
 use Rattle.std.proofs.Math.IntN.{*ℤ_comm}

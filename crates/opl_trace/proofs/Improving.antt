@@ -1,5 +1,5 @@
 -- Default search with an objective finds the solutions that are better than all before them.
-use Rattle.std.proofs.Common.{◌≡◌, ◌∙◌, ℕ, zero, suc, ◌+◌, ◌<◌, Bool, true, false, cond, ◌&&◌, refl, List, [], ◌∷◌, ◌++◌, map, length, ℤ, inl, inr, ap, sym, subst, arith, append-nil}
+use Rattle.std.proofs.Common.{◌≡◌, ◌∙◌, ℕ, zero, suc, ◌+◌, ◌<◌, Bool, true, false, cond, ◌&&◌, refl, List, [], ◌∷◌, ◌++◌, length, ℤ, inl, inr, ap, sym, subst, arith, append-nil}
 use Rattle.std.specs.Prelude.{int_lt, Option, Some, None}
 use Rattle.std.specs.List.{list_any, filter, flat_map}
 use Rattle.std.proofs.Math.Bool.{and-true}

@@ -1,30 +1,28 @@
 -- Each Solution mark of a search is a solution, also where the search ends with a Cut.
-use Rattle.std.proofs.Common.{◌≡◌, ◌∙◌, ℕ, zero, suc, ◌+◌, ◌-◌, ◌<◌, Bool, true, false, cond, ◌&&◌, refl, List, [], ◌∷◌, ◌++◌, map, length, ℤ, inl, inr, ap, sym, subst, arith, append-nil, append_assoc, get_or}
+use Rattle.std.proofs.Common.{◌≡◌, ◌∙◌, ℕ, zero, suc, ◌+◌, ◌-◌, ◌<◌, Bool, true, false, cond, refl, List, [], ◌∷◌, ◌++◌, map, length, ℤ, inl, inr, ap, sym, subst, arith, append-nil, append_assoc, get_or}
 use Rattle.std.specs.Prelude.{Option, Some, None}
 use Rattle.std.specs.List.{All, list_any}
-use Rattle.std.proofs.lemmas.Bool.{and_from, and_parts, cases_order}
+use Rattle.std.proofs.lemmas.Bool.{and_from, cases_order}
 use Rattle.std.proofs.lemmas.List.Elements.{All-nil, All-cons}
 use Rattle.opl_domain.specs.Family.{member, Family, IsRising, set_of, has, Below}
 use Rattle.opl_domain.proofs.Members.{member_first}
-use Rattle.opl_expr.specs.declared.model.Core.{Core}
 use Rattle.opl_expr.specs.Forms.{Fact}
 use Rattle.opl_expr.specs.Holds.{value}
 use Rattle.opl_expr.specs.Range.{is_refuted}
-use Rattle.opl_expr.specs.Laws.{singles, clear, clear_fact}
+use Rattle.opl_expr.specs.Laws.{singles}
 use Rattle.opl_expr.specs.Solutions.{base, declared, is_among, is_solution}
-use Rattle.opl_trace.specs.Closure.{closure}
 use Rattle.opl_trace.specs.Answers.{is_single, answered, is_met, is_decided, key_value, is_value, precedes}
 use Rattle.opl_trace.specs.Elements.{Arm, Picked, comes_first, picked_of, pick, ordered, taken}
-use Rattle.opl_trace.specs.Objective.{Objective, better_than, bound, best_after, is_better, Tighter}
+use Rattle.opl_trace.specs.Objective.{Objective, bound, best_after, Tighter}
 use Rattle.opl_trace.specs.Solutions.{satisfies}
 use Rattle.opl_trace.specs.Statements.{Statement, Statements, Branch, Branches}
 use Rattle.opl_trace.specs.Statements.Statement.{post, block, try, try_all, for_all, select, once, while, decide, generate, rank}
 use Rattle.opl_trace.specs.Statements.Statements.{no_statements, more_statements}
 use Rattle.opl_trace.specs.Statements.Branch.{branch}
 use Rattle.opl_trace.specs.Statements.Branches.{no_branches, more_branches}
-use Rattle.opl_trace.specs.Run.{Mark, Out, Rest, nothing, marks_of, stopped, spent, marked, behind, after, Alternative, unlabelled, by_value, alternatives, choices, Left, left_with, first_leaf, committed, selected, values_of, is_dead, closed, entered, within, whole_leaf, inner_leaf, label, rank_pairs, visit, loop, perform, perform_all, performed, arm_of, arms}
+use Rattle.opl_trace.specs.Run.{Mark, Out, Rest, marks_of, spent, marked, behind, after, Alternative, unlabelled, by_value, alternatives, choices, Left, left_with, first_leaf, committed, selected, values_of, is_dead, closed, entered, within, whole_leaf, inner_leaf, label, rank_pairs, visit, loop, perform, perform_all, performed, arm_of, arms}
 use Rattle.opl_trace.specs.Run.Mark.{choice, leaf, solution, cut}
-use Rattle.opl_trace.specs.Marks.{numbers_from, labelled, searched, trace, objective, section, core_trace, core_marks, solved}
+use Rattle.opl_trace.specs.Marks.{numbers_from, labelled, searched, trace, objective, section, core_marks, solved}
 use Rattle.opl_trace.specs.SearchLaws.{clear_all, IsWider}
 use Rattle.opl_trace.specs.GroundLaws.{MarksAreSolutions}
 use Rattle.opl_trace.proofs.Passing.{false_unless, any_left, any_right}

@@ -1,46 +1,44 @@
 -- A search by a plain section finds the solutions that its paths reach.
 use Rattle.std.proofs.Common.{◌≡◌, ◌∙◌, ℕ, zero, suc, Bool, true, false, cond, ◌&&◌, refl, List, [], ◌∷◌, ◌++◌, map, length, ℤ, pos, ◌+ℤ◌, neg_ℤ, ap, sym, subst, arith, append-nil, append_assoc}
 use Rattle.std.specs.Prelude.{Option, Some, None}
-use Rattle.std.specs.List.{All, filter, flat_map, list_all}
+use Rattle.std.specs.List.{filter, flat_map}
 use Rattle.std.proofs.lemmas.Bool.{and_parts, and_from}
 use Rattle.std.proofs.lemmas.List.Folds.{list_all-append}
-use Rattle.std.proofs.lemmas.List.Elements.{filter-append}
 use Rattle.opl_domain.specs.Span.{values, count_from}
-use Rattle.opl_domain.specs.Family.{Family, IsRising, set_of, Below}
+use Rattle.opl_domain.specs.Family.{Family, IsRising, set_of}
 use Rattle.opl_domain.proofs.Sets.{ints_rise}
 use Rattle.opl_expr.specs.declared.model.Core.{Core}
 use Rattle.opl_expr.specs.declared.search.Step.{Step}
 use Rattle.opl_expr.specs.declared.tables.Table.{Table}
 use Rattle.opl_expr.specs.declared.tables.Resource.{Resource}
-use Rattle.opl_expr.specs.Forms.{Relation, Term, Fact, term}
+use Rattle.opl_expr.specs.Forms.{Relation, Fact, term}
 use Rattle.opl_expr.specs.Options.{lift, lift1}
 use Rattle.opl_expr.specs.Holds.{value, holds, relates}
 use Rattle.opl_expr.specs.Laws.{singles, clear, clear_fact}
 use Rattle.opl_expr.specs.Solutions.{facts, goal_term, definedness, base, declared, is_true, is_among}
-use Rattle.opl_expr.specs.Sound.{IsSoundFact}
 use Rattle.opl_trace.specs.ClosureLaws.{IsBelowSome}
 use Rattle.opl_trace.specs.Answers.{answered, is_met, key_value}
 use Rattle.opl_trace.specs.Elements.{Arm, comes_first, Picked, picked_of, pick, ordered, taken}
-use Rattle.opl_trace.specs.Objective.{Objective, bound, is_better, improving_from, improving}
+use Rattle.opl_trace.specs.Objective.{Objective, bound, is_better, improving}
 use Rattle.opl_trace.specs.Solutions.{satisfies, product, solutions}
 use Rattle.opl_trace.specs.Statements.{Statement, Statements, Branch, Branches, statement}
 use Rattle.opl_trace.specs.Statements.Statement.{post, block, try, try_all, for_all, select, once, while, decide, generate, rank}
 use Rattle.opl_trace.specs.Statements.Statements.{no_statements, more_statements}
 use Rattle.opl_trace.specs.Statements.Branch.{branch}
 use Rattle.opl_trace.specs.Statements.Branches.{no_branches, more_branches}
-use Rattle.opl_trace.specs.Run.{Mark, Out, Rest, nothing, stopped, marked, behind, after, unlabelled, alternatives, closed, entered, within, selected, visit, perform, perform_all, performed, arm_of, arms}
+use Rattle.opl_trace.specs.Run.{Out, Rest, nothing, stopped, marked, after, unlabelled, alternatives, closed, entered, within, selected, visit, perform, perform_all, performed, arm_of, arms}
 use Rattle.opl_trace.specs.Run.Mark.{choice}
-use Rattle.opl_trace.specs.Marks.{labelled, searched, trace, objective, section, core_trace, solved}
+use Rattle.opl_trace.specs.Marks.{labelled, searched, trace, objective, section, solved}
 use Rattle.opl_trace.specs.Paths.{Path, joinings, sequence, first_paths, either, paths, joined_paths, each_path, route, routes, reached, is_free, is_free_key, is_plain, all_plain, plain_branch, plain_branches}
 use Rattle.opl_trace.specs.SearchLaws.{clear_all, Defines}
 use Rattle.opl_trace.specs.SoundCores.{IsSoundGoal, IsSoundSection, IsSoundCore}
-use Rattle.opl_trace.specs.GroundCores.{IsGroundCore, section_fits}
+use Rattle.opl_trace.specs.GroundCores.{section_fits}
 use Rattle.opl_trace.specs.GroundLaws.{PlainSections}
 use Rattle.opl_trace.proofs.Passing.{false_unless}
 use Rattle.opl_trace.proofs.Constraints.{solutions_stay}
 use Rattle.opl_trace.proofs.Products.{filter_flat, found_alike, none_found, join_both, among_below}
 use Rattle.opl_trace.proofs.Better.{best_of, betters, IsSame, drop_worse, tighter_self}
-use Rattle.opl_trace.proofs.Found.{sets, Solves, after_solves, label_found, found}
+use Rattle.opl_trace.proofs.Found.{Solves, after_solves, label_found, found}
 use Rattle.opl_trace.proofs.Improving.{SolvesBest, after_best, solves_same, filter_both, bound_is, clear_bound, defines_more, label_best}
 use Rattle.opl_trace.proofs.CoreSolutions.{solutions_satisfy, base_sound}
 use Rattle.opl_trace.proofs.WithoutVariables.{fact_names_none, key_names_none, same_met, same_key}

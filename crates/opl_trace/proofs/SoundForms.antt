@@ -1,6 +1,6 @@
 -- What a ground core's constraints, conditions and keys are as plain data: the indices of each table differ, and where they
 -- decide they name no variable.
-use Rattle.std.proofs.Common.{◌≡◌, ◌∙◌, ℕ, zero, suc, ◌+◌, ◌<◌, Bool, true, false, ◌&&◌, refl, List, [], ◌∷◌, ◌++◌, map, length, ℤ, ap, sym, subst, arith}
+use Rattle.std.proofs.Common.{◌≡◌, ◌∙◌, ℕ, Bool, true, ◌&&◌, refl, List, [], ◌∷◌, ◌++◌, map, ℤ, ap, sym, subst}
 use Rattle.std.specs.Prelude.{nat_le, slice_get, Option, Some, None}
 use Rattle.std.specs.List.{All, list_all}
 use Rattle.std.proofs.lemmas.Bool.{and_parts, and_from}
@@ -20,8 +20,7 @@ use Rattle.opl_expr.specs.declared.search.Step.TheFolds.{fold-Branch, fold-roll-
 use Rattle.opl_expr.specs.declared.search.Step.TheViews.{roll-Step, roll-Branch}
 use Rattle.opl_expr.specs.declared.tables.Table.{Table}
 use Rattle.opl_expr.specs.declared.tables.Resource.{Resource}
-use Rattle.opl_expr.specs.declared.model.Core.{Core}
-use Rattle.opl_expr.specs.Forms.{Relation, Term, Terms, Fact, Facts, terms_of, facts_of, compared, all_different, constant_value, product_by, product, term_layer, fact_layer, term, fact}
+use Rattle.opl_expr.specs.Forms.{Relation, Term, Terms, Fact, Facts, terms_of, facts_of, compared, all_different, constant_value, product_by, term_layer, fact_layer, term, fact}
 use Rattle.opl_expr.specs.Options.{lift1}
 use Rattle.opl_expr.specs.Laws.{clear, all_clear, clear_fact, clear_facts}
 use Rattle.opl_expr.specs.Sound.{IsSoundTerm, AreSoundTerms, IsSoundFact, AreSoundFacts}
@@ -33,7 +32,7 @@ use Rattle.opl_trace.specs.Statements.Branch.{branch}
 use Rattle.opl_trace.specs.Statements.Branches.{no_branches, more_branches}
 use Rattle.opl_trace.specs.SearchLaws.{clear_all}
 use Rattle.opl_trace.specs.SoundCores.{IsSoundStatement, AreSoundStatements, IsSoundBranch, AreSoundBranches}
-use Rattle.opl_trace.specs.GroundCores.{has_constants, expr_parts, cons_parts, expr_may_stand, cons_may_stand, expr_stands, cons_stands, cons_depth, expr_depth, most_deep, Element, are_alike, cons_fits, key_fits, expr_fits, step_made, branch_made, is_well_made}
+use Rattle.opl_trace.specs.GroundCores.{has_constants, expr_parts, cons_parts, expr_may_stand, cons_may_stand, expr_stands, cons_stands, cons_depth, expr_depth, most_deep, Element, are_alike, cons_fits, key_fits, step_made, branch_made, is_well_made}
 use Rattle.opl_trace.proofs.WithoutVariables.{names_none, all_name_none, fact_names_none, facts_name_none, key_names_none}
 
 -- ---- the indices of each table differ

@@ -1,9 +1,8 @@
 -- A constraint without variables and questions has one range, whatever the family; so conditions and keys that ask nothing
 -- are decided without one.
-use Rattle.std.proofs.Common.{◌≡◌, ◌∙◌, ℕ, zero, suc, Bool, true, false, cond, ◌&&◌, ◌||◌, refl, List, [], ◌∷◌, map, length, ℤ, pos, ◌+ℤ◌, ◌*ℤ◌, neg_ℤ, ap, sym, subst, arith}
-use Rattle.std.specs.Prelude.{int_le, int_lt, nat_eq, Option, Some, None}
+use Rattle.std.proofs.Common.{◌≡◌, ◌∙◌, ℕ, zero, suc, Bool, true, false, cond, ◌&&◌, refl, List, [], ◌∷◌, map, length, ℤ, pos, ◌+ℤ◌, ◌*ℤ◌, neg_ℤ, ap, sym, arith}
+use Rattle.std.specs.Prelude.{int_le, int_lt, Option, Some, None}
 use Rattle.std.specs.List.{list_all}
-use Rattle.std.specs.Ordering.{int_eq}
 use Rattle.std.proofs.lemmas.Int.{ints}
 use Rattle.std.proofs.lemmas.Bool.{and_parts, and_from}
 use Rattle.opl_domain.specs.Span.{Span, point, is_point, smaller, larger}
@@ -15,7 +14,7 @@ use Rattle.opl_expr.specs.declared.tables.Cell.TheVariants as cell
 use Rattle.opl_expr.specs.Forms.{Relation, Term, Terms, Fact, Facts, constant_value, product_by, product}
 use Rattle.opl_expr.specs.Forms.Relation.{equal, at_most, below}
 use Rattle.opl_expr.specs.Options.{lift1, bind1, lift, bind, lift_all, lift_some, joined}
-use Rattle.opl_expr.specs.Range.{verdict, flip, same_truth, is_possible, span_scale, Linear, constant, minus, weighted, with_variables, range_of_linear, count, is_one_or_two, misses_zero, never_zero, compare, compare_of, taken, chosen, masks, look_up, cell_range, coef, coefs, pure, all_pure, ends, may_be, rest, linears, range, fact_range, fact_ranges}
+use Rattle.opl_expr.specs.Range.{verdict, flip, same_truth, is_possible, span_scale, Linear, weighted, with_variables, range_of_linear, count, is_one_or_two, misses_zero, never_zero, compare, taken, chosen, masks, look_up, cell_range, coef, coefs, pure, may_be, rest, linears, range, fact_range, fact_ranges}
 use Rattle.opl_trace.specs.Answers.{is_some_point, answered_term, answered_terms, answered, all_answered, ranges_to, is_met, key_value}
 use Rattle.opl_trace.specs.Paths.{asks_none, all_ask_none, is_free, all_free, is_free_key}
 use Rattle.opl_trace.specs.GroundCores.{is_constant, has_constants}

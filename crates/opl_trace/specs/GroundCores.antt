@@ -1,6 +1,6 @@
 -- What a ground core keeps beside its soundness: what a model's constraints, tables, resources and search section have in
 -- common, and the limits of size.
-use Rattle.std.specs.Prelude.{◌≡◌, ℕ, zero, suc, ◌+◌, ◌<◌, ◌≤◌, max, Bool, true, false, cond, ◌&&◌, ◌||◌, not, List, [], ◌∷◌, length, map, ℤ, pos, ◌≤ℤ◌, int_le, int_lt, nat_le, slice_get, slice_index_or, Option, Some, None}
+use Rattle.std.specs.Prelude.{◌≡◌, ℕ, suc, ◌+◌, ◌<◌, ◌≤◌, max, Bool, true, false, cond, ◌&&◌, ◌||◌, not, List, [], ◌∷◌, length, map, ℤ, pos, ◌≤ℤ◌, int_le, int_lt, nat_le, slice_get, slice_index_or, Option, Some, None}
 use Rattle.std.specs.List.{All, list_all}
 use Rattle.opl_domain.specs.Span.{span_size}
 use Rattle.opl_expr.specs.declared.forms.Expr.{Expr}
