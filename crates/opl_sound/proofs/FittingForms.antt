@@ -1,9 +1,9 @@
 -- Whether expressions and constraints fit, form by form, as the code sees it.
-use Rattle.std.proofs.Common.{◌≡◌, ◌∙◌, ℕ, zero, suc, ◌+◌, ◌<◌, ◌≤◌, max, Bool, true, false, ◌&&◌, ◌||◌, refl, List, [], ◌∷◌, map, ℤ, ap, sym, arith, inl, inr}
-use Rattle.std.specs.Prelude.{nat_le, not, slice_get, Option, Some, None}
+use Rattle.std.proofs.Common.{◌≡◌, ◌∙◌, ℕ, suc, max, Bool, true, false, ◌&&◌, ◌||◌, refl, List, [], ◌∷◌, map, ℤ, ap, sym, arith}
+use Rattle.std.specs.Prelude.{nat_le, not, slice_get}
 use Rattle.std.specs.List.{list_all}
 use Rattle.std.proofs.Math.Bool.{and-true}
-use Rattle.std.proofs.lemmas.Bool.{leb-true, le-leb, and_from, and_parts}
+use Rattle.std.proofs.lemmas.Bool.{leb-true, le-leb, lt-leb, and_from, and_parts}
 use Rattle.opl_expr.specs.declared.forms.Ask.{Ask}
 use Rattle.opl_expr.specs.declared.forms.Op.{Op}
 use Rattle.opl_expr.specs.declared.forms.Expr.{Expr}
@@ -16,7 +16,6 @@ use Rattle.opl_expr.specs.declared.forms.Cons.TheViews.{roll-Expr, roll-Cons, ou
 use Rattle.opl_expr.specs.declared.tables.Table.{Table}
 use Rattle.opl_expr.specs.declared.tables.Resource.{Resource}
 use Rattle.opl_trace.specs.GroundCores.{expr_parts, cons_parts, deepest, expr_depth, cons_depth, has_constants, is_time_of, expr_may_stand, cons_may_stand, expr_stands, cons_stands, expr_fits, cons_fits}
-use Rattle.opl_trace.proofs.WithoutVariables.{both_are}
 use Rattle.opl_trace.proofs.SweepLaws.{same_tests}
 
 -- ---- depths
@@ -32,9 +31,11 @@ le_max a m n = same_tests (nat_le (max a m) n) (nat_le a n && nat_le m n)
     (λ e. let h = leb-true (max a m) n e in and_from (nat_le a n) (nat_le m n) (le-leb a n (omega (arith, h))) (le-leb m n (omega (arith, h))))
     (λ e. let r = and_parts (nat_le a n) (nat_le m n) e in let h = leb-true a n r.0 in let i = leb-true m n r.1 in le-leb (max a m) n (omega (arith, h, i)))
 
-too_deep : (n m : ℕ) → (0 < n → ⊥) → nat_le (suc m) n ≡ false
-too_deep zero m h = refl
-too_deep (suc n) m h = absurd (h (omega arith))
+too_deep : (n m : ℕ) → n ≡ 0 → nat_le (suc m) n ≡ false
+too_deep n m h = lt-leb (suc m) n (omega (arith, h))
+
+both_same : {A B C : Type 0} (f : A → B → C) (a c : A) (b d : B) → a ≡ c → b ≡ d → f a b ≡ f c d
+both_same f a c b d e g = rw (e, g) refl
 
 swap_middle : (a m s r : Bool) → ((a && m) && (s && r)) ≡ ((a && s) && (m && r))
 swap_middle true true s r = elim s as (λ s. (s && r) ≡ (s && r)) [ true ↦ refl | false ↦ refl ]
@@ -80,21 +81,21 @@ module _ (tables : List Table) (resources : List Resource) (decides : Bool) wher
   unfolding cons_stands expr_stands
   cons_stands_is d = fold-roll-Cons Bool Bool cons_here expr_here d
 
-  pub no_depth : (n : ℕ) (e : Expr) → (0 < n → ⊥) → expr_fits tables resources decides n e ≡ false
+  pub no_depth : (n : ℕ) (e : Expr) → n ≡ 0 → expr_fits tables resources decides n e ≡ false
   no_depth n e h = ap (λ z. expr_fits tables resources decides n z) (sym (roll-out-Expr e)) ∙ ap (λ m. nat_le m n && expr_stands tables resources decides (roll-Expr (out-Expr e))) (depth_is (out-Expr e))
       ∙ ap (λ b. b && expr_stands tables resources decides (roll-Expr (out-Expr e))) (too_deep n (deepest (expr_parts (map-Expr Cons Expr ℕ ℕ cons_depth expr_depth (out-Expr e)))) h)
 
-  pub no_cons_depth : (n : ℕ) (c : Cons) → (0 < n → ⊥) → cons_fits tables resources decides n c ≡ false
+  pub no_cons_depth : (n : ℕ) (c : Cons) → n ≡ 0 → cons_fits tables resources decides n c ≡ false
   no_cons_depth n c h = ap (λ z. cons_fits tables resources decides n z) (sym (roll-out-Cons c)) ∙ ap (λ m. nat_le m n && cons_stands tables resources decides (roll-Cons (out-Cons c))) (cons_depth_is (out-Cons c))
       ∙ ap (λ b. b && cons_stands tables resources decides (roll-Cons (out-Cons c))) (too_deep n (deepest (cons_parts (map-Cons Cons Expr ℕ ℕ cons_depth expr_depth (out-Cons c)))) h)
 
   layer : (n : ℕ) (d : Expr-F Cons Expr) → expr_fits tables resources decides (suc n) (roll-Expr d)
       ≡ (nat_le (suc (deepest (expr_parts (map-Expr Cons Expr ℕ ℕ cons_depth expr_depth d)))) (suc n) && expr_here (map-Expr Cons Expr Bool Bool (cons_stands tables resources decides) (expr_stands tables resources decides) d))
-  layer n d = both_are (λ m b. nat_le m (suc n) && b) (expr_depth (roll-Expr d)) (expr_stands tables resources decides (roll-Expr d)) (suc (deepest (expr_parts (map-Expr Cons Expr ℕ ℕ cons_depth expr_depth d)))) (expr_here (map-Expr Cons Expr Bool Bool (cons_stands tables resources decides) (expr_stands tables resources decides) d)) (depth_is d) (stands_is d)
+  layer n d = both_same (λ m b. nat_le m (suc n) && b) (expr_depth (roll-Expr d)) (suc (deepest (expr_parts (map-Expr Cons Expr ℕ ℕ cons_depth expr_depth d)))) (expr_stands tables resources decides (roll-Expr d)) (expr_here (map-Expr Cons Expr Bool Bool (cons_stands tables resources decides) (expr_stands tables resources decides) d)) (depth_is d) (stands_is d)
 
   cons_layer : (n : ℕ) (d : Cons-F Cons Expr) → cons_fits tables resources decides (suc n) (roll-Cons d)
       ≡ (nat_le (suc (deepest (cons_parts (map-Cons Cons Expr ℕ ℕ cons_depth expr_depth d)))) (suc n) && cons_here (map-Cons Cons Expr Bool Bool (cons_stands tables resources decides) (expr_stands tables resources decides) d))
-  cons_layer n d = both_are (λ m b. nat_le m (suc n) && b) (cons_depth (roll-Cons d)) (cons_stands tables resources decides (roll-Cons d)) (suc (deepest (cons_parts (map-Cons Cons Expr ℕ ℕ cons_depth expr_depth d)))) (cons_here (map-Cons Cons Expr Bool Bool (cons_stands tables resources decides) (expr_stands tables resources decides) d)) (cons_depth_is d) (cons_stands_is d)
+  cons_layer n d = both_same (λ m b. nat_le m (suc n) && b) (cons_depth (roll-Cons d)) (suc (deepest (cons_parts (map-Cons Cons Expr ℕ ℕ cons_depth expr_depth d)))) (cons_stands tables resources decides (roll-Cons d)) (cons_here (map-Cons Cons Expr Bool Bool (cons_stands tables resources decides) (expr_stands tables resources decides) d)) (cons_depth_is d) (cons_stands_is d)
 
   parts_of : (n : ℕ) (here : Bool) (es : List Expr) → (nat_le (suc (deepest (map expr_depth es))) (suc n) && (here && list_all (λ b. b) (map (expr_stands tables resources decides) es))) ≡ (here && list_all (expr_fits tables resources decides n) es)
   parts_of n here es = parts_fit expr_depth (expr_stands tables resources decides) n here es

@@ -12,4 +12,4 @@ pub mod Within
 pub mod FittingForms
 pub mod NodeForms
 pub mod StepForms
-pub mod Ground
+pub mod WholeCores

@@ -1,7 +1,6 @@
 -- The nodes of expressions and constraints, form by form, as the code sees it.
-use Rattle.std.proofs.Common.{◌≡◌, ◌∙◌, ℕ, zero, suc, ◌+◌, ◌<◌, ◌≤◌, ◌^◌, max, Bool, true, false, ◌&&◌, ◌||◌, refl, List, [], ◌∷◌, map, ℤ, ap, sym, arith, inl, inr}
-use Rattle.std.specs.Prelude.{nat_le, not, slice_get, Option, Some, None}
-use Rattle.std.specs.List.{list_all}
+use Rattle.std.proofs.Common.{◌≡◌, ◌∙◌, ℕ, suc, ◌+◌, ◌≤◌, ◌^◌, Bool, refl, List, [], ◌∷◌, map, ℤ, ap, sym, arith, inl, inr}
+use Rattle.std.specs.Prelude.{Some, None}
 use Rattle.opl_expr.specs.declared.forms.Ask.{Ask}
 use Rattle.opl_expr.specs.declared.forms.Op.{Op}
 use Rattle.opl_expr.specs.declared.forms.Expr.{Expr}
@@ -10,7 +9,7 @@ use Rattle.opl_expr.specs.declared.forms.Cons.{Cons}
 use Rattle.opl_expr.specs.declared.forms.Cons.TheVariants as C
 use Rattle.opl_expr.specs.declared.forms.Cons.TheOpen.{Expr-F, Cons-F}
 use Rattle.opl_expr.specs.declared.forms.Cons.TheFolds.{fold-roll-Expr, fold-roll-Cons, map-Expr, map-Cons}
-use Rattle.opl_expr.specs.declared.forms.Cons.TheViews.{roll-Expr, roll-Cons, out-Expr, out-Cons, roll-out-Expr, roll-out-Cons}
+use Rattle.opl_expr.specs.declared.forms.Cons.TheViews.{roll-Expr, roll-Cons}
 use Rattle.opl_trace.specs.GroundCores.{expr_parts, cons_parts, total, expr_nodes, cons_nodes}
 use Rattle.opl_sound.specs.Measures.{small, added}
 use Rattle.opl_sound.specs.Ground.{count}

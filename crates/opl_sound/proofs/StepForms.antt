@@ -1,8 +1,7 @@
 -- Statements and elements, form by form, as the code sees it: whether they are well made, and their nodes.
-use Rattle.std.proofs.Common.{◌≡◌, ◌∙◌, ℕ, zero, suc, ◌+◌, max, Bool, true, false, ◌&&◌, ◌||◌, refl, List, [], ◌∷◌, map, ℤ, ap, sym, arith, inl, inr}
-use Rattle.std.specs.Prelude.{nat_le, not, slice_get, Option, Some, None}
+use Rattle.std.proofs.Common.{◌≡◌, ◌∙◌, ℕ, ◌+◌, Bool, true, false, ◌&&◌, refl, List, [], ◌∷◌, map, ap, sym, subst, arith, length, get_or, ◌<◌}
+use Rattle.std.specs.Prelude.{Some}
 use Rattle.std.specs.List.{list_all}
-use Rattle.opl_expr.specs.declared.forms.Expr.{Expr}
 use Rattle.opl_expr.specs.declared.forms.Cons.{Cons}
 use Rattle.opl_expr.specs.declared.search.Branch as code
 use Rattle.opl_expr.specs.declared.search.Step.{Step}
@@ -13,7 +12,7 @@ use Rattle.opl_expr.specs.declared.search.Step.TheViews.{roll-Step, roll-Branch,
 use Rattle.opl_expr.specs.declared.tables.Table.{Table}
 use Rattle.opl_expr.specs.declared.tables.Resource.{Resource}
 use Rattle.opl_expr.specs.Holds.{same}
-use Rattle.opl_trace.specs.GroundCores.{total, cons_nodes, key_nodes, step_count, branch_count, step_nodes, most_deep, Element, are_alike, are_well_made, is_some_expr, cons_fits, key_fits, step_made, branch_made, is_well_made}
+use Rattle.opl_trace.specs.GroundCores.{cons_nodes, key_nodes, step_count, branch_count, step_nodes, most_deep, Element, are_alike, are_well_made, is_some_expr, cons_fits, key_fits, step_made, branch_made, is_well_made}
 use Rattle.opl_sound.specs.Measures.{small, added}
 use Rattle.opl_sound.specs.Ground.{count, branch_nodes, is_like, element_made}
 use Rattle.opl_sound.proofs.NodeForms.{small_added, one_small, one_more, with_parts}
@@ -133,6 +132,17 @@ same_self : (b : Bool) → same b b ≡ true
 same_self true = refl
 same_self false = refl
 
--- the first element is like itself
-pub like_first : (a : Element) (others : List Element) → list_all (is_like a.rising a.has_key) (a ∷ others) ≡ are_alike (a ∷ others)
-like_first a others = rw (same_self a.rising, same_self a.has_key) refl
+-- the elements are like the first one
+like_all : {X : Type 0} (f : X → Element) (rising keyed : Bool) (xs : List X) → list_all (λ x. is_like rising keyed (f x)) xs ≡ list_all (is_like rising keyed) (map f xs)
+like_all f rising keyed [] = refl
+like_all f rising keyed (x ∷ xs) = ap (λ b. is_like rising keyed (f x) && b) (like_all f rising keyed xs)
+
+like_first : {X : Type 0} (f : X → Element) (x : X) (xs : List X) → list_all (λ y. is_like (f x).rising (f x).has_key (f y)) (x ∷ xs) ≡ are_alike (map f (x ∷ xs))
+like_first f x xs = rw (same_self (f x).rising, same_self (f x).has_key) (like_all f (f x).rising (f x).has_key xs)
+
+pub alike_is : {X : Type 0} (f : X → Element) (xs : List X) (x : X) → 0 < length xs → x ≡ get_or xs 0 x → list_all (λ y. is_like (f x).rising (f x).has_key (f y)) xs ≡ are_alike (map f xs)
+alike_is f [] x h e = absurd (omega (arith, h))
+alike_is f (y ∷ xs) x h e = let s : x ≡ y = e in subst (λ z. list_all (λ w. is_like (f z).rising (f z).has_key (f w)) (y ∷ xs) ≡ are_alike (map f (y ∷ xs))) (sym s) (like_first f y xs)
+
+pub like_same : {X : Type 0} (f : X → Element) (xs : List X) (i j k l : Bool) → i ≡ k → j ≡ l → list_all (λ y. is_like i j (f y)) xs ≡ list_all (λ y. is_like k l (f y)) xs
+like_same f xs i j k l e g = rw (e, g) refl

@@ -1,5 +1,5 @@
 -- Whether a core is a ground core, computed; nodes are counted, unless they are too many.
-use Rattle.std.specs.Prelude.{ℕ, ◌+◌, Bool, true, false, ◌&&◌, ◌||◌, List, [], ◌∷◌, length, map, ℤ, pos, int_le, int_lt, nat_lt, nat_le, nat_eq, slice_index_or, Option, Some, None}
+use Rattle.std.specs.Prelude.{ℕ, Bool, false, ◌&&◌, ◌||◌, List, [], ◌∷◌, length, ℤ, pos, int_le, int_lt, nat_lt, nat_le, nat_eq, slice_index_or, Option, Some, None}
 use Rattle.std.specs.List.{list_all}
 use Rattle.opl_domain.specs.Span.{span_size}
 use Rattle.opl_expr.specs.declared.search.Branch as code

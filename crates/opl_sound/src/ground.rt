@@ -29,7 +29,7 @@ fn is_at_most(limit: u128, count: Option<u128>) -> bool
 }
 
 /// How many numbers are between two ends.
-#[tactic(auto, using(crate::proofs::Ground::sizes))]
+#[tactic(auto, using(crate::proofs::WholeCores::sizes))]
 fn set_values(ends: &(i64, i64)) -> u128
     ensures { result ≡ set_values ends.now }
 {

@@ -209,7 +209,10 @@ fn all_resource_nodes(resources: &[Resource]) -> Option<u128>
 pub fn core_nodes(core: &Core) -> Option<u128>
     ensures { result ≡ node_count core.now }
 {
-    let others = numbers::added(section_nodes(core), all_resource_nodes(core.resources.as_slice()));
+    let others = numbers::added(
+        section_nodes(core),
+        all_resource_nodes(core.resources.as_slice()),
+    );
     numbers::added(
         all_constraint_nodes(core.cons.as_slice()),
         numbers::added(goal_nodes(core), others),

@@ -41,7 +41,7 @@ fn is_like(core: &Core, rising: bool, has_keys: bool, b: &Branch) -> bool
 
 /// Whether it is so with all elements.
 fn are_like(core: &Core, rising: bool, has_keys: bool, elements: &[Branch]) -> bool
-    ensures { result ≡ list_all (is_like rising has_keys) (map (element_made core.now.tables core.now.resources) elements.now) }
+    ensures { result ≡ list_all (λ b. is_like rising has_keys (element_made core.now.tables core.now.resources b)) elements.now }
 {
     for b in elements {
         if !is_like(core, rising, has_keys, b) {
@@ -52,7 +52,6 @@ fn are_like(core: &Core, rising: bool, has_keys: bool, elements: &[Branch]) -> b
 }
 
 /// Whether all elements are ordered alike, and all or none have a key.
-#[tactic(auto, using(crate::proofs::StepForms::made))]
 fn are_alike(core: &Core, elements: &[Branch]) -> bool
     ensures { result ≡ are_alike (map (element_made core.now.tables core.now.resources) elements.now) }
 {

@@ -1,7 +1,7 @@
 use Rattle.std.proofs.Common.{sym, ◌∙◌}
 use Rattle.opl_sound.specs.Ground.{fits_ground}
 use Rattle.opl_sound.proofs.Tells.{tells_true, true_tells}
-use Rattle.opl_sound.proofs.Ground.{ground_told}
+use Rattle.opl_sound.proofs.WholeCores.{ground_told}
 use Rattle.opl_sound.proofs.ground.is_ground.Goals as goal
 
 pub returns : goal.returns

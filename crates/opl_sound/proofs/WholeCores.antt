@@ -1,17 +1,15 @@
 -- The test of a ground core tells whether it is one.
-use Rattle.std.proofs.Common.{◌≡◌, ◌∙◌, ℕ, zero, suc, ◌+◌, ◌<◌, ◌≤◌, ◌^◌, Bool, true, false, cond, ◌&&◌, ◌||◌, refl, List, [], ◌∷◌, map, length, ℤ, pos, negsuc, ◌≤ℤ◌, ◌<ℤ◌, ◌+ℤ◌, neg_ℤ, ap, sym, arith, inl, inr}
-use Rattle.std.specs.Prelude.{nat_lt, nat_le, nat_eq, int_le, int_lt, slice_index_or, Option, Some, None}
-use Rattle.std.specs.List.{All, list_all}
+use Rattle.std.proofs.Common.{◌≡◌, ℕ, zero, suc, ◌+◌, ◌<◌, ◌≤◌, ◌^◌, true, false, ◌&&◌, ◌||◌, refl, List, map, length, ℤ, pos, negsuc, ◌≤ℤ◌, ◌<ℤ◌, ◌+ℤ◌, neg_ℤ, sym, arith, inl, inr}
+use Rattle.std.specs.Prelude.{nat_lt, nat_le, nat_eq, int_le, int_lt, slice_index_or, Option, Some}
+use Rattle.std.specs.List.{list_all}
 use Rattle.std.proofs.lemmas.Int.{ints}
 use Rattle.opl_domain.specs.Span.{span_size, count_from}
-use Rattle.opl_expr.specs.declared.tables.Table.{Table}
 use Rattle.opl_expr.specs.declared.tables.Resource.{Resource}
 use Rattle.opl_expr.specs.declared.tables.Use.{Use}
 use Rattle.opl_expr.specs.declared.model.Core.{Core}
 use Rattle.opl_expr.specs.Sound.{IsSoundTable}
-use Rattle.opl_trace.specs.SoundCores.{IsSoundCore}
 use Rattle.opl_trace.specs.GroundCores.{total, all_values, cons_nodes, goal_nodes, section_nodes, resource_nodes, core_nodes, most_deep, cons_fits, goal_fits, section_fits, HasNoNegative, IsSoundUse, IsSoundResource, IsGroundCore}
-use Rattle.opl_sound.specs.Measures.{small, added, is_whole}
+use Rattle.opl_sound.specs.Measures.{small, is_whole}
 use Rattle.opl_sound.specs.Cores.{fits_core}
 use Rattle.opl_sound.specs.Ground.{count, is_at_most, set_values, lasts, use_fits, resource_fits, node_count, fits_ground}
 use Rattle.opl_sound.proofs.Smaller.{smalls}
