@@ -16,8 +16,8 @@ use opl_range::{cons_range, range, refuted};
 use opl_reference_labelling::{CoreRanges, closure_of, default_marks};
 use opl_reference_search::marks;
 use opl_sound::{
-    are_sound, can_be_best, is_assignment, is_ground, is_sound, is_sound_constraint, is_sound_expression,
-    is_within, magnitude,
+    are_sound, can_be_best, is_assignment, is_ground, is_sound, is_sound_constraint,
+    is_sound_expression, is_within, magnitude,
 };
 use opl_trace::Sets;
 use std::alloc::Global;
