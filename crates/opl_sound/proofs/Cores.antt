@@ -44,7 +44,7 @@ facts_told sets (c ∷ cs) =
 
 -- ---- declared sets
 
-tells_most : (m n : ℕ) → IsTold (nat_le m n) (m ≤ n)
+pub tells_most : (m n : ℕ) → IsTold (nat_le m n) (m ≤ n)
 tells_most m n = elim (nat_le m n) as (λ b. nat_le m n ≡ b → IsTold b (m ≤ n)) [
   | true ↦ λ e. record { told = leb-true m n e }
   | false ↦ λ e. record { told = λ h. let g = leb-false m n e in omega (arith, g, h) }

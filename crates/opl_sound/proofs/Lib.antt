@@ -9,3 +9,7 @@ pub mod Open
 pub mod StatementForms
 pub mod Cores
 pub mod Within
+pub mod FittingForms
+pub mod NodeForms
+pub mod StepForms
+pub mod WholeCores

@@ -41,11 +41,11 @@ tells_both true true h i = record { told = (h.told, i.told) }
 tells_both true false h i = record { told = λ p. i.told p.1 }
 tells_both false c h i = record { told = λ p. h.told p.0 }
 
-tells_is : (b : Bool) → IsTold b (b ≡ true)
+pub tells_is : (b : Bool) → IsTold b (b ≡ true)
 tells_is true = record { told = refl }
 tells_is false = record { told = λ e. cc }
 
-tells_same : (m n : ℕ) → IsTold (nat_eq m n) (m ≡ n)
+pub tells_same : (m n : ℕ) → IsTold (nat_eq m n) (m ≡ n)
 tells_same m n = elim (nat_eq m n) as (λ b. nat_eq m n ≡ b → IsTold b (m ≡ n)) [
   | true ↦ λ e. record { told = (Decides-eqb m n).0 e }
   | false ↦ λ e. record { told = λ h. let g = (Decides-eqb m n).1 h in cc }
@@ -116,7 +116,7 @@ iff_fits None a s h = record { iff = λ p. h.iff p.1 }
 iff_fits (Some n) a s h = record { iff = ((subst IsSmall h.iff.1 s, h.iff.0), h.iff.1) }
 
 module _ (sets : List (ℤ × ℤ)) where
-  whole_tells : (t : Table) → IsTold (is_whole sets t) (IsSoundTable sets (Some t))
+  pub whole_tells : (t : Table) → IsTold (is_whole sets t) (IsSoundTable sets (Some t))
   whole_tells t =
       tells_as (is_whole sets t) (λ h. (h.0, h.1.0, h.1.1)) (λ h. (h.0, (h.1, h.2)))
       (tells_both (nat_eq (length t.cells) (keys t.dims)) (is_clear (Some t) && list_all (is_there (length sets)) t.cells) (tells_same (length t.cells) (keys t.dims))

@@ -152,7 +152,7 @@ fn has_each_cell(table: &Table) -> bool
 
 /// Whether a table has one cell for each combination of indices, no index twice in a dimension, and no cell that names
 /// a variable that isn't there.
-fn is_whole(core: &Core, table: &Table) -> bool
+pub fn is_whole(core: &Core, table: &Table) -> bool
     ensures { result ≡ is_whole core.now.sets table.now }
 {
     has_each_cell(table)

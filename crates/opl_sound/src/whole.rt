@@ -60,7 +60,7 @@ fn fits_section(core: &Core) -> bool
 }
 
 /// The same as whether the core is sound, in the order in which it is found out.
-fn fits_core(core: &Core) -> bool
+pub fn fits_core(core: &Core) -> bool
     ensures { result ≡ fits_core core.now }
 {
     core.sets.len() < 1 << 32

@@ -113,7 +113,7 @@ satisfied_spared (c ∷ cs) a h s =
     (unrefuted (is_possible (fact_range (singles a) c)) (ap is_possible e ∙ holds_possible (holds a c) j.0))
     (satisfied_spared cs a i.1 j.1)
 
-spared_satisfied : (cs : List Fact) (a : List ℤ) → clear_all cs ≡ true → list_any (is_refuted (singles a)) cs ≡ false → satisfies cs a ≡ true
+pub spared_satisfied : (cs : List Fact) (a : List ℤ) → clear_all cs ≡ true → list_any (is_refuted (singles a)) cs ≡ false → satisfies cs a ≡ true
 spared_satisfied [] a h s = refl
 spared_satisfied (c ∷ cs) a h s =
     let i = and_parts (clear_fact c) (clear_all cs) h in

@@ -1,9 +1,8 @@
 -- The solutions of a core, and what its soundness says of its constraints.
-use Rattle.std.proofs.Common.{◌≡◌, true, refl, List, [], ◌∷◌, ℤ}
+use Rattle.std.proofs.Common.{refl, List, [], ℤ}
 use Rattle.std.specs.Prelude.{Option, Some, None}
 use Rattle.std.specs.List.{All}
 use Rattle.std.proofs.lemmas.List.Elements.{All-nil, All-cons, All-append}
-use Rattle.opl_expr.specs.declared.model.Core.{Core}
 use Rattle.opl_expr.specs.Forms.{Term, Fact}
 use Rattle.opl_expr.specs.Forms.Relation.{equal}
 use Rattle.opl_expr.specs.Solutions.{facts, goal_term, definedness, base, declared, is_solution}

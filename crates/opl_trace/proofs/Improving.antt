@@ -1,5 +1,5 @@
 -- Default search with an objective finds the solutions that are better than all before them.
-use Rattle.std.proofs.Common.{◌≡◌, ◌∙◌, ℕ, zero, suc, ◌+◌, ◌<◌, Bool, true, false, cond, ◌&&◌, refl, List, [], ◌∷◌, ◌++◌, map, length, ℤ, inl, inr, ap, sym, subst, arith, append-nil}
+use Rattle.std.proofs.Common.{◌≡◌, ◌∙◌, ℕ, zero, suc, ◌+◌, ◌<◌, Bool, true, false, cond, ◌&&◌, refl, List, [], ◌∷◌, ◌++◌, length, ℤ, inl, inr, ap, sym, subst, arith, append-nil}
 use Rattle.std.specs.Prelude.{int_lt, Option, Some, None}
 use Rattle.std.specs.List.{list_any, filter, flat_map}
 use Rattle.std.proofs.Math.Bool.{and-true}
@@ -30,7 +30,7 @@ use Rattle.opl_trace.proofs.Found.{sets, IsOne, found, failed_found, found_split
 
 -- ---- lists
 
-filter_both : {A : Type 0} (p q : A → Bool) (xs : List A) → filter q (filter p xs) ≡ filter (λ x. p x && q x) xs
+pub filter_both : {A : Type 0} (p q : A → Bool) (xs : List A) → filter q (filter p xs) ≡ filter (λ x. p x && q x) xs
 filter_both p q [] = refl
 filter_both p q (x ∷ xs) = elim (p x) as (λ b. filter q (cond b (x ∷ filter p xs) (filter p xs)) ≡ cond (b && q x) (x ∷ filter (λ y. p y && q y) xs) (filter (λ y. p y && q y) xs)) [
   | true ↦ rw (filter_both p q xs) refl
@@ -46,7 +46,7 @@ filter_first q (x ∷ xs) ys a h = elim (q x) as (λ b. q x ≡ b → cond b (x 
 
 -- ---- the bound on an assignment
 
-clear_better : (m : Bool) (t : Term) (i : ℤ) → clear t ≡ true → (clear_fact (better_than (record { is_most = m; term = t }) i) && true) ≡ true
+pub clear_better : (m : Bool) (t : Term) (i : ℤ) → clear t ≡ true → (clear_fact (better_than (record { is_most = m; term = t }) i) && true) ≡ true
 clear_better true t i h = rw h refl
 clear_better false t i h = rw h refl
 
@@ -58,14 +58,14 @@ least_better : (t : Term) (i : ℤ) (o : Option ℤ) → (is_true (lift (relates
 least_better t i None = refl
 least_better t i (Some v) = and-true (int_lt v i)
 
-holds_better : (m : Bool) (t : Term) (i : ℤ) (a : List ℤ) → (is_true (holds a (better_than (record { is_most = m; term = t }) i)) && true) ≡ is_better (record { is_most = m; term = t }) (value a t) (Some i)
+pub holds_better : (m : Bool) (t : Term) (i : ℤ) (a : List ℤ) → (is_true (holds a (better_than (record { is_most = m; term = t }) i)) && true) ≡ is_better (record { is_most = m; term = t }) (value a t) (Some i)
 holds_better true t i a = most_better t i (value a t)
 holds_better false t i a = least_better t i (value a t)
 
 defined_better : (g : Objective) (o : Option ℤ) → (v : ℤ) × (o ≡ Some v) → is_better g o None ≡ true
 defined_better g o d = rw d.1 refl
 
-bound_is : (g : Objective) (P : List Fact) (b : Option ℤ) (a : List ℤ) → Defines (Some g) P → satisfies (P ++ bound (Some g) b) a ≡ (satisfies P a && is_better g (value a g.term) b)
+pub bound_is : (g : Objective) (P : List Fact) (b : Option ℤ) (a : List ℤ) → Defines (Some g) P → satisfies (P ++ bound (Some g) b) a ≡ (satisfies P a && is_better g (value a g.term) b)
 bound_is g P None a d =
     rw (append-nil P) (same_tests (satisfies P a) (satisfies P a && is_better g (value a g.term) None)
     (λ s. and_from (satisfies P a) (is_better g (value a g.term) None) s (defined_better g (value a g.term) (d a s)))
@@ -73,11 +73,11 @@ bound_is g P None a d =
 bound_is g P (Some i) a d =
     list_all-append (λ c. is_true (holds a c)) P (better_than g i ∷ []) ∙ ap (λ t. satisfies P a && t) (holds_better g.is_most g.term i a)
 
-clear_bound : (g : Objective) (P : List Fact) (b : Option ℤ) → clear g.term ≡ true → clear_all P ≡ true → clear_all (P ++ bound (Some g) b) ≡ true
+pub clear_bound : (g : Objective) (P : List Fact) (b : Option ℤ) → clear g.term ≡ true → clear_all P ≡ true → clear_all (P ++ bound (Some g) b) ≡ true
 clear_bound g P None t h = rw (append-nil P) h
 clear_bound g P (Some i) t h = list_all-append clear_fact P (better_than g i ∷ []) ∙ rw h (clear_better g.is_most g.term i t)
 
-defines_more : (g : Objective) (P Q : List Fact) → Defines (Some g) P → Defines (Some g) (P ++ Q)
+pub defines_more : (g : Objective) (P Q : List Fact) → Defines (Some g) P → Defines (Some g) (P ++ Q)
 defines_more g P Q d a s =
     let t : (satisfies P a && satisfies Q a) ≡ true = sym (list_all-append (λ c. is_true (holds a c)) P Q) ∙ s in
     d a (and_parts (satisfies P a) (satisfies Q a) t).0
@@ -99,16 +99,16 @@ some_is F G e = cc
 -- ---- outcomes
 
 -- an outcome without a Cut has the better ones of these assignments, and their best value
-abbrev SolvesBest : Objective → Option ℤ → List (List ℤ) → Out → Type 0
+abbrev pub SolvesBest : Objective → Option ℤ → List (List ℤ) → Out → Type 0
 SolvesBest g b S o = o.is_cut ≡ false → (solved o.marks ≡ improving_from g b S) × (o.best ≡ best_of g b S)
 
-solves_same : (g : Objective) (b : Option ℤ) (L M : List (List ℤ)) (o : Out) → IsSame g b L M → SolvesBest g b L o → SolvesBest g b M o
+pub solves_same : (g : Objective) (b : Option ℤ) (L M : List (List ℤ)) (o : Out) → IsSame g b L M → SolvesBest g b L o → SolvesBest g b M o
 solves_same g b L M o s h c = let r = h c in (r.0 ∙ s.improves, r.1 ∙ s.best)
 
 same_back : (g : Objective) (b : Option ℤ) (L M : List (List ℤ)) → IsSame g b L M → IsSame g b M L
 same_back g b L M s = record { improves = sym s.improves; best = sym s.best }
 
-after_best : (g : Objective) (b : Option ℤ) (o : Out) (f : Option ℤ → ℕ → Out) (S T : List (List ℤ)) → SolvesBest g b S o → ((n : ℕ) → SolvesBest g (best_of g b S) T (f (best_of g b S) n)) → SolvesBest g b (S ++ T) (after o f)
+pub after_best : (g : Objective) (b : Option ℤ) (o : Out) (f : Option ℤ → ℕ → Out) (S T : List (List ℤ)) → SolvesBest g b S o → ((n : ℕ) → SolvesBest g (best_of g b S) T (f (best_of g b S) n)) → SolvesBest g b (S ++ T) (after o f)
 after_best g b o f S T h k =
     elim (o.is_cut) as (λ c. o.is_cut ≡ c → SolvesBest g b (S ++ T) (cond c o (behind o.marks (f o.best o.left)))) [
       | true ↦ λ e i. cc
@@ -201,7 +201,7 @@ module _ (g : Objective) (D : Family) where
       let better : is_better g (value (values_of C) g.term) b ≡ true = filter_first (λ a. is_better g (value a g.term) b) (found D P) [] (values_of C) (sym (found_bound P b d) ∙ sym one) in
       (sym (ap (improving_from g b) (sym one) ∙ rw better refl), sym (ap (best_of g b) (sym one) ∙ rw better refl))
 
-  label_best : ((y : ℕ) → IsRising (set_of D y)) → clear g.term ≡ true → (m x : ℕ) → x + m ≡ length D → (P : List Fact) → clear_all P ≡ true → Defines (Some g) P → (b : Option ℤ) → AreOneBetter P x b → (n : ℕ) →
+  pub label_best : ((y : ℕ) → IsRising (set_of D y)) → clear g.term ≡ true → (m x : ℕ) → x + m ≡ length D → (P : List Fact) → clear_all P ≡ true → Defines (Some g) P → (b : Option ℤ) → AreOneBetter P x b → (n : ℕ) →
       SolvesBest g b (found D P) (label (Some g) (closed (Some g) D) (numbers_from x m) (whole_leaf (Some g) (closed (Some g) D)) P b n)
   label_best r t zero x l P h d b o n =
       within_best (λ C. whole_leaf (Some g) (closed (Some g) D)) P b n d (clear_bound g P b t h)

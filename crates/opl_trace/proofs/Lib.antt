@@ -17,3 +17,8 @@ pub mod Found
 pub mod Better
 pub mod Improving
 pub mod CoreSolutions
+pub mod WithoutVariables
+pub mod Answering
+pub mod SoundForms
+pub mod Reached
+pub mod Marked

@@ -1,5 +1,5 @@
 -- What holds of families that are narrowed step by step, and of sound cores, as propagation and search need it.
-use Rattle.std.specs.Prelude.{◌≡◌, ℕ, Bool, true, List, [], ◌++◌, length, ℤ, Option, Some, None}
+use Rattle.std.specs.Prelude.{◌≡◌, ℕ, Bool, true, List, ◌++◌, length, ℤ, Option, Some, None}
 use Rattle.std.specs.List.{filter}
 use Rattle.opl_domain.specs.Family.{Family, set_of, cut_of}
 use Rattle.opl_expr.specs.declared.model.Core.{Core}

@@ -17,3 +17,5 @@ pub mod SoundCores
 pub mod Moments
 pub mod SearchLaws
 pub mod EngineLaws
+pub mod GroundCores
+pub mod GroundLaws

@@ -1,6 +1,7 @@
 //! Laws of stable families, of the closure, of searches and of cores. Each law is the contract of a function without effect.
 ghost use Rattle.opl_trace.specs.ClosureLaws.{UnionIsStable, ClosureIsGreatest, ClosureIsUnion, NoneLost};
 ghost use Rattle.opl_trace.specs.EngineLaws.{StableForFewer, StableUnderWorse, KeptCloses, SolutionsSatisfy, BaseIsSound};
+ghost use Rattle.opl_trace.specs.GroundLaws.{PlainSections, MarksAreSolutions};
 ghost use Rattle.opl_trace.specs.SearchLaws.{Prefix, Counted, Enough, RefutingIsMonotone, MomentIsClosure, SolutionsStay, SinglesHold, SweepsClose, SweepsTrace, PostingNarrows, PostedIsSingle, AllFound, BestFound};
 
 /// The union of any stable families of the same variables is stable.
@@ -111,4 +112,14 @@ pub fn solutions_satisfy()
 /// A sound core has sound constraints to begin with.
 pub fn bases_are_sound()
     ensures { BaseIsSound }
+{}
+
+/// Of a plain section the Solution marks are the solutions that its paths reach, or the better ones of them.
+pub fn plain_sections_are_reached()
+    ensures { PlainSections }
+{}
+
+/// Each Solution mark of a search is a solution.
+pub fn marks_are_solutions()
+    ensures { MarksAreSolutions }
 {}

@@ -16,8 +16,8 @@ use opl_range::{cons_range, range, refuted};
 use opl_reference_labelling::{CoreRanges, closure_of, default_marks};
 use opl_reference_search::marks;
 use opl_sound::{
-    are_sound, can_be_best, is_assignment, is_sound, is_sound_constraint, is_sound_expression,
-    is_within, magnitude,
+    are_sound, can_be_best, is_assignment, is_ground, is_sound, is_sound_constraint,
+    is_sound_expression, is_within, magnitude,
 };
 use opl_trace::Sets;
 use std::alloc::Global;
@@ -352,6 +352,7 @@ fn push_answer(
     let budget = number(written).unsigned_abs();
     match word {
         "sound?" => push_truth(text, is_sound(core)),
+        "ground?" => push_truth(text, is_ground(core)),
         "range?" | "cons_range?" | "values?" => push_over(alloc, text, core, word, written),
         "closure?" => push_closure(alloc, text, core, None),
         "better?" => push_closure(alloc, text, core, Some(number(written) as i128)),

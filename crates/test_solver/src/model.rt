@@ -1,6 +1,7 @@
 //! Ground models that are read line by line.
 //!
-//! `set LOW HIGH` declares one more variable, and `constraint TEXT`, `least TEXT`, `greatest TEXT` and `search WORDS` are the
+//! `set LOW HIGH` declares one more variable, `sets COUNT LOW HIGH` so many alike, and `name` one more name than there are
+//! variables. `constraint TEXT`, `least TEXT`, `greatest TEXT` and `search WORDS` are the
 //! other parts. `table INDICES / INDICES : CELLS` is a table, whose cells are numbers and letters of variables, and
 //! `resource CAPACITY FROM TO : DEMAND START DURATION / ..` a resource with its uses.
 use crate::reader::{constraint, expression, variable};
@@ -13,6 +14,7 @@ use std::alloc::Global;
 #[derive(Drop)]
 pub struct Parts {
     alloc: Global,
+    names: Seq<Seq<u8>>,
     sets: Seq<(i64, i64)>,
     tables: Seq<Table>,
     resources: Seq<Resource>,
@@ -97,6 +99,7 @@ impl Parts {
     pub fn new(alloc: Global) -> Parts {
         Parts {
             alloc,
+            names: Seq::new(alloc),
             sets: Seq::new(alloc),
             tables: Seq::new(alloc),
             resources: Seq::new(alloc),
@@ -106,9 +109,22 @@ impl Parts {
         }
     }
 
+    fn name(&mut self) -> Result<(), OutOfMemory> {
+        self.names.push(Seq::new(self.alloc))?;
+        Ok(())
+    }
+
     fn set(&mut self, text: &str) -> Result<(), OutOfMemory> {
         let (low, high) = text.split_once(" ").unwrap_or((text, ""));
         self.sets.push((number(low), number(high)))?;
+        self.name()
+    }
+
+    fn sets(&mut self, text: &str) -> Result<(), OutOfMemory> {
+        let (count, ends) = text.split_once(" ").unwrap_or((text, ""));
+        for _ in 0..number(count) {
+            self.set(ends)?;
+        }
         Ok(())
     }
 
@@ -166,7 +182,9 @@ impl Parts {
     /// Reads a line. One that is no part of a model tells nothing.
     pub fn read(&mut self, line: &str) -> Result<(), OutOfMemory> {
         match line.split_once(" ") {
+            Some(("name", _text)) => self.name(),
             Some(("set", text)) => self.set(text),
+            Some(("sets", text)) => self.sets(text),
             Some(("table", text)) => self.table(text),
             Some(("resource", text)) => self.resource(text),
             Some(("constraint", text)) => self.constraint(text),
@@ -180,7 +198,8 @@ impl Parts {
     /// The model of the parts.
     pub fn into_core(self) -> Core {
         let Parts {
-            alloc,
+            alloc: _,
+            names,
             sets,
             tables,
             resources,
@@ -191,7 +210,7 @@ impl Parts {
         let mut goals = goals;
         let mut sections = sections;
         Core {
-            names: Seq::new(alloc),
+            names,
             sets,
             tables,
             resources,

@@ -1,0 +1,4 @@
+pub mod Lessening
+pub mod Failed
+pub mod Meaning
+pub mod Bounds
