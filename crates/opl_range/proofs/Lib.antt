@@ -5,8 +5,10 @@ pub mod Plain
 pub mod Parts
 pub mod Roots
 pub mod Minus
+pub mod Named
 pub mod Compare
 pub mod Tables
+pub mod TableRows
 pub mod Demands
 pub mod Answers
 pub mod Arms

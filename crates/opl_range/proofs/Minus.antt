@@ -9,13 +9,13 @@ use Rattle.opl_domain.specs.Family.{Family, has, hull, Below}
 use Rattle.opl_expr.specs.declared.model.Core.{Core}
 use Rattle.opl_expr.specs.declared.forms.Expr.{Expr}
 use Rattle.opl_expr.specs.Options.{lift1}
-use Rattle.opl_expr.specs.Range.{span_scale, weighted, with_variables, coef, rest}
+use Rattle.opl_expr.specs.Range.{weighted, with_variables, coef, rest}
 use Rattle.opl_expr.specs.Solutions.{declared}
 use Rattle.opl_expr.specs.Sound.{IsSmall, var_magnitude, term_magnitude}
 use Rattle.opl_expr.proofs.Bounds.{lift1_parts, lift_parts}
 use Rattle.opl_range.specs.Magnitudes.{weight}
 use Rattle.opl_range.specs.Between.{term_of, between, rest_between, CanCompare}
-use Rattle.opl_range.proofs.Bounds.{add_bound, neg_bound, scale_bound}
+use Rattle.opl_range.proofs.Bounds.{add_bound, neg_bound}
 use Rattle.opl_range.proofs.Weights.{has_declared, hulls_small, weight_minus, coef_weight, weighted_bound, rest_bound}
 use Rattle.opl_range.proofs.Parts.{coef_small}
 use Rattle.opl_range.proofs.Roots.{last_or_before}
@@ -38,14 +38,6 @@ hull_part core F c n b = mul-le-mul_left (unsigned_abs (c n)) (hulls_small core 
 pub scaled_fits : (core : Core) (F : Family) (a b : Expr) (n : ℕ) (k : ℤ) (h : Span) → Below F (declared core) → CanCompare core a b → k ≡ between core a b n → h ≡ hull F n → IsSmall (unsigned_abs k * magnitude h)
 scaled_fits core F a b n k h w s i j =
     rw (i, j) (omega (arith, s.0, hull_part core F (between core a b) n w, between_weight core a b (suc n)))
-
-pub sum_fits : (core : Core) (F : Family) (a b : Expr) (n : ℕ) (k : ℤ) (h u v : Span) → Below F (declared core) → CanCompare core a b → k ≡ between core a b n → h ≡ hull F n → u ≡ weighted F (between core a b) n → v ≡ span_scale k h
-    → magnitude u + magnitude v < 170141183460469231731687303715884105728
-sum_fits core F a b n k h u v w s i j e f =
-    let p = subst (λ z. magnitude z ≤ weight core.sets (between core a b) n) (sym e) (weighted_bound core.sets F (hulls_small core F w) (between core a b) n) in
-    let q = subst (λ z. magnitude z ≤ unsigned_abs k * magnitude h) (sym f) (scale_bound k h) in
-    let t : unsigned_abs k * magnitude h ≤ unsigned_abs (between core a b n) * var_magnitude core.sets n = rw (i, j) (hull_part core F (between core a b) n w) in
-    omega (arith, s.0, p, q, t, between_weight core a b (suc n))
 
 -- what a minus b has beside its variables is small together with them
 pub rest_fits : (core : Core) (F : Family) (a b : Expr) (r : Span) → Below F (declared core) → CanCompare core a b → Some r ≡ rest_between F core a b → IsSmall (weight core.sets (between core a b) (length F) + magnitude r)

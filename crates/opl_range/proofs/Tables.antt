@@ -1,17 +1,18 @@
 -- Which cells of a table are taken, one after another.
 use Rattle.std.proofs.Common.{◌≡◌, ℕ, zero, suc, ◌+◌, ◌-◌, ◌*◌, ◌/◌, ◌%◌, ◌≤◌, ◌<◌, Bool, true, false, ◌&&◌, refl, List, [], ◌∷◌, ◌++◌, map, length, get_or, drop, ℤ, pos, ap, sym, ◌∙◌, subst, arith}
-use Rattle.std.specs.Prelude.{Option, Some, None, unsigned_abs}
+use Rattle.std.specs.Prelude.{Option, Some, unsigned_abs}
 use Rattle.std.specs.List.{flat_map, list_all}
 use Rattle.opl_domain.specs.Span.{Span}
 use Rattle.opl_domain.specs.Arithmetic.{span_hull}
 use Rattle.opl_domain.specs.Family.{Family}
 use Rattle.opl_expr.specs.declared.tables.Cell.{Cell}
-use Rattle.opl_expr.specs.Options.{combined, joined}
+use Rattle.opl_expr.specs.Options.{combined}
 use Rattle.opl_expr.specs.Forms.{Term, terms_of}
 use Rattle.opl_expr.specs.Range.{Linear, taken, chosen, masks, cell_range, may_be, linears, coef, pure, rest}
 use Rattle.opl_expr.proofs.Bounds.{both_true}
 use Rattle.std.proofs.Math.Nat.{mod-lt, div-lt_iff_lt-mul}
 use Rattle.opl_expr.specs.Sound.{IsSmall, term_magnitude, greatest_abs, FitDimensions, keys, is_there}
+use Rattle.opl_range.specs.Between.{joined_onto}
 use Rattle.opl_expr.proofs.Parts.{drop_at, drop_none, one_less, any_default}
 use Rattle.std.proofs.lemmas.Nat.{div-mul-add, div-add-mod'}
 
@@ -19,7 +20,7 @@ use Rattle.std.proofs.lemmas.Nat.{div-mul-add, div-add-mod'}
 abbrev pub bit : List (List Bool) → ℕ → Bool
 bit ms k = get_or (taken ms) k false
 
-abbrev rows : List Bool → List Bool → List Bool
+abbrev pub rows : List Bool → List Bool → List Bool
 rows T bs = flat_map (λ b. map (λ c. b && c) T) bs
 
 length_append : {X : Type 0} (xs ys : List X) → length (xs ++ ys) ≡ length xs + length ys
@@ -34,11 +35,11 @@ length_rows : (T bs : List Bool) → length (rows T bs) ≡ length bs * length T
 length_rows T [] = omega arith
 length_rows T (b ∷ bs) = omega (arith, length_append (map (λ c. b && c) T) (rows T bs), length_anded b T, length_rows T bs)
 
-length_map : {X Y : Type 0} (f : X → Y) (xs : List X) → length (map f xs) ≡ length xs
+pub length_map : {X Y : Type 0} (f : X → Y) (xs : List X) → length (map f xs) ≡ length xs
 length_map f [] = refl
 length_map f (x ∷ xs) = ap suc (length_map f xs)
 
-pub length_taken : {E : Type 0} (may : E → ℤ → Bool) (dims : List (List ℤ)) (es : List E) → length es ≡ length dims → length (taken (masks may dims es)) ≡ keys dims
+pub length_taken : {E : Type 0} (may : E → ℤ → Bool) (dims : List (List ℤ)) (es : List E) → length dims ≤ length es → length (taken (masks may dims es)) ≡ keys dims
 length_taken may [] es h = refl
 length_taken may (dim ∷ dims) [] h = absurd (omega (arith, h))
 length_taken may (dim ∷ dims) (e ∷ es) h =
@@ -68,7 +69,7 @@ at_rows T (b ∷ bs) (suc p) q n e h =
     let i : suc p * n + q ≡ length (map (λ c. b && c) T) + (p * n + q) = omega (arith, length_anded b T, e) in
     rw i (at_right (map (λ c. b && c) T) (rows T bs) (p * n + q) ∙ at_rows T bs p q n e h)
 
-at_map : (f : ℤ → Bool) (xs : List ℤ) (p : ℕ) → p < length xs → get_or (map f xs) p false ≡ f (get_or xs p (pos 0))
+pub at_map : (f : ℤ → Bool) (xs : List ℤ) (p : ℕ) → p < length xs → get_or (map f xs) p false ≡ f (get_or xs p (pos 0))
 at_map f [] p h = absurd (omega (arith, h))
 at_map f (x ∷ xs) zero h = refl
 at_map f (x ∷ xs) (suc p) h = at_map f xs p (omega (arith, h))
@@ -101,9 +102,6 @@ module _ {X : Type 0} (F : Family) (f : X → Term) (dims : List (List ℤ)) (pa
 
   abbrev pub linear : X → Linear
   linear x = record { coef = coef (f x); pure = pure (f x); rest = rest F (f x) }
-
-  pub whole_length : (n : ℕ) → length parts ≡ length dims → n ≡ keys dims → length (taken (marks 0)) ≡ n
-  whole_length n l e = length_taken (may_be F) dims (linears F (terms_of (map f parts))) (length_linears F f parts ∙ l) ∙ sym e
 
   pub reach_start : (cell n : ℕ) → n ≡ keys dims → cell < n → IsReached cell 0 n cell
   reach_start cell n e h = record { whole = e; below = h; same = refl }
@@ -142,7 +140,7 @@ module _ {X : Type 0} (F : Family) (f : X → Term) (dims : List (List ℤ)) (pa
       let w = drop_at dims k dim h (e ∙ any_default dims k d dim h) in
       divided dim k size place (keys (drop (k + 1) dims)) (r.whole ∙ ap keys w) r.below refl
 
-  pub reach_bit : (cell k size place : ℕ) (dim d : List ℤ) (part : X) → IsReached cell k size place → length parts ≡ length dims → k < length dims → dim ≡ get_or dims k d → part ≡ get_or parts k part
+  pub reach_bit : (cell k size place : ℕ) (dim d : List ℤ) (part : X) → IsReached cell k size place → length dims ≤ length parts → k < length dims → dim ≡ get_or dims k d → part ≡ get_or parts k part
       → bit (marks 0) cell ≡ (may_be F (linear part) (get_or dim (place / (size / length dim)) (pos 0)) && bit (marks (k + 1)) (place % (size / length dim)))
   reach_bit cell k size place dim d part r l h e i =
       let s = reach_sizes cell k size place dim d r h e in
@@ -152,13 +150,13 @@ module _ {X : Type 0} (F : Family) (f : X → Term) (dims : List (List ℤ)) (pa
       let split : place ≡ place / m * m + place % m = sym (div-add-mod' place m) in
       let T = taken (marks (k + 1)) in
       let long : length T ≡ m =
-      length_taken (may_be F) (drop (k + 1) dims) (linears F (terms_of (map f (drop (k + 1) parts)))) (length_linears F f (drop (k + 1) parts) ∙ length_drop parts (k + 1) ∙ ap (λ n. n - (k + 1)) l ∙ sym (length_drop dims (k + 1))) ∙ sym s.size_is in
+      length_taken (may_be F) (drop (k + 1) dims) (linears F (terms_of (map f (drop (k + 1) parts)))) (omega (arith, l, length_linears F f (drop (k + 1) parts), length_drop parts (k + 1), length_drop dims (k + 1))) ∙ sym s.size_is in
       let first : bit (marks k) place ≡ get_or (rows T (map (may_be F (linear part)) dim)) place false = ap (λ D. bit (masks (may_be F) D (linears F (terms_of (map f (drop k parts))))) place) w ∙ ap (λ P. bit (masks (may_be F) (dim ∷ drop (k + 1) dims) (linears F (terms_of (map f P)))) place) v in
       r.same ∙ first ∙ ap (λ n. get_or (rows T (map (may_be F (linear part)) dim)) n false) split
       ∙ at_rows T (map (may_be F (linear part)) dim) (place / m) (place % m) m long (mod-lt place s.size_some)
       ∙ ap (λ b. b && get_or T (place % m) false) (at_map (may_be F (linear part)) dim (place / m) s.index)
 
-  pub reach_next : (cell k size place : ℕ) (dim d : List ℤ) (part : X) (b : Bool) → IsReached cell k size place → length parts ≡ length dims → k < length dims → dim ≡ get_or dims k d → part ≡ get_or parts k part
+  pub reach_next : (cell k size place : ℕ) (dim d : List ℤ) (part : X) (b : Bool) → IsReached cell k size place → length dims ≤ length parts → k < length dims → dim ≡ get_or dims k d → part ≡ get_or parts k part
       → b ≡ may_be F (linear part) (get_or dim (place / (size / length dim)) (pos 0)) → b ≡ true → IsReached cell (k + 1) (size / length dim) (place % (size / length dim))
   reach_next cell k size place dim d part b r l h e i m t =
       let s = reach_sizes cell k size place dim d r h e in
@@ -168,7 +166,7 @@ module _ {X : Type 0} (F : Family) (f : X → Term) (dims : List (List ℤ)) (pa
         same = reach_bit cell k size place dim d part r l h e i ∙ ap (λ z. z && bit (marks (k + 1)) (place % (size / length dim))) (sym m ∙ t);
       }
 
-  pub reach_missed : (cell k size place : ℕ) (dim d : List ℤ) (part : X) (b : Bool) → IsReached cell k size place → length parts ≡ length dims → k < length dims → dim ≡ get_or dims k d → part ≡ get_or parts k part
+  pub reach_missed : (cell k size place : ℕ) (dim d : List ℤ) (part : X) (b : Bool) → IsReached cell k size place → length dims ≤ length parts → k < length dims → dim ≡ get_or dims k d → part ≡ get_or parts k part
       → b ≡ may_be F (linear part) (get_or dim (place / (size / length dim)) (pos 0)) → b ≡ false → bit (marks 0) cell ≡ false
   reach_missed cell k size place dim d part b r l h e i m t =
       reach_bit cell k size place dim d part r l h e i ∙ ap (λ z. z && bit (marks (k + 1)) (place % (size / length dim))) (sym m ∙ t)
@@ -185,23 +183,30 @@ module _ {X : Type 0} (F : Family) (f : X → Term) (dims : List (List ℤ)) (pa
       drop_past (y ∷ ys) zero h = absurd (omega (arith, h))
       drop_past (y ∷ ys) (suc k) h = drop_past ys k (omega (arith, h))
 
--- the hull of the cells from a place on that are taken
-abbrev pub hull_from : Family → List Bool → List Cell → ℕ → Option Span
-hull_from F bs cells L = joined span_hull (map (cell_range F) (chosen (drop L bs) (drop L cells)))
+-- ---- the cells of a row, from a place on
+
+-- the hull of the cells from a place on that are taken, and of what was found before
+abbrev pub hull_from : Family → List Bool → List Cell → Option Span → ℕ → Option Span
+hull_from F bs cells o L = joined_onto span_hull (map (cell_range F) (chosen (drop L bs) (drop L cells))) o
 
 before : {Y : Type 0} (ys : List Y) (L : ℕ) (y : Y) → 0 < L → L ≤ length ys → drop (L - 1) ys ≡ get_or ys (L - 1) y ∷ drop L ys
 before ys L y p h = subst (λ k. drop (L - 1) ys ≡ get_or ys (L - 1) y ∷ drop k ys) (one_less L p) (drop_at ys (L - 1) (get_or ys (L - 1) y) (omega (arith, p, h)) (any_default ys (L - 1) y (get_or ys (L - 1) y) (omega (arith, p, h))))
 
-pub hull_start : (F : Family) (bs : List Bool) (cells : List Cell) → length bs ≡ length cells → None ≡ hull_from F bs cells (length cells)
-hull_start F bs cells e = rw (sym e, drop_none bs) refl
+pub hull_start : (F : Family) (bs : List Bool) (cells : List Cell) (o : Option Span) (n : ℕ) → length bs ≡ n → o ≡ hull_from F bs cells o n
+hull_start F bs cells o n e = rw (sym e, drop_none bs) refl
 
-pub hull_skips : (F : Family) (bs : List Bool) (cells : List Cell) (L : ℕ) (c : Cell) (found : Option Span) → length bs ≡ length cells → 0 < L → L ≤ length cells → get_or bs (L - 1) false ≡ false → found ≡ hull_from F bs cells L → found ≡ hull_from F bs cells (L - 1)
-hull_skips F bs cells L c found e p h t i = rw (before bs L false p (omega (arith, h, e)), before cells L c p h, t) i
+module _ (F : Family) (may : ℤ → Bool) (dim : List ℤ) (cells : List Cell) (o : Option Span) (L : ℕ) (c : Cell) (found : Option Span) where
+  pub hull_skips : (b : Bool) → length cells ≡ length dim → 0 < L → L ≤ length dim → b ≡ may (get_or dim (L - 1) (pos 0)) → b ≡ false → found ≡ hull_from F (map may dim) cells o L → found ≡ hull_from F (map may dim) cells o (L - 1)
+  hull_skips b e p h t z i =
+      let q : get_or (map may dim) (L - 1) false ≡ false = at_map may dim (L - 1) (omega (arith, p, h)) ∙ sym t ∙ z in
+      rw (before (map may dim) L false p (omega (arith, h, length_map may dim)), before cells L c p (omega (arith, h, e)), q) i
 
-pub hull_takes : (F : Family) (bs : List Bool) (cells : List Cell) (L : ℕ) (c : Cell) (found : Option Span) (r u : Span) → length bs ≡ length cells → 0 < L → L ≤ length cells → get_or bs (L - 1) false ≡ true → found ≡ hull_from F bs cells L
-    → u ≡ cell_range F (get_or cells (L - 1) c) → r ≡ combined span_hull u found → Some r ≡ hull_from F bs cells (L - 1)
-hull_takes F bs cells L c found r u e p h t i j k =
-    rw (before bs L false p (omega (arith, h, e)), before cells L c p h, t) (ap Some (k ∙ ap (λ z. combined span_hull z found) j ∙ ap (combined span_hull (cell_range F (get_or cells (L - 1) c))) i))
+  pub hull_takes : (b : Bool) (r u : Span) → length cells ≡ length dim → 0 < L → L ≤ length dim → b ≡ may (get_or dim (L - 1) (pos 0)) → b ≡ true → found ≡ hull_from F (map may dim) cells o L
+      → u ≡ cell_range F (get_or cells (L - 1) c) → r ≡ combined span_hull u found → Some r ≡ hull_from F (map may dim) cells o (L - 1)
+  hull_takes b r u e p h t z i j k =
+      let q : get_or (map may dim) (L - 1) false ≡ true = at_map may dim (L - 1) (omega (arith, p, h)) ∙ sym t ∙ z in
+      rw (before (map may dim) L false p (omega (arith, h, length_map may dim)), before cells L c p (omega (arith, h, e)), q)
+      (ap Some (k ∙ ap (λ z. combined span_hull z found) j ∙ ap (combined span_hull (cell_range F (get_or cells (L - 1) c))) i))
 
 pub cell_there : (n : ℕ) (cells : List Cell) (k : ℕ) (c : Cell) → k < length cells → list_all (is_there n) cells ≡ true → is_there n (get_or cells k c) ≡ true
 cell_there n [] k c h e = absurd (omega (arith, h))
@@ -209,7 +214,7 @@ cell_there n (d ∷ cells) zero c h e = (both_true (is_there n d) (list_all (is_
 cell_there n (d ∷ cells) (suc k) c h e = cell_there n cells k c (omega (arith, h)) (both_true (is_there n d) (list_all (is_there n) cells) e).1
 
 -- each index can be compared with its subscript
-abs_at : (dim : List ℤ) (p : ℕ) → p < length dim → unsigned_abs (get_or dim p (pos 0)) ≤ greatest_abs dim
+pub abs_at : (dim : List ℤ) (p : ℕ) → p < length dim → unsigned_abs (get_or dim p (pos 0)) ≤ greatest_abs dim
 abs_at [] p h = absurd (omega (arith, h))
 abs_at (v ∷ dim) zero h = omega arith
 abs_at (v ∷ dim) (suc p) h = omega (arith, abs_at dim p (omega (arith, h)))

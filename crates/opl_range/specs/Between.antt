@@ -1,5 +1,5 @@
 -- The difference of two expressions of a core: the linear form on which a comparison is decided.
-use Rattle.std.specs.Prelude.{◌≡◌, ◌≢◌, ◌↔◌, ℕ, ◌<◌, Bool, cond, ◌&&◌, ℤ, pos, ◌+ℤ◌, ◌*ℤ◌, neg_ℤ, Option, Some, None}
+use Rattle.std.specs.Prelude.{◌≡◌, ◌≢◌, ◌↔◌, ℕ, ◌<◌, max, Bool, cond, ◌&&◌, List, [], ◌∷◌, ℤ, pos, ◌+ℤ◌, ◌*ℤ◌, neg_ℤ, Option, Some, None}
 use Rattle.std.specs.List.{list_any}
 use Rattle.std.specs.Ordering.{int_eq}
 use Rattle.opl_domain.specs.Span.{Span}
@@ -8,8 +8,8 @@ use Rattle.opl_domain.specs.Family.{Family, set_of}
 use Rattle.opl_expr.specs.declared.model.Core.{Core}
 use Rattle.opl_expr.specs.declared.forms.Expr.{Expr}
 use Rattle.opl_expr.specs.Forms.{Relation, Term, Fact, term}
-use Rattle.opl_expr.specs.Options.{lift, lift1}
-use Rattle.opl_expr.specs.Range.{coef, pure, rest, is_one_or_two, has_zero}
+use Rattle.opl_expr.specs.Options.{lift, lift1, combined}
+use Rattle.opl_expr.specs.Range.{Linear, coef, pure, rest, is_one_or_two, has_zero}
 use Rattle.opl_expr.specs.Sound.{IsSoundFact}
 
 -- an expression as plain data, with the tables of the core
@@ -28,9 +28,34 @@ is_pure_between core a b = pure (term_of core a) && pure (term_of core b)
 abbrev pub rest_between : Family → Core → Expr → Expr → Option Span
 rest_between F core a b = lift span_add (rest F (term_of core a)) (lift1 span_neg (rest F (term_of core b)))
 
+-- the linear form of an expression
+abbrev pub linear_of : Family → Term → Linear
+linear_of F t = record { coef = coef t; pure = pure t; rest = rest F t }
+
+-- all values of a list, with a result r behind the last
+abbrev pub joined_onto : {A : Type 0} → (A → A → A) → List A → Option A → Option A
+joined_onto f [] r = r
+joined_onto f (a ∷ others) r = Some (combined f a (joined_onto f others r))
+
 -- a comparison of both is sound
 abbrev pub CanCompare : Core → Expr → Expr → Type 0
 CanCompare core a b = IsSoundFact core.sets (Fact.cmp Relation.equal (term_of core a) (term_of core b))
+
+-- x is one of the first n variables, and no later one of these has a coefficient other than 0
+pub record EndsAt (c : ℕ → ℤ) (n x : ℕ) : Type 0 where
+  pub below : x < n
+  pub behind : (y : ℕ) → x < y → y < n → c y ≡ pos 0
+
+-- no variable behind this one, of the first n, has a coefficient other than 0; where there is none, no variable has
+abbrev pub Ends : (ℕ → ℤ) → ℕ → Option ℕ → Type 0
+Ends c n None = (y : ℕ) → y < n → c y ≡ pos 0
+Ends c n (Some x) = EndsAt c n x
+
+-- the later of two variables, of which each may be missing
+abbrev pub later : Option ℕ → Option ℕ → Option ℕ
+later None y = y
+later (Some x) None = Some x
+later (Some x) (Some y) = Some (max x y)
 
 -- x is the last of the first n variables whose coefficient isn't 0
 pub record IsLastVariable (c : ℕ → ℤ) (n x : ℕ) : Type 0 where

@@ -3,6 +3,7 @@ ghost use Rattle.std.specs.Prelude.{◌≡◌, ◌*◌, ◌+◌, ◌*ℤ◌, ◌
 ghost use Rattle.opl_expr.specs.Forms.{Term, term, terms_of, constant_value};
 ghost use Rattle.opl_expr.specs.Range.{coef, coefs, pure, all_pure};
 ghost use Rattle.opl_expr.specs.Sound.{IsSmall, IsSoundTerm};
+ghost use Rattle.opl_range.specs.Between.{Ends, later};
 
 use opl_expr::{Core, Expr};
 
@@ -139,4 +140,59 @@ fn are_linear(core: &Core, parts: &[Expr]) -> bool
         }
     }
     true
+}
+
+/// The later of two variables, of which each may be missing.
+pub fn later(x: Option<u32>, y: Option<u32>) -> Option<u32>
+    ensures { result ≡ later x y }
+{
+    let Some(first) = x else {
+        return y;
+    };
+    match y {
+        None => x,
+        Some(second) => Some(first.max(second)),
+    }
+}
+
+/// The last of the variables below `end` that the linear form of an expression names.
+#[cycle(named)]
+pub fn last_named(core: &Core, e: &Expr, end: u32) -> Option<u32>
+    ensures { Ends (coef (term core.now.tables core.now.resources e.now)) end result }
+{
+    match e {
+        Expr::Const(_k) => None,
+        Expr::Var(x) => { if *x < end { Some(*x) } else { None } }
+        Expr::Sum(parts) => last_of(core, parts.as_slice(), end),
+        Expr::Neg(a) => last_named(core, a.get(), end),
+        Expr::Mul(a, b) => match constant(core, a.get()) {
+            Some(_k) => last_named(core, b.get(), end),
+            None => match constant(core, b.get()) {
+                Some(_k) => last_named(core, a.get(), end),
+                None => None,
+            },
+        },
+        Expr::Div(_a, _b) => None,
+        Expr::Rem(_a, _b) => None,
+        Expr::Abs(_a) => None,
+        Expr::Min(_parts) => None,
+        Expr::Max(_parts) => None,
+        Expr::At(_table, _parts) => None,
+        Expr::Truth(_c) => None,
+        Expr::Ask(_ask, _x) => None,
+    }
+}
+
+/// The last of the variables below `end` that the linear forms of expressions name.
+#[cycle(named)]
+fn last_of(core: &Core, parts: &[Expr], end: u32) -> Option<u32>
+    ensures { Ends (coefs (terms_of (map (term core.now.tables core.now.resources) parts.now))) end result }
+{
+    let mut found = None;
+    let mut left = parts.len();
+    while left > 0 {
+        left -= 1;
+        found = later(last_named(core, &parts[left], end), found);
+    }
+    found
 }

@@ -4,9 +4,9 @@ ghost use Rattle.opl_domain.specs.Family.{Below};
 ghost use Rattle.opl_expr.specs.Range.{weighted, with_variables};
 ghost use Rattle.opl_expr.specs.Solutions.{declared};
 ghost use Rattle.opl_expr.specs.Sound.{IsSmall};
-ghost use Rattle.opl_range.specs.Between.{between, rest_between, CanCompare};
+ghost use Rattle.opl_range.specs.Between.{between, rest_between, CanCompare, Ends};
 
-use crate::coefficients::coefficient;
+use crate::coefficients::{coefficient, last_named, later};
 use crate::hulls::hull;
 use crate::rows::scaled;
 use opl_domain::{Interval, View};
@@ -28,17 +28,31 @@ pub fn coefficient_between(core: &Core, a: &Expr, b: &Expr, x: u32) -> i128
     subtracted(coefficient(core, a, x), coefficient(core, b, x))
 }
 
-/// The sum, over all variables, of the coefficient in `a` minus `b` times the hull of the set.
+/// The last of the variables below `end` that `a` or `b` names.
+pub fn last_between(core: &Core, a: &Expr, b: &Expr, end: u32) -> Option<u32>
+    ensures { Ends (between core.now a.now b.now) end result }
+{
+    later(last_named(core, a, end), last_named(core, b, end))
+}
+
+/// The sum, over all variables, of the coefficient in `a` minus `b` times the hull of the set. Only those that `a` or `b`
+/// names are asked, from the last one down.
 fn variables_between<V: View>(core: &Core, a: &Expr, b: &Expr, view: &V) -> Interval
     requires sound { CanCompare core.now a.now b.now }
     requires within { Below (V.family view.now) (declared core.now) }
     ensures { result ≡ weighted (V.family view.now) (between core.now a.now b.now) (length (V.family view.now)) }
 {
     let mut sum = Interval::point(0);
-    for x in 0..view.vars() {
-        sum = sum.add(scaled(coefficient_between(core, a, b, x), hull(view, x)));
+    let mut end = view.vars();
+    'named: loop {
+        match last_between(core, a, b, end) {
+            None => return sum,
+            Some(x) => {
+                sum = sum.add(scaled(coefficient_between(core, a, b, x), hull(view, x)));
+                end = x;
+            }
+        }
     }
-    sum
 }
 
 /// The interval of `a` minus `b`, where `rest` is what it has beside its variables.

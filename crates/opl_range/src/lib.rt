@@ -8,6 +8,7 @@ mod hulls;
 pub mod laws;
 mod ranges;
 mod rows;
+mod table_row;
 mod uses;
 mod zeros;
 

@@ -1,5 +1,5 @@
 //! The ranges of expressions and constraints over the sets of a view.
-ghost use Rattle.std.specs.Prelude.{◌≡◌, map, length, true, Some};
+ghost use Rattle.std.specs.Prelude.{◌≡◌, ◌<◌, ◌≤◌, map, length, take, slice_index_or, true, false, Some};
 ghost use Rattle.std.specs.List.{list_all};
 ghost use Rattle.opl_domain.specs.Span.{point};
 ghost use Rattle.opl_domain.specs.Arithmetic.{span_hull, span_min, span_max};
@@ -14,6 +14,7 @@ use crate::coefficients::constant;
 use crate::comparisons::{compared, may_be, range_of_rest};
 use crate::hulls::cell_range;
 use crate::rows;
+use crate::table_row::joined_row;
 use crate::uses::capacity;
 use opl_domain::{Interval, View};
 use opl_expr::{Cell, Cons, Core, Expr, Op};
@@ -132,7 +133,8 @@ fn greatest<V: View>(core: &Core, parts: &[Expr], view: &V) -> Option<Interval>
     found
 }
 
-/// The hull of the cells that the subscripts may reach; none where they may reach none.
+/// The hull of the cells that the subscripts may reach; none where they may reach none. What the last subscript has beside
+/// its variables is asked for once, that of the others once for each row of cells.
 #[cycle(ranges)]
 #[tactic(none)]
 fn cells<V: View>(
@@ -149,30 +151,68 @@ fn cells<V: View>(
     requires within { Below (V.family view.now) (declared core.now) }
     ensures { result ≡ joined span_hull (map (cell_range (V.family view.now)) (chosen (taken (masks (may_be (V.family view.now)) dims.now (linears (V.family view.now) (terms_of (map (term core.now.tables core.now.resources) parts.now))))) cells.now)) }
 {
+    if cells.is_empty() {
+        return None;
+    }
+    if dims.is_empty() {
+        return Some(cell_range(cells[0], view));
+    }
+    let last = dims.len() - 1;
+    let part = &parts[last];
+    let beside = rest_of(core, part, view);
+    let dim = dims[last].as_slice();
+    let count = cells.len() / dim.len();
     let mut found = None;
-    let mut left = cells.len();
-    'cells: while left > 0 {
+    let mut left = count;
+    while left > 0 {
         left -= 1;
-        let mut size = cells.len();
-        let mut place = left;
-        for at in 0..dims.len() {
-            let dim = dims[at].as_slice();
-            let part = &parts[at];
-            size /= dim.len();
-            if !may_be(
-                core,
-                part,
-                rest_of(core, part, view),
-                dim[place / size],
-                view,
-            ) {
-                continue 'cells;
-            }
-            place %= size;
+        if is_reached(core, dims, parts, last, count, left, view) {
+            let start = left * dim.len();
+            let row = &cells[start..start + dim.len()];
+            found = joined_row(core, part, &beside, dim, row, found, view);
         }
-        found = Some(rows::joined(cell_range(cells[left], view), found));
     }
     found
+}
+
+/// Whether the subscripts of the first `outer` dimensions may reach a row; these have `count` rows.
+#[cycle(ranges)]
+#[tactic(none)]
+fn is_reached<V: View>(
+    core: &Core,
+    dims: &[Seq<i128>],
+    parts: &[Expr],
+    outer: usize,
+    count: usize,
+    row: usize,
+    view: &V,
+) -> bool
+    requires sound { AreSoundTerms core.now.sets (terms_of (map (term core.now.tables core.now.resources) parts.now)) }
+    requires subscripts { FitDimensions core.now.sets dims.now (terms_of (map (term core.now.tables core.now.resources) parts.now)) }
+    requires some { outer ≤ length dims.now }
+    requires whole { count ≡ keys (take outer dims.now) }
+    requires there { row < count }
+    requires within { Below (V.family view.now) (declared core.now) }
+    ensures { result ≡ slice_index_or (taken (masks (may_be (V.family view.now)) (take outer dims.now) (linears (V.family view.now) (terms_of (map (term core.now.tables core.now.resources) parts.now))))) row false }
+{
+    let mut size = count;
+    let mut place = row;
+    for at in 0..outer {
+        let dim = dims[at].as_slice();
+        let part = &parts[at];
+        size /= dim.len();
+        if !may_be(
+            core,
+            part,
+            rest_of(core, part, view),
+            dim[place / size],
+            view,
+        ) {
+            return false;
+        }
+        place %= size;
+    }
+    true
 }
 
 /// The range of a constraint over the sets of a view; none where it is surely undefined.

@@ -104,6 +104,16 @@ pub fn greatest(a: Option<Interval>, b: Option<Interval>) -> Option<Interval>
     Some(a.max(b))
 }
 
+/// A copy of an interval that may be missing.
+pub fn copied(a: &Option<Interval>) -> Option<Interval>
+    ensures { result ≡ a.now }
+{
+    match a {
+        None => None,
+        Some(a) => Some(*a),
+    }
+}
+
 /// The hull with an interval that may be missing.
 pub fn joined(a: Interval, b: Option<Interval>) -> Interval
     ensures { result ≡ combined span_hull a b }

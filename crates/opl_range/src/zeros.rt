@@ -10,7 +10,7 @@ ghost use Rattle.opl_range.specs.Magnitudes.{weight};
 ghost use Rattle.opl_range.specs.Between.{between, is_pure_between, rest_between, CanCompare, IsLast, IsLastVariable, IsRoot, has_root, have_root, zero_by_values};
 
 use crate::coefficients::{added, is_linear, multiplied, negated};
-use crate::differences::coefficient_between;
+use crate::differences::{coefficient_between, last_between};
 use crate::rows::misses_zero;
 use opl_domain::{Interval, View};
 use opl_expr::{Core, Expr};
@@ -21,13 +21,17 @@ fn last_variable(core: &Core, a: &Expr, b: &Expr, end: u32) -> Option<u32>
     ensures { IsLast (between core.now a.now b.now) end result }
 {
     let mut left = end;
-    while left > 0 {
-        left -= 1;
-        if coefficient_between(core, a, b, left) != 0 {
-            return Some(left);
+    'named: loop {
+        match last_between(core, a, b, left) {
+            None => return None,
+            Some(x) => {
+                if coefficient_between(core, a, b, x) != 0 {
+                    return Some(x);
+                }
+                left = x;
+            }
         }
     }
-    None
 }
 
 /// The truncated quotient.

@@ -1,4 +1,4 @@
-use Rattle.std.proofs.Common.{◌≡◌, ◌-◌, ◌<◌, ◌/◌, true, refl, ap, sym, ◌∙◌, subst, rules, arith, map, length, drop, get_or, pos}
+use Rattle.std.proofs.Common.{◌≡◌, ◌+◌, ◌-◌, ◌*◌, ◌/◌, ◌≤◌, ◌<◌, true, refl, ap, sym, ◌∙◌, subst, rules, arith, map, length, drop, take, get_or, pos}
 use Rattle.std.specs.Prelude.{FitsSigned, Some}
 use Rattle.std.specs.List.{list_all}
 use mir.Syntax.{w64, w128}
@@ -9,7 +9,7 @@ use Rattle.opl_expr.specs.declared.forms.Op.TheVariants.{Ne}
 use Rattle.opl_expr.specs.declared.tables.Cell.TheVariants as cell
 use Rattle.opl_expr.specs.Forms.{Term, Fact, fact, terms_of, facts_of, compared, all_different, capacity_at}
 use Rattle.opl_expr.specs.Options.{lift1, lift_onto}
-use Rattle.opl_expr.specs.Range.{flip, rest, may_be, fact_range, taken}
+use Rattle.opl_expr.specs.Range.{flip, rest, may_be, linears, fact_range}
 use Rattle.opl_expr.specs.Sound.{term_magnitude, keys, is_there, IsSoundTerm, AreSoundTerms, IsSoundFact, AreSoundFacts}
 use Rattle.opl_expr.proofs.Plain.{term_Const, term_Var, term_Sum, term_Min, term_Max, term_At, term_Truth, term_Ask, fact_Fixed, fact_Cmp, fact_And, fact_Or, fact_Imp, fact_Iff, fact_Not, fact_AllDifferent, fact_Capacity, fact_Bound}
 use Rattle.opl_expr.proofs.Parts.{drop_none, sound_at, sound_fact_at, some_terms}
@@ -19,7 +19,8 @@ use Rattle.opl_range.proofs.Compare.{opposite_is}
 use Rattle.opl_range.proofs.Arms.{neg_arm, mul_left_arm, mul_right_arm, part_range, div_arm, rem_arm, abs_arm, mul_arm, rest_fits, range_fits, multiple_fits, product_fits, sum_more, sum_fits, extreme_next, extreme_last, by_form, by_fact, one_place, and_more, or_more, imp_arm, iff_arm, cmp_first, cmp_second, cmp_same, cells_same}
 use Rattle.opl_range.proofs.Demands.{count_is}
 use Rattle.opl_range.proofs.Pairs.{differ_next, pair_next, sound_pair_at, sound_one_at}
-use Rattle.opl_range.proofs.Tables.{marks, linear, hull_from, fit_length, fit_same, whole_length, reach_start, reach_sizes, reach_next, reach_missed, reach_whole, hull_start, hull_skips, hull_takes, cell_there, index_fits}
+use Rattle.opl_range.proofs.Tables.{linear, cell_there, fit_length, fit_same, reach_start, reach_sizes, reach_next, reach_missed, reach_whole, index_fits}
+use Rattle.opl_range.proofs.TableRows.{IsSplit, length_take, at_take, length_slice, slice_there, no_cells, one_cell, fit_at, split_some, split_count, split_end, split_start, split_skipped, split_joined, split_whole, empty_is, some_is, plus_less}
 use Rattle.opl_range.proofs.ranges.+ranges.Goals as goal
 
 pub rest_of-sum-requires : goal.rest_of-sum-requires
@@ -594,74 +595,6 @@ pub all_differ-loop-left-init : goal.all_differ-loop-left-init
 all_differ-loop-left-init g t c =
     let core = c.args.core.now in let F = g.V.View.family c.args.view.now in (omega arith, ap Some c.point.ensures ∙ ap (λ ys. fact_range F (Fact.and (facts_of (all_different (map (term_of core) ys))))) (sym (drop_none c.args.parts.now)))
 
-pub cells-bounds-parts-at : goal.cells-bounds-parts-at
-cells-bounds-parts-at g t c =
-    let core = c.args.core.now in let F = g.V.View.family c.args.view.now in omega (arith, c.loop-at-test.true, (fit_length core.sets (term_of core) c.args.dims.now c.args.parts.now c.requires.subscripts))
-
-pub cells-nonzero_div-size : goal.cells-nonzero_div-size
-cells-nonzero_div-size g t c =
-    let core = c.args.core.now in let F = g.V.View.family c.args.view.now in (reach_sizes F (term_of core) c.args.dims.now c.args.parts.now (c.cells.left - 1) c.loop-at.at c.loop-at.size c.loop-at.place c.as_slice-dim.result.now c.index-dims-at.result c.loop-at.invariant c.loop-at-test.true (c.as_slice-dim.ensures ∙ c.index-dims-at.is)).some
-
-pub cells-rest_of-requires : goal.cells-rest_of-requires
-cells-rest_of-requires g t c κs within =
-    let core = c.args.core.now in let F = g.V.View.family c.args.view.now in let there : c.loop-at.at < length c.args.parts.now = omega (arith, c.loop-at-test.true, (fit_length core.sets (term_of core) c.args.dims.now c.args.parts.now c.requires.subscripts)) in (search (rules, the_lemmas), (within, (sound_at core.sets (term_of core) c.args.parts.now c.loop-at.at c.index-parts-at.result (omega (arith, c.loop-at-test.true, (fit_length core.sets (term_of core) c.args.dims.now c.args.parts.now c.requires.subscripts))) c.index-parts-at.is c.requires.sound, c.requires.within)))
-
-pub cells-nonzero_div-place : goal.cells-nonzero_div-place
-cells-nonzero_div-place g t c =
-    let core = c.args.core.now in let F = g.V.View.family c.args.view.now in (reach_sizes F (term_of core) c.args.dims.now c.args.parts.now (c.cells.left - 1) c.loop-at.at c.loop-at.size c.loop-at.place c.as_slice-dim.result.now c.index-dims-at.result c.loop-at.invariant c.loop-at-test.true (c.as_slice-dim.ensures ∙ c.index-dims-at.is)).size_some
-
-pub cells-nonzero_rem-place : goal.cells-nonzero_rem-place
-cells-nonzero_rem-place g t c =
-    let core = c.args.core.now in let F = g.V.View.family c.args.view.now in (reach_sizes F (term_of core) c.args.dims.now c.args.parts.now (c.cells.left - 1) c.loop-at.at c.loop-at.size c.loop-at.place c.as_slice-dim.result.now c.index-dims-at.result c.loop-at.invariant c.loop-at-test.true (c.as_slice-dim.ensures ∙ c.index-dims-at.is)).size_some
-
-pub cells-bounds-dim-place : goal.cells-bounds-dim-place
-cells-bounds-dim-place g t c =
-    let core = c.args.core.now in let F = g.V.View.family c.args.view.now in (reach_sizes F (term_of core) c.args.dims.now c.args.parts.now (c.cells.left - 1) c.loop-at.at c.loop-at.size c.loop-at.place c.as_slice-dim.result.now c.index-dims-at.result c.loop-at.invariant c.loop-at-test.true (c.as_slice-dim.ensures ∙ c.index-dims-at.is)).index
-
-pub cells-may_be-requires-clause-sound : goal.cells-may_be-requires-clause-sound
-cells-may_be-requires-clause-sound g t c =
-    let core = c.args.core.now in let F = g.V.View.family c.args.view.now in sound_at core.sets (term_of core) c.args.parts.now c.loop-at.at c.index-parts-at.result (omega (arith, c.loop-at-test.true, (fit_length core.sets (term_of core) c.args.dims.now c.args.parts.now c.requires.subscripts))) c.index-parts-at.is c.requires.sound
-
-pub cells-may_be-requires-clause-small : goal.cells-may_be-requires-clause-small
-cells-may_be-requires-clause-small g t c =
-    let core = c.args.core.now in let F = g.V.View.family c.args.view.now in let index = (reach_sizes F (term_of core) c.args.dims.now c.args.parts.now (c.cells.left - 1) c.loop-at.at c.loop-at.size c.loop-at.place c.as_slice-dim.result.now c.index-dims-at.result c.loop-at.invariant c.loop-at-test.true (c.as_slice-dim.ensures ∙ c.index-dims-at.is)).index in let v : FitsSigned w128 (get_or c.as_slice-dim.result.now (c.loop-at.place / (c.loop-at.size / length c.as_slice-dim.result.now)) (pos 0)) = search rules in simp to_z-of_z (index_fits core.sets (term_of core) c.args.dims.now c.args.parts.now c.loop-at.at (c.loop-at.place / (c.loop-at.size / length c.as_slice-dim.result.now)) c.as_slice-dim.result.now c.index-dims-at.result c.index-parts-at.result c.requires.subscripts c.loop-at-test.true (c.as_slice-dim.ensures ∙ c.index-dims-at.is) c.index-parts-at.is index)
-
-pub cells-may_be-requires-clause-within : goal.cells-may_be-requires-clause-within
-cells-may_be-requires-clause-within g t c =
-    let core = c.args.core.now in let F = g.V.View.family c.args.view.now in c.requires.within
-
-pub cells-may_be-requires-clause-beside : goal.cells-may_be-requires-clause-beside
-cells-may_be-requires-clause-beside g t c =
-    let core = c.args.core.now in let F = g.V.View.family c.args.view.now in c.rest_of.ensures
-
-pub cells-cells-preserved-then-not-may_be : goal.cells-cells-preserved-then-not-may_be
-cells-cells-preserved-then-not-may_be g t c =
-    let core = c.args.core.now in let F = g.V.View.family c.args.view.now in let index = (reach_sizes F (term_of core) c.args.dims.now c.args.parts.now (c.cells.left - 1) c.loop-at.at c.loop-at.size c.loop-at.place c.as_slice-dim.result.now c.index-dims-at.result c.loop-at.invariant c.loop-at-test.true (c.as_slice-dim.ensures ∙ c.index-dims-at.is)).index in let v : FitsSigned w128 (get_or c.as_slice-dim.result.now (c.loop-at.place / (c.loop-at.size / length c.as_slice-dim.result.now)) (pos 0)) = search rules in let m = subst (λ z. c.may_be.result ≡ may_be F (linear F (term_of core) c.args.dims.now c.args.parts.now c.index-parts-at.result) z) (to_z-of_z w128 (get_or c.as_slice-dim.result.now (c.loop-at.place / (c.loop-at.size / length c.as_slice-dim.result.now)) (pos 0)) v) c.may_be.ensures in (omega (arith, c.cells.invariant.0), hull_skips F (taken (marks F (term_of core) c.args.dims.now c.args.parts.now 0)) c.args.cells.now c.cells.left (cell.Const (pos 0)) c.cells.found (whole_length F (term_of core) c.args.dims.now c.args.parts.now (length c.args.cells.now) (fit_length core.sets (term_of core) c.args.dims.now c.args.parts.now c.requires.subscripts) c.requires.whole) c.cells-test.true c.cells.invariant.0 (reach_missed F (term_of core) c.args.dims.now c.args.parts.now (c.cells.left - 1) c.loop-at.at c.loop-at.size c.loop-at.place c.as_slice-dim.result.now c.index-dims-at.result c.index-parts-at.result c.may_be.result c.loop-at.invariant (fit_length core.sets (term_of core) c.args.dims.now c.args.parts.now c.requires.subscripts) c.loop-at-test.true (c.as_slice-dim.ensures ∙ c.index-dims-at.is) c.index-parts-at.is m c.if-not-may_be.true) c.cells.invariant.1)
-
-pub cells-loop-at-preserved : goal.cells-loop-at-preserved
-cells-loop-at-preserved g t c =
-    let core = c.args.core.now in let F = g.V.View.family c.args.view.now in let index = (reach_sizes F (term_of core) c.args.dims.now c.args.parts.now (c.cells.left - 1) c.loop-at.at c.loop-at.size c.loop-at.place c.as_slice-dim.result.now c.index-dims-at.result c.loop-at.invariant c.loop-at-test.true (c.as_slice-dim.ensures ∙ c.index-dims-at.is)).index in let v : FitsSigned w128 (get_or c.as_slice-dim.result.now (c.loop-at.place / (c.loop-at.size / length c.as_slice-dim.result.now)) (pos 0)) = search rules in let m = subst (λ z. c.may_be.result ≡ may_be F (linear F (term_of core) c.args.dims.now c.args.parts.now c.index-parts-at.result) z) (to_z-of_z w128 (get_or c.as_slice-dim.result.now (c.loop-at.place / (c.loop-at.size / length c.as_slice-dim.result.now)) (pos 0)) v) c.may_be.ensures in reach_next F (term_of core) c.args.dims.now c.args.parts.now (c.cells.left - 1) c.loop-at.at c.loop-at.size c.loop-at.place c.as_slice-dim.result.now c.index-dims-at.result c.index-parts-at.result c.may_be.result c.loop-at.invariant (fit_length core.sets (term_of core) c.args.dims.now c.args.parts.now c.requires.subscripts) c.loop-at-test.true (c.as_slice-dim.ensures ∙ c.index-dims-at.is) c.index-parts-at.is m c.if-not-may_be.false
-
-pub cells-cells-preserved : goal.cells-cells-preserved
-cells-cells-preserved g t c =
-    let core = c.args.core.now in let F = g.V.View.family c.args.view.now in (omega (arith, c.cells.invariant.0), hull_takes F (taken (marks F (term_of core) c.args.dims.now c.args.parts.now 0)) c.args.cells.now c.cells.left (cell.Const (pos 0)) c.cells.found c.joined.result c.cell_range.result (whole_length F (term_of core) c.args.dims.now c.args.parts.now (length c.args.cells.now) (fit_length core.sets (term_of core) c.args.dims.now c.args.parts.now c.requires.subscripts) c.requires.whole) c.cells-test.true c.cells.invariant.0 (reach_whole F (term_of core) c.args.dims.now c.args.parts.now (c.cells.left - 1) c.loop-at.at c.loop-at.size c.loop-at.place c.loop-at.invariant c.loop-at-test.false) c.cells.invariant.1 c.cell_range.ensures c.joined.ensures)
-
-pub cells-cell_range-requires : goal.cells-cell_range-requires
-cells-cell_range-requires g t c =
-    let core = c.args.core.now in let F = g.V.View.family c.args.view.now in subst (λ n. is_there n (get_or c.args.cells.now (c.cells.left - 1) (cell.Const (pos 0))) ≡ true) (sym (count_is core F c.requires.within)) (cell_there (length core.sets) c.args.cells.now (c.cells.left - 1) (cell.Const (pos 0)) (omega (arith, c.cells.invariant.0, c.cells-test.true)) c.requires.there)
-
-pub cells-cells-init : goal.cells-cells-init
-cells-cells-init g t c =
-    let core = c.args.core.now in let F = g.V.View.family c.args.view.now in (omega arith, hull_start F (taken (marks F (term_of core) c.args.dims.now c.args.parts.now 0)) c.args.cells.now (whole_length F (term_of core) c.args.dims.now c.args.parts.now (length c.args.cells.now) (fit_length core.sets (term_of core) c.args.dims.now c.args.parts.now c.requires.subscripts) c.requires.whole))
-
-pub cells-returns : goal.cells-returns
-cells-returns g t c =
-    let core = c.args.core.now in let F = g.V.View.family c.args.view.now in c.cells.invariant.1 ∙ ap (hull_from F (taken (marks F (term_of core) c.args.dims.now c.args.parts.now 0)) c.args.cells.now) (none_left c.cells.left c.cells-test.false)
-
-pub cells-loop-at-init : goal.cells-loop-at-init
-cells-loop-at-init g t c =
-    let core = c.args.core.now in let F = g.V.View.family c.args.view.now in reach_start F (term_of core) c.args.dims.now c.args.parts.now (c.cells.left - 1) (length c.args.cells.now) c.requires.whole (omega (arith, c.cells.invariant.0, c.cells-test.true))
-
 pub all-bounds-parts-left : goal.all-bounds-parts-left
 all-bounds-parts-left g t c =
     search rules
@@ -730,46 +663,6 @@ pub any-overflow_sub-left : goal.any-overflow_sub-left
 any-overflow_sub-left g t c =
     search rules
 
-pub cells-bounds-cells-left : goal.cells-bounds-cells-left
-cells-bounds-cells-left g t c =
-    search rules
-
-pub cells-bounds-dims-at : goal.cells-bounds-dims-at
-cells-bounds-dims-at g t c =
-    search rules
-
-pub cells-cells-smaller-then-not-may_be : goal.cells-cells-smaller-then-not-may_be
-cells-cells-smaller-then-not-may_be g t c =
-    search rules
-
-pub cells-cells-smaller : goal.cells-cells-smaller
-cells-cells-smaller g t c =
-    search rules
-
-pub cells-loop-at-smaller : goal.cells-loop-at-smaller
-cells-loop-at-smaller g t c =
-    search rules
-
-pub cells-offset_bounds-cells-left : goal.cells-offset_bounds-cells-left
-cells-offset_bounds-cells-left g t c =
-    search rules
-
-pub cells-offset_bounds-dim-place : goal.cells-offset_bounds-dim-place
-cells-offset_bounds-dim-place g t c =
-    search rules
-
-pub cells-offset_bounds-dims-at : goal.cells-offset_bounds-dims-at
-cells-offset_bounds-dims-at g t c =
-    search rules
-
-pub cells-offset_bounds-parts-at : goal.cells-offset_bounds-parts-at
-cells-offset_bounds-parts-at g t c =
-    search rules
-
-pub cells-overflow_sub-left : goal.cells-overflow_sub-left
-cells-overflow_sub-left g t c =
-    search rules
-
 pub greatest-bounds-parts-left-in-loop-left : goal.greatest-bounds-parts-left-in-loop-left
 greatest-bounds-parts-left-in-loop-left g t c =
     search rules
@@ -833,3 +726,203 @@ sum-offset_bounds-parts-left g t c =
 pub sum-overflow_sub-left : goal.sum-overflow_sub-left
 sum-overflow_sub-left g t c =
     search rules
+
+pub is_reached-loop-at-init : goal.is_reached-loop-at-init
+is_reached-loop-at-init g t c =
+    let core = c.args.core.now in let F = g.V.View.family c.args.view.now in reach_start F (term_of core) (take c.args.outer c.args.dims.now) c.args.parts.now c.args.row c.args.count c.requires.whole c.requires.there
+
+pub is_reached-bounds-dims-at : goal.is_reached-bounds-dims-at
+is_reached-bounds-dims-at g t c =
+    let core = c.args.core.now in let F = g.V.View.family c.args.view.now in omega (arith, c.loop-at-test.true, c.requires.some)
+
+pub is_reached-bounds-parts-at : goal.is_reached-bounds-parts-at
+is_reached-bounds-parts-at g t c =
+    let core = c.args.core.now in let F = g.V.View.family c.args.view.now in omega (arith, c.loop-at-test.true, c.requires.some, fit_length core.sets (term_of core) c.args.dims.now c.args.parts.now c.requires.subscripts)
+
+pub is_reached-nonzero_div-size : goal.is_reached-nonzero_div-size
+is_reached-nonzero_div-size g t c =
+    let core = c.args.core.now in let F = g.V.View.family c.args.view.now in (reach_sizes F (term_of core) (take c.args.outer c.args.dims.now) c.args.parts.now c.args.row c.loop-at.at c.loop-at.size c.loop-at.place c.as_slice-dim.result.now c.index-dims-at.result c.loop-at.invariant (omega (arith, c.loop-at-test.true, length_take c.args.dims.now c.args.outer c.requires.some)) (c.as_slice-dim.ensures ∙ c.index-dims-at.is ∙ sym (at_take c.args.dims.now c.args.outer c.loop-at.at c.index-dims-at.result c.loop-at-test.true))).some
+
+pub is_reached-nonzero_div-place : goal.is_reached-nonzero_div-place
+is_reached-nonzero_div-place g t c =
+    let core = c.args.core.now in let F = g.V.View.family c.args.view.now in (reach_sizes F (term_of core) (take c.args.outer c.args.dims.now) c.args.parts.now c.args.row c.loop-at.at c.loop-at.size c.loop-at.place c.as_slice-dim.result.now c.index-dims-at.result c.loop-at.invariant (omega (arith, c.loop-at-test.true, length_take c.args.dims.now c.args.outer c.requires.some)) (c.as_slice-dim.ensures ∙ c.index-dims-at.is ∙ sym (at_take c.args.dims.now c.args.outer c.loop-at.at c.index-dims-at.result c.loop-at-test.true))).size_some
+
+pub is_reached-nonzero_rem-place : goal.is_reached-nonzero_rem-place
+is_reached-nonzero_rem-place g t c =
+    let core = c.args.core.now in let F = g.V.View.family c.args.view.now in (reach_sizes F (term_of core) (take c.args.outer c.args.dims.now) c.args.parts.now c.args.row c.loop-at.at c.loop-at.size c.loop-at.place c.as_slice-dim.result.now c.index-dims-at.result c.loop-at.invariant (omega (arith, c.loop-at-test.true, length_take c.args.dims.now c.args.outer c.requires.some)) (c.as_slice-dim.ensures ∙ c.index-dims-at.is ∙ sym (at_take c.args.dims.now c.args.outer c.loop-at.at c.index-dims-at.result c.loop-at-test.true))).size_some
+
+pub is_reached-bounds-dim-place : goal.is_reached-bounds-dim-place
+is_reached-bounds-dim-place g t c =
+    let core = c.args.core.now in let F = g.V.View.family c.args.view.now in (reach_sizes F (term_of core) (take c.args.outer c.args.dims.now) c.args.parts.now c.args.row c.loop-at.at c.loop-at.size c.loop-at.place c.as_slice-dim.result.now c.index-dims-at.result c.loop-at.invariant (omega (arith, c.loop-at-test.true, length_take c.args.dims.now c.args.outer c.requires.some)) (c.as_slice-dim.ensures ∙ c.index-dims-at.is ∙ sym (at_take c.args.dims.now c.args.outer c.loop-at.at c.index-dims-at.result c.loop-at-test.true))).index
+
+pub is_reached-rest_of-requires : goal.is_reached-rest_of-requires
+is_reached-rest_of-requires g t c κs within =
+    let core = c.args.core.now in let F = g.V.View.family c.args.view.now in let there : c.loop-at.at < length c.args.parts.now = omega (arith, c.loop-at-test.true, c.requires.some, fit_length core.sets (term_of core) c.args.dims.now c.args.parts.now c.requires.subscripts) in (search (rules, the_lemmas), (within, (sound_at core.sets (term_of core) c.args.parts.now c.loop-at.at c.index-parts-at.result (omega (arith, c.loop-at-test.true, c.requires.some, fit_length core.sets (term_of core) c.args.dims.now c.args.parts.now c.requires.subscripts)) c.index-parts-at.is c.requires.sound, c.requires.within)))
+
+pub is_reached-may_be-requires-clause-sound : goal.is_reached-may_be-requires-clause-sound
+is_reached-may_be-requires-clause-sound g t c =
+    let core = c.args.core.now in let F = g.V.View.family c.args.view.now in sound_at core.sets (term_of core) c.args.parts.now c.loop-at.at c.index-parts-at.result (omega (arith, c.loop-at-test.true, c.requires.some, fit_length core.sets (term_of core) c.args.dims.now c.args.parts.now c.requires.subscripts)) c.index-parts-at.is c.requires.sound
+
+pub is_reached-may_be-requires-clause-small : goal.is_reached-may_be-requires-clause-small
+is_reached-may_be-requires-clause-small g t c =
+    let core = c.args.core.now in let F = g.V.View.family c.args.view.now in let index = (reach_sizes F (term_of core) (take c.args.outer c.args.dims.now) c.args.parts.now c.args.row c.loop-at.at c.loop-at.size c.loop-at.place c.as_slice-dim.result.now c.index-dims-at.result c.loop-at.invariant (omega (arith, c.loop-at-test.true, length_take c.args.dims.now c.args.outer c.requires.some)) (c.as_slice-dim.ensures ∙ c.index-dims-at.is ∙ sym (at_take c.args.dims.now c.args.outer c.loop-at.at c.index-dims-at.result c.loop-at-test.true))).index in let v : FitsSigned w128 (get_or c.as_slice-dim.result.now (c.loop-at.place / (c.loop-at.size / length c.as_slice-dim.result.now)) (pos 0)) = search rules in simp to_z-of_z (index_fits core.sets (term_of core) c.args.dims.now c.args.parts.now c.loop-at.at (c.loop-at.place / (c.loop-at.size / length c.as_slice-dim.result.now)) c.as_slice-dim.result.now c.index-dims-at.result c.index-parts-at.result c.requires.subscripts (omega (arith, c.loop-at-test.true, c.requires.some)) (c.as_slice-dim.ensures ∙ c.index-dims-at.is) c.index-parts-at.is index)
+
+pub is_reached-may_be-requires-clause-within : goal.is_reached-may_be-requires-clause-within
+is_reached-may_be-requires-clause-within g t c =
+    let core = c.args.core.now in let F = g.V.View.family c.args.view.now in c.requires.within
+
+pub is_reached-may_be-requires-clause-beside : goal.is_reached-may_be-requires-clause-beside
+is_reached-may_be-requires-clause-beside g t c =
+    let core = c.args.core.now in let F = g.V.View.family c.args.view.now in c.rest_of.ensures
+
+pub is_reached-returns-then-not-may_be : goal.is_reached-returns-then-not-may_be
+is_reached-returns-then-not-may_be g t c =
+    let core = c.args.core.now in let F = g.V.View.family c.args.view.now in let index = (reach_sizes F (term_of core) (take c.args.outer c.args.dims.now) c.args.parts.now c.args.row c.loop-at.at c.loop-at.size c.loop-at.place c.as_slice-dim.result.now c.index-dims-at.result c.loop-at.invariant (omega (arith, c.loop-at-test.true, length_take c.args.dims.now c.args.outer c.requires.some)) (c.as_slice-dim.ensures ∙ c.index-dims-at.is ∙ sym (at_take c.args.dims.now c.args.outer c.loop-at.at c.index-dims-at.result c.loop-at-test.true))).index in let v : FitsSigned w128 (get_or c.as_slice-dim.result.now (c.loop-at.place / (c.loop-at.size / length c.as_slice-dim.result.now)) (pos 0)) = search rules in let m = subst (λ z. c.may_be.result ≡ may_be F (linear F (term_of core) (take c.args.outer c.args.dims.now) c.args.parts.now c.index-parts-at.result) z) (to_z-of_z w128 (get_or c.as_slice-dim.result.now (c.loop-at.place / (c.loop-at.size / length c.as_slice-dim.result.now)) (pos 0)) v) c.may_be.ensures in sym (reach_missed F (term_of core) (take c.args.outer c.args.dims.now) c.args.parts.now c.args.row c.loop-at.at c.loop-at.size c.loop-at.place c.as_slice-dim.result.now c.index-dims-at.result c.index-parts-at.result c.may_be.result c.loop-at.invariant (omega (arith, fit_length core.sets (term_of core) c.args.dims.now c.args.parts.now c.requires.subscripts, length_take c.args.dims.now c.args.outer c.requires.some, c.requires.some)) (omega (arith, c.loop-at-test.true, length_take c.args.dims.now c.args.outer c.requires.some)) (c.as_slice-dim.ensures ∙ c.index-dims-at.is ∙ sym (at_take c.args.dims.now c.args.outer c.loop-at.at c.index-dims-at.result c.loop-at-test.true)) c.index-parts-at.is m c.if-not-may_be.true)
+
+pub is_reached-loop-at-preserved : goal.is_reached-loop-at-preserved
+is_reached-loop-at-preserved g t c =
+    let core = c.args.core.now in let F = g.V.View.family c.args.view.now in let index = (reach_sizes F (term_of core) (take c.args.outer c.args.dims.now) c.args.parts.now c.args.row c.loop-at.at c.loop-at.size c.loop-at.place c.as_slice-dim.result.now c.index-dims-at.result c.loop-at.invariant (omega (arith, c.loop-at-test.true, length_take c.args.dims.now c.args.outer c.requires.some)) (c.as_slice-dim.ensures ∙ c.index-dims-at.is ∙ sym (at_take c.args.dims.now c.args.outer c.loop-at.at c.index-dims-at.result c.loop-at-test.true))).index in let v : FitsSigned w128 (get_or c.as_slice-dim.result.now (c.loop-at.place / (c.loop-at.size / length c.as_slice-dim.result.now)) (pos 0)) = search rules in let m = subst (λ z. c.may_be.result ≡ may_be F (linear F (term_of core) (take c.args.outer c.args.dims.now) c.args.parts.now c.index-parts-at.result) z) (to_z-of_z w128 (get_or c.as_slice-dim.result.now (c.loop-at.place / (c.loop-at.size / length c.as_slice-dim.result.now)) (pos 0)) v) c.may_be.ensures in reach_next F (term_of core) (take c.args.outer c.args.dims.now) c.args.parts.now c.args.row c.loop-at.at c.loop-at.size c.loop-at.place c.as_slice-dim.result.now c.index-dims-at.result c.index-parts-at.result c.may_be.result c.loop-at.invariant (omega (arith, fit_length core.sets (term_of core) c.args.dims.now c.args.parts.now c.requires.subscripts, length_take c.args.dims.now c.args.outer c.requires.some, c.requires.some)) (omega (arith, c.loop-at-test.true, length_take c.args.dims.now c.args.outer c.requires.some)) (c.as_slice-dim.ensures ∙ c.index-dims-at.is ∙ sym (at_take c.args.dims.now c.args.outer c.loop-at.at c.index-dims-at.result c.loop-at-test.true)) c.index-parts-at.is m c.if-not-may_be.false
+
+pub is_reached-returns : goal.is_reached-returns
+is_reached-returns g t c =
+    let core = c.args.core.now in let F = g.V.View.family c.args.view.now in sym (reach_whole F (term_of core) (take c.args.outer c.args.dims.now) c.args.parts.now c.args.row c.loop-at.at c.loop-at.size c.loop-at.place c.loop-at.invariant (omega (arith, c.loop-at-test.false, length_take c.args.dims.now c.args.outer c.requires.some)))
+
+pub is_reached-loop-at-smaller : goal.is_reached-loop-at-smaller
+is_reached-loop-at-smaller g t c =
+    search rules
+
+pub is_reached-offset_bounds-dim-place : goal.is_reached-offset_bounds-dim-place
+is_reached-offset_bounds-dim-place g t c =
+    search rules
+
+pub is_reached-offset_bounds-dims-at : goal.is_reached-offset_bounds-dims-at
+is_reached-offset_bounds-dims-at g t c =
+    search rules
+
+pub is_reached-offset_bounds-parts-at : goal.is_reached-offset_bounds-parts-at
+is_reached-offset_bounds-parts-at g t c =
+    search rules
+
+pub cells-returns-then-is_empty : goal.cells-returns-then-is_empty
+cells-returns-then-is_empty g t c =
+    let core = c.args.core.now in let F = g.V.View.family c.args.view.now in no_cells F _ c.args.cells.now (empty_is (length c.args.cells.now) c.is_empty.result c.is_empty.ensures c.if-is_empty.true)
+
+pub cells-bounds-cells-0 : goal.cells-bounds-cells-0
+cells-bounds-cells-0 g t c =
+    let core = c.args.core.now in let F = g.V.View.family c.args.view.now in let some_cells : 0 < length c.args.cells.now = some_is (length c.args.cells.now) c.is_empty.result c.is_empty.ensures c.if-is_empty.false in omega (arith, some_cells)
+
+pub cells-cell_range-requires : goal.cells-cell_range-requires
+cells-cell_range-requires g t c =
+    let core = c.args.core.now in let F = g.V.View.family c.args.view.now in let some_cells : 0 < length c.args.cells.now = some_is (length c.args.cells.now) c.is_empty.result c.is_empty.ensures c.if-is_empty.false in subst (λ n. is_there n (get_or c.args.cells.now 0 (cell.Const (pos 0))) ≡ true) (sym (count_is core F c.requires.within)) (cell_there (length core.sets) c.args.cells.now 0 (cell.Const (pos 0)) some_cells c.requires.there)
+
+pub cells-returns-then-is_empty-2 : goal.cells-returns-then-is_empty-2
+cells-returns-then-is_empty-2 g t c =
+    let core = c.args.core.now in let F = g.V.View.family c.args.view.now in one_cell F (may_be F) c.args.dims.now (linears F (terms_of (map (term_of core) c.args.parts.now))) c.args.cells.now (cell.Const (pos 0)) c.cell_range.result (empty_is (length c.args.dims.now) c.is_empty-2.result c.is_empty-2.ensures c.if-is_empty-2.true) c.requires.whole c.cell_range.ensures
+
+pub cells-overflow_sub-last : goal.cells-overflow_sub-last
+cells-overflow_sub-last g t c =
+    let core = c.args.core.now in let F = g.V.View.family c.args.view.now in let some_dims : 0 < length c.args.dims.now = some_is (length c.args.dims.now) c.is_empty-2.result c.is_empty-2.ensures c.if-is_empty-2.false in omega (arith, some_dims)
+
+pub cells-offset_bounds-parts-last : goal.cells-offset_bounds-parts-last
+cells-offset_bounds-parts-last g t c =
+    let core = c.args.core.now in let F = g.V.View.family c.args.view.now in let some_dims : 0 < length c.args.dims.now = some_is (length c.args.dims.now) c.is_empty-2.result c.is_empty-2.ensures c.if-is_empty-2.false in let there : (length c.args.dims.now - 1) < length c.args.parts.now = omega (arith, some_dims, fit_length core.sets (term_of core) c.args.dims.now c.args.parts.now c.requires.subscripts) in search rules
+
+pub cells-bounds-parts-last : goal.cells-bounds-parts-last
+cells-bounds-parts-last g t c =
+    let core = c.args.core.now in let F = g.V.View.family c.args.view.now in let some_dims : 0 < length c.args.dims.now = some_is (length c.args.dims.now) c.is_empty-2.result c.is_empty-2.ensures c.if-is_empty-2.false in let there : (length c.args.dims.now - 1) < length c.args.parts.now = omega (arith, some_dims, fit_length core.sets (term_of core) c.args.dims.now c.args.parts.now c.requires.subscripts) in omega (arith, there)
+
+pub cells-rest_of-beside-requires : goal.cells-rest_of-beside-requires
+cells-rest_of-beside-requires g t c κs within =
+    let core = c.args.core.now in let F = g.V.View.family c.args.view.now in let some_dims : 0 < length c.args.dims.now = some_is (length c.args.dims.now) c.is_empty-2.result c.is_empty-2.ensures c.if-is_empty-2.false in let there : (length c.args.dims.now - 1) < length c.args.parts.now = omega (arith, some_dims, fit_length core.sets (term_of core) c.args.dims.now c.args.parts.now c.requires.subscripts) in (search (rules, the_lemmas), (within, (sound_at core.sets (term_of core) c.args.parts.now (length c.args.dims.now - 1) c.index-parts-last.result (omega (arith, some_dims, fit_length core.sets (term_of core) c.args.dims.now c.args.parts.now c.requires.subscripts)) c.index-parts-last.is c.requires.sound, c.requires.within)))
+
+pub cells-offset_bounds-dims-last : goal.cells-offset_bounds-dims-last
+cells-offset_bounds-dims-last g t c =
+    let core = c.args.core.now in let F = g.V.View.family c.args.view.now in let some_dims : 0 < length c.args.dims.now = some_is (length c.args.dims.now) c.is_empty-2.result c.is_empty-2.ensures c.if-is_empty-2.false in let there : (length c.args.dims.now - 1) < length c.args.dims.now = omega (arith, some_dims) in search rules
+
+pub cells-bounds-dims-last : goal.cells-bounds-dims-last
+cells-bounds-dims-last g t c =
+    let core = c.args.core.now in let F = g.V.View.family c.args.view.now in let some_dims : 0 < length c.args.dims.now = some_is (length c.args.dims.now) c.is_empty-2.result c.is_empty-2.ensures c.if-is_empty-2.false in omega (arith, some_dims)
+
+pub cells-nonzero_div-count : goal.cells-nonzero_div-count
+cells-nonzero_div-count g t c =
+    let core = c.args.core.now in let F = g.V.View.family c.args.view.now in let some_cells : 0 < length c.args.cells.now = some_is (length c.args.cells.now) c.is_empty.result c.is_empty.ensures c.if-is_empty.false in let some_dims : 0 < length c.args.dims.now = some_is (length c.args.dims.now) c.is_empty-2.result c.is_empty-2.ensures c.if-is_empty-2.false in let split : IsSplit c.args.dims.now c.args.parts.now c.args.cells.now (length c.args.dims.now - 1) c.as_slice-dim.result.now c.index-dims-last.result c.index-parts-last.result = record { last_is = omega (arith, some_dims); parts_are = fit_length core.sets (term_of core) c.args.dims.now c.args.parts.now c.requires.subscripts; dim_is = c.as_slice-dim.ensures ∙ c.index-dims-last.is; part_is = c.index-parts-last.is; whole = c.requires.whole; some = some_cells } in split_some c.args.dims.now c.args.parts.now c.args.cells.now (length c.args.dims.now - 1) c.as_slice-dim.result.now c.index-dims-last.result c.index-parts-last.result split
+
+pub cells-loop-left-init : goal.cells-loop-left-init
+cells-loop-left-init g t c =
+    let core = c.args.core.now in let F = g.V.View.family c.args.view.now in let some_cells : 0 < length c.args.cells.now = some_is (length c.args.cells.now) c.is_empty.result c.is_empty.ensures c.if-is_empty.false in let some_dims : 0 < length c.args.dims.now = some_is (length c.args.dims.now) c.is_empty-2.result c.is_empty-2.ensures c.if-is_empty-2.false in let split : IsSplit c.args.dims.now c.args.parts.now c.args.cells.now (length c.args.dims.now - 1) c.as_slice-dim.result.now c.index-dims-last.result c.index-parts-last.result = record { last_is = omega (arith, some_dims); parts_are = fit_length core.sets (term_of core) c.args.dims.now c.args.parts.now c.requires.subscripts; dim_is = c.as_slice-dim.ensures ∙ c.index-dims-last.is; part_is = c.index-parts-last.is; whole = c.requires.whole; some = some_cells } in let count = split_count c.args.dims.now c.args.parts.now c.args.cells.now (length c.args.dims.now - 1) c.as_slice-dim.result.now c.index-dims-last.result c.index-parts-last.result split in (omega arith, split_start c.args.dims.now c.args.parts.now c.args.cells.now (length c.args.dims.now - 1) c.as_slice-dim.result.now c.index-dims-last.result c.index-parts-last.result split F (term_of core) (length c.args.cells.now / (length c.as_slice-dim.result.now)) count)
+
+pub cells-overflow_sub-left : goal.cells-overflow_sub-left
+cells-overflow_sub-left g t c =
+    search rules
+
+pub cells-is_reached-requires : goal.cells-is_reached-requires
+cells-is_reached-requires g t c κs within =
+    let core = c.args.core.now in let F = g.V.View.family c.args.view.now in let some_cells : 0 < length c.args.cells.now = some_is (length c.args.cells.now) c.is_empty.result c.is_empty.ensures c.if-is_empty.false in let some_dims : 0 < length c.args.dims.now = some_is (length c.args.dims.now) c.is_empty-2.result c.is_empty-2.ensures c.if-is_empty-2.false in let split : IsSplit c.args.dims.now c.args.parts.now c.args.cells.now (length c.args.dims.now - 1) c.as_slice-dim.result.now c.index-dims-last.result c.index-parts-last.result = record { last_is = omega (arith, some_dims); parts_are = fit_length core.sets (term_of core) c.args.dims.now c.args.parts.now c.requires.subscripts; dim_is = c.as_slice-dim.ensures ∙ c.index-dims-last.is; part_is = c.index-parts-last.is; whole = c.requires.whole; some = some_cells } in let count = split_count c.args.dims.now c.args.parts.now c.args.cells.now (length c.args.dims.now - 1) c.as_slice-dim.result.now c.index-dims-last.result c.index-parts-last.result split in (search (rules, the_lemmas), (within, (c.requires.sound, (c.requires.subscripts, (omega (arith, some_dims), (count, (omega (arith, c.loop-left.invariant.0, c.loop-left-test.true), c.requires.within)))))))
+
+pub cells-overflow_mul-start : goal.cells-overflow_mul-start
+cells-overflow_mul-start g t c =
+    let core = c.args.core.now in let F = g.V.View.family c.args.view.now in let some_cells : 0 < length c.args.cells.now = some_is (length c.args.cells.now) c.is_empty.result c.is_empty.ensures c.if-is_empty.false in let some_dims : 0 < length c.args.dims.now = some_is (length c.args.dims.now) c.is_empty-2.result c.is_empty-2.ensures c.if-is_empty-2.false in let split : IsSplit c.args.dims.now c.args.parts.now c.args.cells.now (length c.args.dims.now - 1) c.as_slice-dim.result.now c.index-dims-last.result c.index-parts-last.result = record { last_is = omega (arith, some_dims); parts_are = fit_length core.sets (term_of core) c.args.dims.now c.args.parts.now c.requires.subscripts; dim_is = c.as_slice-dim.ensures ∙ c.index-dims-last.is; part_is = c.index-parts-last.is; whole = c.requires.whole; some = some_cells } in let count = split_count c.args.dims.now c.args.parts.now c.args.cells.now (length c.args.dims.now - 1) c.as_slice-dim.result.now c.index-dims-last.result c.index-parts-last.result split in let ends : ((c.loop-left.left - 1) * (length c.as_slice-dim.result.now)) + (length c.as_slice-dim.result.now) ≤ length c.args.cells.now = split_end c.args.dims.now c.args.parts.now c.args.cells.now (length c.args.dims.now - 1) c.as_slice-dim.result.now c.index-dims-last.result c.index-parts-last.result split (length c.args.cells.now / (length c.as_slice-dim.result.now)) c.loop-left.left count c.loop-left-test.true c.loop-left.invariant.0 in let start : ((c.loop-left.left - 1) * (length c.as_slice-dim.result.now)) ≤ length c.args.cells.now = omega (arith, ends) in search rules
+
+pub cells-overflow_add-row : goal.cells-overflow_add-row
+cells-overflow_add-row g t c =
+    let core = c.args.core.now in let F = g.V.View.family c.args.view.now in let some_cells : 0 < length c.args.cells.now = some_is (length c.args.cells.now) c.is_empty.result c.is_empty.ensures c.if-is_empty.false in let some_dims : 0 < length c.args.dims.now = some_is (length c.args.dims.now) c.is_empty-2.result c.is_empty-2.ensures c.if-is_empty-2.false in let split : IsSplit c.args.dims.now c.args.parts.now c.args.cells.now (length c.args.dims.now - 1) c.as_slice-dim.result.now c.index-dims-last.result c.index-parts-last.result = record { last_is = omega (arith, some_dims); parts_are = fit_length core.sets (term_of core) c.args.dims.now c.args.parts.now c.requires.subscripts; dim_is = c.as_slice-dim.ensures ∙ c.index-dims-last.is; part_is = c.index-parts-last.is; whole = c.requires.whole; some = some_cells } in let count = split_count c.args.dims.now c.args.parts.now c.args.cells.now (length c.args.dims.now - 1) c.as_slice-dim.result.now c.index-dims-last.result c.index-parts-last.result split in let ends : ((c.loop-left.left - 1) * (length c.as_slice-dim.result.now)) + (length c.as_slice-dim.result.now) ≤ length c.args.cells.now = split_end c.args.dims.now c.args.parts.now c.args.cells.now (length c.args.dims.now - 1) c.as_slice-dim.result.now c.index-dims-last.result c.index-parts-last.result split (length c.args.cells.now / (length c.as_slice-dim.result.now)) c.loop-left.left count c.loop-left-test.true c.loop-left.invariant.0 in search rules
+
+pub cells-offset_bounds-cells-start : goal.cells-offset_bounds-cells-start
+cells-offset_bounds-cells-start g t c =
+    let core = c.args.core.now in let F = g.V.View.family c.args.view.now in let some_cells : 0 < length c.args.cells.now = some_is (length c.args.cells.now) c.is_empty.result c.is_empty.ensures c.if-is_empty.false in let some_dims : 0 < length c.args.dims.now = some_is (length c.args.dims.now) c.is_empty-2.result c.is_empty-2.ensures c.if-is_empty-2.false in let split : IsSplit c.args.dims.now c.args.parts.now c.args.cells.now (length c.args.dims.now - 1) c.as_slice-dim.result.now c.index-dims-last.result c.index-parts-last.result = record { last_is = omega (arith, some_dims); parts_are = fit_length core.sets (term_of core) c.args.dims.now c.args.parts.now c.requires.subscripts; dim_is = c.as_slice-dim.ensures ∙ c.index-dims-last.is; part_is = c.index-parts-last.is; whole = c.requires.whole; some = some_cells } in let count = split_count c.args.dims.now c.args.parts.now c.args.cells.now (length c.args.dims.now - 1) c.as_slice-dim.result.now c.index-dims-last.result c.index-parts-last.result split in let ends : ((c.loop-left.left - 1) * (length c.as_slice-dim.result.now)) + (length c.as_slice-dim.result.now) ≤ length c.args.cells.now = split_end c.args.dims.now c.args.parts.now c.args.cells.now (length c.args.dims.now - 1) c.as_slice-dim.result.now c.index-dims-last.result c.index-parts-last.result split (length c.args.cells.now / (length c.as_slice-dim.result.now)) c.loop-left.left count c.loop-left-test.true c.loop-left.invariant.0 in let start : ((c.loop-left.left - 1) * (length c.as_slice-dim.result.now)) ≤ length c.args.cells.now = omega (arith, ends) in search rules
+
+pub cells-slice_bounds-row-count : goal.cells-slice_bounds-row-count
+cells-slice_bounds-row-count g t c =
+    omega arith
+
+pub cells-slice_bounds-row-start : goal.cells-slice_bounds-row-start
+cells-slice_bounds-row-start g t c =
+    search rules
+
+pub cells-slice_bounds-row-end : goal.cells-slice_bounds-row-end
+cells-slice_bounds-row-end g t c =
+    let core = c.args.core.now in let F = g.V.View.family c.args.view.now in let some_cells : 0 < length c.args.cells.now = some_is (length c.args.cells.now) c.is_empty.result c.is_empty.ensures c.if-is_empty.false in let some_dims : 0 < length c.args.dims.now = some_is (length c.args.dims.now) c.is_empty-2.result c.is_empty-2.ensures c.if-is_empty-2.false in let split : IsSplit c.args.dims.now c.args.parts.now c.args.cells.now (length c.args.dims.now - 1) c.as_slice-dim.result.now c.index-dims-last.result c.index-parts-last.result = record { last_is = omega (arith, some_dims); parts_are = fit_length core.sets (term_of core) c.args.dims.now c.args.parts.now c.requires.subscripts; dim_is = c.as_slice-dim.ensures ∙ c.index-dims-last.is; part_is = c.index-parts-last.is; whole = c.requires.whole; some = some_cells } in let count = split_count c.args.dims.now c.args.parts.now c.args.cells.now (length c.args.dims.now - 1) c.as_slice-dim.result.now c.index-dims-last.result c.index-parts-last.result split in let ends : ((c.loop-left.left - 1) * (length c.as_slice-dim.result.now)) + (length c.as_slice-dim.result.now) ≤ length c.args.cells.now = split_end c.args.dims.now c.args.parts.now c.args.cells.now (length c.args.dims.now - 1) c.as_slice-dim.result.now c.index-dims-last.result c.index-parts-last.result split (length c.args.cells.now / (length c.as_slice-dim.result.now)) c.loop-left.left count c.loop-left-test.true c.loop-left.invariant.0 in omega (arith, ends)
+
+pub cells-joined_row-found-requires-clause-sound : goal.cells-joined_row-found-requires-clause-sound
+cells-joined_row-found-requires-clause-sound g t c =
+    let core = c.args.core.now in let F = g.V.View.family c.args.view.now in let some_dims : 0 < length c.args.dims.now = some_is (length c.args.dims.now) c.is_empty-2.result c.is_empty-2.ensures c.if-is_empty-2.false in sound_at core.sets (term_of core) c.args.parts.now (length c.args.dims.now - 1) c.index-parts-last.result (omega (arith, some_dims, fit_length core.sets (term_of core) c.args.dims.now c.args.parts.now c.requires.subscripts)) c.index-parts-last.is c.requires.sound
+
+pub cells-joined_row-found-requires-clause-small : goal.cells-joined_row-found-requires-clause-small
+cells-joined_row-found-requires-clause-small g t c =
+    let core = c.args.core.now in let F = g.V.View.family c.args.view.now in let some_dims : 0 < length c.args.dims.now = some_is (length c.args.dims.now) c.is_empty-2.result c.is_empty-2.ensures c.if-is_empty-2.false in fit_at core.sets (term_of core) c.args.dims.now c.args.parts.now (length c.args.dims.now - 1) c.as_slice-dim.result.now c.index-dims-last.result c.index-parts-last.result c.requires.subscripts (omega (arith, some_dims)) (c.as_slice-dim.ensures ∙ c.index-dims-last.is) c.index-parts-last.is
+
+pub cells-joined_row-found-requires-clause-whole : goal.cells-joined_row-found-requires-clause-whole
+cells-joined_row-found-requires-clause-whole g t c =
+    let core = c.args.core.now in let F = g.V.View.family c.args.view.now in let some_cells : 0 < length c.args.cells.now = some_is (length c.args.cells.now) c.is_empty.result c.is_empty.ensures c.if-is_empty.false in let some_dims : 0 < length c.args.dims.now = some_is (length c.args.dims.now) c.is_empty-2.result c.is_empty-2.ensures c.if-is_empty-2.false in let split : IsSplit c.args.dims.now c.args.parts.now c.args.cells.now (length c.args.dims.now - 1) c.as_slice-dim.result.now c.index-dims-last.result c.index-parts-last.result = record { last_is = omega (arith, some_dims); parts_are = fit_length core.sets (term_of core) c.args.dims.now c.args.parts.now c.requires.subscripts; dim_is = c.as_slice-dim.ensures ∙ c.index-dims-last.is; part_is = c.index-parts-last.is; whole = c.requires.whole; some = some_cells } in let count = split_count c.args.dims.now c.args.parts.now c.args.cells.now (length c.args.dims.now - 1) c.as_slice-dim.result.now c.index-dims-last.result c.index-parts-last.result split in let ends : ((c.loop-left.left - 1) * (length c.as_slice-dim.result.now)) + (length c.as_slice-dim.result.now) ≤ length c.args.cells.now = split_end c.args.dims.now c.args.parts.now c.args.cells.now (length c.args.dims.now - 1) c.as_slice-dim.result.now c.index-dims-last.result c.index-parts-last.result split (length c.args.cells.now / (length c.as_slice-dim.result.now)) c.loop-left.left count c.loop-left-test.true c.loop-left.invariant.0 in ap (λ m. length (take m (drop ((c.loop-left.left - 1) * (length c.as_slice-dim.result.now)) c.args.cells.now))) (plus_less ((c.loop-left.left - 1) * (length c.as_slice-dim.result.now)) (length c.as_slice-dim.result.now)) ∙ length_slice c.args.cells.now ((c.loop-left.left - 1) * (length c.as_slice-dim.result.now)) (length c.as_slice-dim.result.now) ends
+
+pub cells-joined_row-found-requires-clause-there : goal.cells-joined_row-found-requires-clause-there
+cells-joined_row-found-requires-clause-there g t c =
+    let core = c.args.core.now in let F = g.V.View.family c.args.view.now in slice_there (length core.sets) c.args.cells.now ((c.loop-left.left - 1) * (length c.as_slice-dim.result.now)) (((c.loop-left.left - 1) * (length c.as_slice-dim.result.now)) + (length c.as_slice-dim.result.now) - ((c.loop-left.left - 1) * (length c.as_slice-dim.result.now))) c.requires.there
+
+pub cells-joined_row-found-requires-clause-within : goal.cells-joined_row-found-requires-clause-within
+cells-joined_row-found-requires-clause-within g t c =
+    c.requires.within
+
+pub cells-joined_row-found-requires-clause-beside : goal.cells-joined_row-found-requires-clause-beside
+cells-joined_row-found-requires-clause-beside g t c =
+    c.rest_of-beside.ensures
+
+pub cells-loop-left-smaller-then-is_reached : goal.cells-loop-left-smaller-then-is_reached
+cells-loop-left-smaller-then-is_reached g t c =
+    search rules
+
+pub cells-loop-left-smaller : goal.cells-loop-left-smaller
+cells-loop-left-smaller g t c =
+    search rules
+
+pub cells-loop-left-preserved-then-is_reached : goal.cells-loop-left-preserved-then-is_reached
+cells-loop-left-preserved-then-is_reached g t c =
+    let core = c.args.core.now in let F = g.V.View.family c.args.view.now in let some_cells : 0 < length c.args.cells.now = some_is (length c.args.cells.now) c.is_empty.result c.is_empty.ensures c.if-is_empty.false in let some_dims : 0 < length c.args.dims.now = some_is (length c.args.dims.now) c.is_empty-2.result c.is_empty-2.ensures c.if-is_empty-2.false in let split : IsSplit c.args.dims.now c.args.parts.now c.args.cells.now (length c.args.dims.now - 1) c.as_slice-dim.result.now c.index-dims-last.result c.index-parts-last.result = record { last_is = omega (arith, some_dims); parts_are = fit_length core.sets (term_of core) c.args.dims.now c.args.parts.now c.requires.subscripts; dim_is = c.as_slice-dim.ensures ∙ c.index-dims-last.is; part_is = c.index-parts-last.is; whole = c.requires.whole; some = some_cells } in let count = split_count c.args.dims.now c.args.parts.now c.args.cells.now (length c.args.dims.now - 1) c.as_slice-dim.result.now c.index-dims-last.result c.index-parts-last.result split in (omega (arith, c.loop-left.invariant.0), split_joined c.args.dims.now c.args.parts.now c.args.cells.now (length c.args.dims.now - 1) c.as_slice-dim.result.now c.index-dims-last.result c.index-parts-last.result split F (term_of core) (length c.args.cells.now / (length c.as_slice-dim.result.now)) c.loop-left.left c.is_reached.result c.loop-left.found c.joined_row-found.result (take (((c.loop-left.left - 1) * (length c.as_slice-dim.result.now)) + (length c.as_slice-dim.result.now) - ((c.loop-left.left - 1) * (length c.as_slice-dim.result.now))) (drop ((c.loop-left.left - 1) * (length c.as_slice-dim.result.now)) c.args.cells.now)) count c.loop-left-test.true c.loop-left.invariant.0 c.is_reached.ensures c.if-is_reached.true c.loop-left.invariant.1 (ap (λ m. take m (drop ((c.loop-left.left - 1) * (length c.as_slice-dim.result.now)) c.args.cells.now)) (plus_less ((c.loop-left.left - 1) * (length c.as_slice-dim.result.now)) (length c.as_slice-dim.result.now))) c.joined_row-found.ensures)
+
+pub cells-loop-left-preserved : goal.cells-loop-left-preserved
+cells-loop-left-preserved g t c =
+    let core = c.args.core.now in let F = g.V.View.family c.args.view.now in let some_cells : 0 < length c.args.cells.now = some_is (length c.args.cells.now) c.is_empty.result c.is_empty.ensures c.if-is_empty.false in let some_dims : 0 < length c.args.dims.now = some_is (length c.args.dims.now) c.is_empty-2.result c.is_empty-2.ensures c.if-is_empty-2.false in let split : IsSplit c.args.dims.now c.args.parts.now c.args.cells.now (length c.args.dims.now - 1) c.as_slice-dim.result.now c.index-dims-last.result c.index-parts-last.result = record { last_is = omega (arith, some_dims); parts_are = fit_length core.sets (term_of core) c.args.dims.now c.args.parts.now c.requires.subscripts; dim_is = c.as_slice-dim.ensures ∙ c.index-dims-last.is; part_is = c.index-parts-last.is; whole = c.requires.whole; some = some_cells } in let count = split_count c.args.dims.now c.args.parts.now c.args.cells.now (length c.args.dims.now - 1) c.as_slice-dim.result.now c.index-dims-last.result c.index-parts-last.result split in (omega (arith, c.loop-left.invariant.0), split_skipped c.args.dims.now c.args.parts.now c.args.cells.now (length c.args.dims.now - 1) c.as_slice-dim.result.now c.index-dims-last.result c.index-parts-last.result split F (term_of core) (length c.args.cells.now / (length c.as_slice-dim.result.now)) c.loop-left.left c.is_reached.result c.loop-left.found count c.loop-left-test.true c.loop-left.invariant.0 c.is_reached.ensures c.if-is_reached.false c.loop-left.invariant.1)
+
+pub cells-returns : goal.cells-returns
+cells-returns g t c =
+    let core = c.args.core.now in let F = g.V.View.family c.args.view.now in let some_cells : 0 < length c.args.cells.now = some_is (length c.args.cells.now) c.is_empty.result c.is_empty.ensures c.if-is_empty.false in let some_dims : 0 < length c.args.dims.now = some_is (length c.args.dims.now) c.is_empty-2.result c.is_empty-2.ensures c.if-is_empty-2.false in let split : IsSplit c.args.dims.now c.args.parts.now c.args.cells.now (length c.args.dims.now - 1) c.as_slice-dim.result.now c.index-dims-last.result c.index-parts-last.result = record { last_is = omega (arith, some_dims); parts_are = fit_length core.sets (term_of core) c.args.dims.now c.args.parts.now c.requires.subscripts; dim_is = c.as_slice-dim.ensures ∙ c.index-dims-last.is; part_is = c.index-parts-last.is; whole = c.requires.whole; some = some_cells } in split_whole c.args.dims.now c.args.parts.now c.args.cells.now (length c.args.dims.now - 1) c.as_slice-dim.result.now c.index-dims-last.result c.index-parts-last.result split F (term_of core) c.loop-left.left c.loop-left.found (none_left c.loop-left.left c.loop-left-test.false) c.loop-left.invariant.1

@@ -1,10 +1,12 @@
-use Rattle.std.proofs.Common.{◌≡◌, ◌+◌, ◌<◌, ◌≤◌, map, length, drop}
+use Rattle.std.proofs.Common.{◌≡◌, ◌+◌, ◌<◌, ◌≤◌, map, length, drop, take}
 use Rattle.opl_domain.specs.Arithmetic.{span_min}
 use Rattle.opl_expr.specs.declared.forms.Op.TheVariants.{Ne}
 use Rattle.opl_expr.specs.Options.{lift_onto}
 use Rattle.opl_expr.specs.Forms.{Term, Fact, term, fact, terms_of, facts_of, all_different, compared}
-use Rattle.opl_expr.specs.Range.{taken, rest, fact_range}
-use Rattle.opl_range.proofs.Tables.{IsReached, hull_from, marks}
+use Rattle.opl_expr.specs.Range.{taken, masks, may_be, linears, rest, fact_range}
+use Rattle.opl_range.proofs.Tables.{IsReached}
+use Rattle.opl_range.proofs.TableRows.{rows_from}
+use Rattle.opl_range.specs.Between.{linear_of}
 use Rattle.opl_range.proofs.ranges.+ranges.Given as goal
 
 abbrev pub invariant-sum-loop-left : goal.invariant-sum-loop-left
@@ -49,12 +51,13 @@ invariant-all_differ-loop-other g l = (l.left + 1 ≤ l.other) × (l.other ≤ l
 abbrev pub decreases-all_differ-loop-other : goal.decreases-all_differ-loop-other
 decreases-all_differ-loop-other g l = l.other
 
-abbrev pub invariant-cells-cells : goal.invariant-cells-cells
-invariant-cells-cells g l =
-    (l.left ≤ length l.cells) × (l.found ≡ hull_from (g.V.View.family l.view) (taken (marks (g.V.View.family l.view) (term l.core.tables l.core.resources) l.dims l.parts 0)) l.cells l.left)
+abbrev pub invariant-cells-loop-left : goal.invariant-cells-loop-left
+invariant-cells-loop-left g l =
+    (l.left ≤ l.count) × (l.found ≡ rows_from (g.V.View.family l.view) (map (may_be (g.V.View.family l.view) (linear_of (g.V.View.family l.view) (term l.core.tables l.core.resources l.part))) l.dim)
+    (taken (masks (may_be (g.V.View.family l.view)) (take l.last l.dims) (linears (g.V.View.family l.view) (terms_of (map (term l.core.tables l.core.resources) l.parts))))) l.cells (length l.dim) l.left)
 
-abbrev pub decreases-cells-cells : goal.decreases-cells-cells
-decreases-cells-cells g l = l.left
+abbrev pub decreases-cells-loop-left : goal.decreases-cells-loop-left
+decreases-cells-loop-left g l = l.left
 
-abbrev pub invariant-cells-loop-at : goal.invariant-cells-loop-at
-invariant-cells-loop-at g l = IsReached (g.V.View.family l.view) (term l.core.tables l.core.resources) l.dims l.parts l.left l.at l.size l.place
+abbrev pub invariant-is_reached-loop-at : goal.invariant-is_reached-loop-at
+invariant-is_reached-loop-at g l = IsReached (g.V.View.family l.view) (term l.core.tables l.core.resources) (take l.outer l.dims) l.parts l.row l.at l.size l.place
