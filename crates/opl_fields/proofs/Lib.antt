@@ -1,3 +1,4 @@
+pub mod Along
 pub mod Consumed
 pub mod Declared
 pub mod Examples

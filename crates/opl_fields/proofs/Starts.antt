@@ -264,11 +264,11 @@ starts-product ds at f t p [] (Some l) q = typed-starts ds (forms.chain (arithme
 starts-product ds at f t p (s ∷ ss) last q = typed-starts ds (forms.chain (arithmetic at) f (map form_mul_step (s ∷ ss) ++ forms.or_none (option_map form_last_step last))) (walk ds (says.chain at t (map mul_step_of (s ∷ ss) ++ says.or_none (option_map last_step_of last)))) q refl
 
 starts-suffixes : (ds : List DeclTree) (at : ℕ) (f : Form) (t : Term) → Starts ds f (walk ds t) → (ss : List SuffixTree) →
-    Follows ds (forms.with_suffixes at f (map form_suffix ss)) (walk ds (says.with_suffixes at t (map suffix_of ss))) →
-    Starts ds (forms.with_suffixes at f (map form_suffix ss)) (walk ds (says.with_suffixes at t (map suffix_of ss)))
+    Follows ds (forms.with_suffixes at f (map form_suffix ss)) (walk ds (says.with_suffixes at t [] (map suffix_of ss))) →
+    Starts ds (forms.with_suffixes at f (map form_suffix ss)) (walk ds (says.with_suffixes at t [] (map suffix_of ss)))
 starts-suffixes ds at f t p [] q = p
 starts-suffixes ds at f t p (s ∷ ss) q =
-    typed-starts ds (forms.with_suffixes at f (map form_suffix (s ∷ ss))) (walk ds (says.with_suffixes at t (map suffix_of (s ∷ ss)))) q (suffixes-plain at (forms.with_suffix at f (form_suffix s)) (map form_suffix ss) (suffix-plain at f (form_suffix s)))
+    typed-starts ds (forms.with_suffixes at f (map form_suffix (s ∷ ss))) (walk ds (says.with_suffixes at t [] (map suffix_of (s ∷ ss)))) q (suffixes-plain at (forms.with_suffix at f (form_suffix s)) (map form_suffix ss) (suffix-plain at f (form_suffix s)))
 
 -- ---- each tree
 
@@ -284,7 +284,7 @@ case_add ds y =
 case_post : (ds : List DeclTree) (y : PostTree-F (In_compare ds) (In_mul ds) (In_neg ds) (In_open ds) (In_prim ds) (In_sign ds) (In_suffix ds) (In_add_step ds) (In_add ds) (In_and ds) (In_expr ds) (In_group_step ds) (In_group ds) (In_imp ds) (In_keyed ds) (In_last_step ds) (In_mul_step ds) (In_or ds) (In_params ds) (In_post ds) (In_set ds) (In_subscripts ds)) → Starts ds (form_post (roll-PostTree (inner_post ds y))) (walk ds (post_term (roll-PostTree (inner_post ds y))))
 case_post ds y =
     let F : PostTree-F CompareTree MulTree NegTree OpenTree PrimTree SignTree SuffixTree AddStep AddTree AndTree ExprTree GroupStep GroupTree ImpTree KeyedTree LastStep MulStep OrTree ParamsTree PostTree SetTree SubscriptsTree → Form = λ z. forms.with_suffixes z.at (form_prim z.prim) (map form_suffix z.suffixes) in
-    let G : PostTree-F CompareTree MulTree NegTree OpenTree PrimTree SignTree SuffixTree AddStep AddTree AndTree ExprTree GroupStep GroupTree ImpTree KeyedTree LastStep MulStep OrTree ParamsTree PostTree SetTree SubscriptsTree → Term = λ z. says.with_suffixes z.at (prim_term z.prim) (map suffix_of z.suffixes) in
+    let G : PostTree-F CompareTree MulTree NegTree OpenTree PrimTree SignTree SuffixTree AddStep AddTree AndTree ExprTree GroupStep GroupTree ImpTree KeyedTree LastStep MulStep OrTree ParamsTree PostTree SetTree SubscriptsTree → Term = λ z. says.with_suffixes z.at (prim_term z.prim) [] (map suffix_of z.suffixes) in
     let e : form_post (roll-PostTree (inner_post ds y)) ≡ F (inner_post ds y) = form_is.form_post-is (roll-PostTree (inner_post ds y)) ∙ ap F (out-roll-PostTree (inner_post ds y)) in
     let h : post_term (roll-PostTree (inner_post ds y)) ≡ G (inner_post ds y) = term_is.post_term-is (roll-PostTree (inner_post ds y)) ∙ ap G (out-roll-PostTree (inner_post ds y)) in
     starts-by ds (form_post (roll-PostTree (inner_post ds y))) (F (inner_post ds y)) (post_term (roll-PostTree (inner_post ds y))) (G (inner_post ds y)) e h

@@ -9,11 +9,13 @@ use Rattle.opl_tree.specs.declared.expression.NameTree.{NameTree}
 use Rattle.opl_tree.specs.declared.expression.PatternTree.{PatternTree}
 use Rattle.opl_tree.specs.declared.expression.QuestionOp.{QuestionOp}
 use Rattle.opl_tree.specs.declared.expression.Relation.{Relation}
+use Rattle.opl_term.specs.declared.term.FieldName.{FieldName}
 use Rattle.opl_term.specs.declared.term.GroupTerm.{GroupTerm}
 use Rattle.opl_term.specs.declared.term.SetTerm.{SetTerm}
 use Rattle.opl_term.specs.declared.term.SetTerm.TheVariants as sets_of
 use Rattle.opl_term.specs.declared.term.Term.{Term}
 use Rattle.opl_term.specs.declared.term.Term.TheVariants as terms
+use Rattle.opl_term.specs.Terms.{with_fields}
 use Rattle.opl_type_rules.specs.declared.fault.TypeFault.{TypeFault}
 use Rattle.opl_type_rules.specs.declared.fault.TypeFault.TheVariants.{Unknown, Mismatch, NotData}
 use Rattle.opl_type_rules.specs.Types.{Sort, is_number, is_truth, is_set}
@@ -31,7 +33,7 @@ use Rattle.opl_fields.specs.Walk.{State, Pass, one, each, if_written, in_turn, n
 use Rattle.opl_fields.specs.Fields.{record_of}
 use Rattle.opl_fields.specs.Typed.{placed, field_of_record, field_of, scope_behind, scope_or, scope_bound, form_fields, parts_fields, pairs_fields, set_fields, groups_fields, params_fields}
 use Rattle.opl_fields.specs.Laws.{known}
-use Rattle.opl_fields.proofs.Walks.{walk-Named, walk-Bracket, walk-Negative, walk-Related, walk-Member, walk-Aggregate, walk-Call, walk-AllDifferent, walk-Question, walk-Element, walk-Field, walk-Record, walk-Listed, walk-Described, walk-Array, walk-KeyedArray, walk_set-Whole, walk_set-Between}
+use Rattle.opl_fields.proofs.Walks.{walk-Named, walk-Bracket, walk-Negative, walk-Related, walk-Member, walk-Aggregate, walk-Call, walk-AllDifferent, walk-Question, walk-Element, walk-further, walk-Record, walk-Listed, walk-Described, walk-Array, walk-KeyedArray, walk_set-Whole, walk_set-Between}
 
 -- ---- what a walk takes and finds
 
@@ -370,16 +372,17 @@ module _ (ds : List DeclTree) where
   note-is name None found rest = ap (λ l. known l rest) (sym (append-nil found))
   note-is name (Some k) found rest = noted-is name.at (position ds k name.text) found rest
 
-  pub follows-Field : (at : ℕ) (f : Form) (name : NameTree) (t : Term) → Follows f (walk ds t) → Follows (field at f name) (walk ds (terms.Field at t name.at name.text))
+  pub follows-Field : (at : ℕ) (f : Form) (name : NameTree) (t : Term) (names : List FieldName) → Follows f (walk ds (with_fields at t names)) →
+      Follows (field at f name) (walk ds (with_fields at t (names ++ record { at = name.at; text = name.text } ∷ [])))
   unfolding typing form_fields
-  follows-Field at f name t p sc n h found rest =
+  follows-Field at f name t names p sc n h found rest =
       let w = went (and_then (typing sc f) part) _ n h in
       let a = form_fields ds sc f in
       let m = w.0 in
       let r : Option ℕ = record_of m.sort in
-      ap (λ l. walk ds (terms.Field at t name.at name.text) (known found (record_of n.sort ∷ (map record_of l ++ rest)))) (field-inner sc at m name m.sort n w.2)
-      ∙ walk-Field ds at t name.at name.text (known found (record_of n.sort ∷ (map record_of (kinds m ++ []) ++ rest)))
-      ∙ ap (note ds name.at name.text r) (takes-end (walk ds t) (kinds m) a (p sc m (part-is _ m w.1)) found rest)
+      ap (λ l. walk ds (with_fields at t (names ++ record { at = name.at; text = name.text } ∷ [])) (known found (record_of n.sort ∷ (map record_of l ++ rest)))) (field-inner sc at m name m.sort n w.2)
+      ∙ walk-further ds at t names (record { at = name.at; text = name.text }) (known found (record_of n.sort ∷ (map record_of (kinds m ++ []) ++ rest)))
+      ∙ ap (note ds name.at name.text r) (takes-end (walk ds (with_fields at t names)) (kinds m) a (p sc m (part-is _ m w.1)) found rest)
       ∙ note-is name r (found ++ a) rest
       ∙ ap (λ l. known l rest) (append_assoc found a (field_of_record ds name r))
       ∙ ap (λ c. known (found ++ (a ++ field_of ds name c)) rest) (sym (part-is _ m w.1))

@@ -1,11 +1,13 @@
 -- The walk over each form of terms, by the walks over its parts.
-use Rattle.std.proofs.Common.{◌≡◌, ℕ, ℤ, List, map, Option, None, Some, sym, ap, ◌∙◌}
+use Rattle.std.proofs.Common.{◌≡◌, ℕ, ℤ, List, [], ◌∷◌, ◌++◌, map, reverse, Option, None, Some, sym, ap, ◌∙◌}
 use Rattle.std.specs.Option.{option_map}
+use Rattle.std.proofs.lemmas.List.{reverse-append}
 use Rattle.opl_tree.specs.declared.declaration.DeclTree.{DeclTree}
 use Rattle.opl_tree.specs.declared.expression.AggregateOp.{AggregateOp}
 use Rattle.opl_tree.specs.declared.expression.CallOp.{CallOp}
 use Rattle.opl_tree.specs.declared.expression.QuestionOp.{QuestionOp}
 use Rattle.opl_tree.specs.declared.expression.Relation.{Relation}
+use Rattle.opl_term.specs.declared.term.FieldName.{FieldName}
 use Rattle.opl_term.specs.declared.term.GroupTerm.{GroupTerm}
 use Rattle.opl_term.specs.declared.term.GroupTerm.TheVariants as groups_of
 use Rattle.opl_term.specs.declared.term.GroupTerm.TheOpen.{GroupTerm-F, SetTerm-F, Step-F, Term-F}
@@ -18,7 +20,8 @@ use Rattle.opl_term.specs.declared.term.Step.{Step}
 use Rattle.opl_term.specs.declared.term.Step.TheVariants as steps_of
 use Rattle.opl_term.specs.declared.term.Term.{Term}
 use Rattle.opl_term.specs.declared.term.Term.TheVariants as terms
-use Rattle.opl_fields.specs.Walk.{State, Pass, one, next, later, each, if_written, in_turn, note, group_layer, set_layer, step_layer, term_layer, walk, walk_step, walk_set, walk_group}
+use Rattle.opl_term.specs.Terms.{with_fields}
+use Rattle.opl_fields.specs.Walk.{State, Pass, along, one, next, later, each, if_written, in_turn, note, group_layer, set_layer, step_layer, term_layer, walk, walk_step, walk_set, walk_group}
 
 walk-roll : (ds : List DeclTree) (x : Term-F GroupTerm SetTerm Step Term) → walk ds (roll-Term x) ≡ term_layer ds (map-Term GroupTerm SetTerm Step Term Pass Pass Pass Pass (walk_group ds) (walk_set ds) (walk_step ds) (walk ds) x)
 unfolding walk walk_step walk_set walk_group
@@ -100,8 +103,17 @@ walk-Question ds at op t s = walk-is ds (terms.Question at op t) (Term-F.Questio
 pub walk-Element : (ds : List DeclTree) (at : ℕ) (t : Term) (ts : List Term) (s : State) → walk ds (terms.Element at t ts) s ≡ each (map (walk ds) ts) (walk ds t (one s))
 walk-Element ds at t ts s = walk-is ds (terms.Element at t ts) (Term-F.Element at t ts) s (terms.rolls-Element at t ts)
 
-pub walk-Field : (ds : List DeclTree) (at : ℕ) (t : Term) (place : ℕ) (name : List ℕ) (s : State) → walk ds (terms.Field at t place name) s ≡ note ds place name (next (later s.records)) (walk ds t (one s))
-walk-Field ds at t place name s = walk-is ds (terms.Field at t place name) (Term-F.Field at t place name) s (terms.rolls-Field at t place name)
+pub walk-Fields : (ds : List DeclTree) (at : ℕ) (t : Term) (names : List FieldName) (s : State) → walk ds (terms.Fields at t names) s ≡ along ds (walk ds t) (reverse names) s
+walk-Fields ds at t names s = walk-is ds (terms.Fields at t names) (Term-F.Fields at t names) s (terms.rolls-Fields at t names)
+
+-- a chain of fields with one more
+pub walk-further : (ds : List DeclTree) (at : ℕ) (t : Term) (names : List FieldName) (f : FieldName) (s : State) →
+    walk ds (with_fields at t (names ++ f ∷ [])) s ≡ note ds f.at f.text (next (later s.records)) (walk ds (with_fields at t names) (one s))
+walk-further ds at t [] f s = walk-Fields ds at t (f ∷ []) s
+walk-further ds at t (n ∷ ns) f s =
+    walk-Fields ds at t (n ∷ (ns ++ f ∷ [])) s
+    ∙ ap (λ l. along ds (walk ds t) l s) (reverse-append (n ∷ ns) (f ∷ []))
+    ∙ ap (note ds f.at f.text (next (later s.records))) (sym (walk-Fields ds at t (n ∷ ns) (one s)))
 
 pub walk-Record : (ds : List DeclTree) (at : ℕ) (ts : List Term) (s : State) → walk ds (terms.Record at ts) s ≡ each (map (walk ds) ts) (one s)
 walk-Record ds at ts s = walk-is ds (terms.Record at ts) (Term-F.Record at ts) s (terms.rolls-Record at ts)
@@ -146,7 +158,7 @@ walk_group-Unordered ds ps over s = walk_group-is ds (groups_of.Unordered ps ove
 pub walk_group-Ordered : (ds : List DeclTree) (ps : List Pattern) (over : SetTerm) (s : State) → walk_group ds (groups_of.Ordered ps over) s ≡ walk_set ds over s
 walk_group-Ordered ds ps over s = walk_group-is ds (groups_of.Ordered ps over) (GroupTerm-F.Ordered ps over) s (groups_of.rolls-Ordered ps over)
 
-pub ruleset walks = (walk-Number, walk-Named, walk-Bracket, walk-Negative, walk-Chain, walk-Related, walk-Member, walk-Equivalent, walk-Implied, walk-Or, walk-And, walk-Not, walk-Aggregate, walk-Call, walk-AllDifferent, walk-Question, walk-Element, walk-Field, walk-Record, walk-Listed, walk-Described, walk-Array, walk-KeyedArray)
+pub ruleset walks = (walk-Number, walk-Named, walk-Bracket, walk-Negative, walk-Chain, walk-Related, walk-Member, walk-Equivalent, walk-Implied, walk-Or, walk-And, walk-Not, walk-Aggregate, walk-Call, walk-AllDifferent, walk-Question, walk-Element, walk-Fields, walk-Record, walk-Listed, walk-Described, walk-Array, walk-KeyedArray)
 
 pub ruleset steps = (walk_step-Plus, walk_step-Minus, walk_step-Times, walk_step-Quotient, walk_step-Remainder)
 

@@ -6,8 +6,9 @@
 -- `a => b`, `not a`, `abs(a)`, `card(S)` and each question. `S` and `a..b` are no nodes: there the one or two expressions take
 -- theirs. A pattern takes none. The types stand in the order of the text: those of parameters before those of an aggregate's body,
 -- those of the element of `{e | p}` before those of p, and those of a key before those of its cell.
-use Rattle.std.specs.Prelude.{ℕ, List, [], ◌∷◌, ◌++◌, Option, Some, None}
+use Rattle.std.specs.Prelude.{ℕ, List, [], ◌∷◌, ◌++◌, drop, reverse, Option, Some, None}
 use Rattle.opl_tree.specs.declared.declaration.DeclTree.{DeclTree}
+use Rattle.opl_term.specs.declared.term.FieldName.{FieldName}
 use Rattle.opl_term.specs.declared.term.GroupTerm.{GroupTerm}
 use Rattle.opl_term.specs.declared.term.SetTerm.{SetTerm}
 use Rattle.opl_term.specs.declared.term.Step.{Step}
@@ -43,6 +44,10 @@ later (r ∷ rs) = rs
 abbrev pub one : Pass
 one s = record { found = s.found; records = later s.records }
 
+-- so many expressions take theirs
+abbrev pub several : ℕ → Pass
+several n s = record { found = s.found; records = drop n s.records }
+
 -- one after the other
 abbrev pub each : List Pass → Pass
 each [] s = s
@@ -66,6 +71,12 @@ noted place (Some p) s = record { found = s.found ++ record { place = place; pos
 abbrev pub note : List DeclTree → ℕ → List ℕ → Option ℕ → Pass
 note ds place name None s = s
 note ds place name (Some k) s = noted place (position ds k name) s
+
+-- an expression with a chain of fields behind it, the last field first: of `a.f.g` the type of the whole comes first, then that of
+-- `a.f`, then those of `a`; a field is noted behind those before it
+abbrev pub along : List DeclTree → Pass → List FieldName → Pass
+along ds base [] s = base s
+along ds base (f ∷ fs) s = note ds f.at f.text (next (later s.records)) (along ds base fs (one s))
 
 -- ---- one layer of each kind of term
 
@@ -103,8 +114,7 @@ term_layer ds (Term-F.Call at op t) s = t (one s)
 term_layer ds (Term-F.AllDifferent at t) s = t (one s)
 term_layer ds (Term-F.Question at op t) s = t (one s)
 term_layer ds (Term-F.Element at base subscripts) s = each subscripts (base (one s))
--- `a.f`: the type of `a` comes next, behind that of the whole
-term_layer ds (Term-F.Field at base place name) s = note ds place name (next (later s.records)) (base (one s))
+term_layer ds (Term-F.Fields at base names) s = along ds base (reverse names) s
 term_layer ds (Term-F.Record at ts) s = each ts (one s)
 term_layer ds (Term-F.Listed at ts) s = each ts (one s)
 -- `{a | GROUPS : c}`

@@ -1,12 +1,13 @@
 //! The walk over the terms of expressions.
-ghost use Rattle.std.specs.Prelude.{◌≡◌, map, OnOk};
+ghost use Rattle.std.specs.Prelude.{◌≡◌, drop, length, map, reverse, OnOk};
 ghost use Rattle.std.specs.Option.{option_copied, option_map};
 ghost use Rattle.opl_fields.specs.Walk as spec;
+ghost use Rattle.opl_fields.specs.Walk.{Pass, State};
 
 use crate::place::FieldPlace;
 use crate::structs::position;
 use opl_list::{Boxed, Seq};
-use opl_term::{GroupTerm, SetTerm, Step, Term};
+use opl_term::{FieldName, GroupTerm, SetTerm, Step, Term};
 use opl_tree::DeclTree;
 use std::alloc::{AllocError, Global};
 use std::marker::Model;
@@ -25,6 +26,27 @@ impl<'a> Model for Walk<'a> {
     ghost Value = { State };
 
     ghost view = { λ w. record { found = w.found; records = w.records.now } };
+}
+
+/// What stands behind so many of a list.
+fn behind(records: &[Option<u32>], count: usize) -> &[Option<u32>]
+    ensures { result.now ≡ drop count records.now }
+{
+    if count < records.len() {
+        &records[count..]
+    } else {
+        &[]
+    }
+}
+
+/// The struct that stands at a place of a list.
+fn record_at(records: &[Option<u32>], place: usize) -> Option<u32>
+    ensures { result ≡ spec.next (drop place records.now) }
+{
+    match records.get(place) {
+        Some(record) => *record,
+        None => None,
+    }
 }
 
 impl<'a> Walk<'a> {
@@ -46,19 +68,20 @@ impl<'a> Walk<'a> {
         found
     }
 
-    /// Takes the type of an expression, and tells the struct of the expression that comes next.
-    fn begin(&mut self) -> Option<u32>
-        ensures taken { self.new ≡ spec.one self.old }
-        ensures next { result ≡ spec.next (spec.later self.old.records) }
+    /// Takes the type of an expression.
+    fn begin(&mut self)
+        ensures { self.new ≡ spec.one self.old }
     {
-        let Some((_, rest)) = self.records.split_first() else {
-            return None;
-        };
-        self.records = rest;
-        match rest {
-            [next, ..] => *next,
-            [] => None,
+        if let Some((_, rest)) = self.records.split_first() {
+            self.records = rest;
         }
+    }
+
+    /// Takes the types of so many expressions.
+    fn skip(&mut self, count: usize)
+        ensures { self.new ≡ spec.several count self.old }
+    {
+        self.records = behind(self.records, count);
     }
 
     /// One more field, where it is one of the struct's.
@@ -87,30 +110,61 @@ impl<'a> Walk<'a> {
         }
     }
 
+    /// The fields of a chain, where the types before the chain's are these. The types of the chain, of each shorter one and of what
+    /// they are behind come one after another.
+    fn note_all(
+        &mut self,
+        decls: &[DeclTree],
+        names: &[FieldName],
+        records: &[Option<u32>],
+    ) -> Result<(), AllocError>
+        ensures { OnOk result ((base : Pass) (s : State) → records.now ≡ s.records → self.old ≡ base (spec.several (length names.now) s) → self.new ≡ spec.along decls.now base (reverse names.now) s) }
+    {
+        let mut place = names.len();
+        for name in names {
+            self.note(
+                decls,
+                name.at,
+                name.text.as_slice(),
+                record_at(records, place),
+            )?;
+            place -= 1;
+        }
+        Ok(())
+    }
+
     /// Goes through an expression.
     #[cycle(walk)]
     #[tactic(auto, using(crate::proofs::Walks::walks))]
     pub(crate) fn term(&mut self, decls: &[DeclTree], t: &Term) -> Result<(), AllocError>
         ensures { OnOk result (self.new ≡ spec.walk decls.now t.now self.old) }
     {
-        let next = self.begin();
         match t {
-            Term::Number(..) | Term::Named(..) => Ok(()),
+            Term::Number(..) | Term::Named(..) => {
+                self.begin();
+                Ok(())
+            }
             Term::Bracket(_, t)
             | Term::Negative(_, t)
             | Term::Not(_, t)
             | Term::Call(_, _, t)
             | Term::AllDifferent(_, t)
-            | Term::Question(_, _, t) => self.term(decls, t.get()),
+            | Term::Question(_, _, t) => {
+                self.begin();
+                self.term(decls, t.get())
+            }
             Term::Chain(_, first, steps) => {
+                self.begin();
                 self.term(decls, first.get())?;
                 self.steps(decls, steps.as_slice())
             }
             Term::Related(_, left, _, right) | Term::Implied(_, left, right) => {
+                self.begin();
                 self.term(decls, left.get())?;
                 self.term(decls, right.get())
             }
             Term::Member(_, t, over) => {
+                self.begin();
                 self.term(decls, t.get())?;
                 self.set(decls, over)
             }
@@ -119,26 +173,35 @@ impl<'a> Walk<'a> {
             | Term::And(_, ts)
             | Term::Record(_, ts)
             | Term::Listed(_, ts)
-            | Term::Array(_, ts) => self.terms(decls, ts.as_slice()),
+            | Term::Array(_, ts) => {
+                self.begin();
+                self.terms(decls, ts.as_slice())
+            }
             Term::Aggregate(_, _, groups, condition, body) => {
+                self.begin();
                 self.groups(decls, groups.as_slice())?;
                 self.condition(decls, condition)?;
                 self.term(decls, body.get())
             }
             Term::Element(_, base, subscripts) => {
+                self.begin();
                 self.term(decls, base.get())?;
                 self.terms(decls, subscripts.as_slice())
             }
-            Term::Field(_, base, place, name) => {
+            Term::Fields(_, base, names) => {
+                let records = self.records;
+                self.skip(names.len());
                 self.term(decls, base.get())?;
-                self.note(decls, *place, name.as_slice(), next)
+                self.note_all(decls, names.as_slice(), records)
             }
             Term::Described(_, t, groups, condition) => {
+                self.begin();
                 self.term(decls, t.get())?;
                 self.groups(decls, groups.as_slice())?;
                 self.condition(decls, condition)
             }
             Term::KeyedArray(_, keys, cells) => {
+                self.begin();
                 let cells = cells.as_slice();
                 for (i, key) in keys.as_slice().iter().enumerate() {
                     if i >= cells.len() {
