@@ -6,7 +6,6 @@ use Rattle.std.specs.Int.{int_min, int_max}
 use Rattle.opl_tree.specs.declared.expression.AggregateOp.{AggregateOp}
 use Rattle.opl_tree.specs.declared.expression.AggregateOp.TheVariants as operations
 use Rattle.opl_value.specs.declared.value.Value.{Value}
-use Rattle.opl_eval.specs.declared.arithmetic.Operation.{Operation}
 use Rattle.opl_eval.specs.declared.arithmetic.Operation.TheVariants as steps
 use Rattle.opl_eval.specs.declared.fault.EvalFault.{EvalFault}
 use Rattle.opl_eval.specs.declared.fault.EvalFault.TheVariants.{OutOfMemory}
@@ -14,7 +13,7 @@ use Rattle.opl_eval.specs.declared.gather.Gathered.{Gathered}
 use Rattle.opl_eval.specs.declared.gather.Gathered.TheVariants as made
 use Rattle.opl_eval.specs.Arithmetic.{then, run, plus, times}
 use Rattle.opl_eval.specs.Compare.{number}
-use Rattle.opl_eval.specs.Evaluation.{Environment, Found, eval, aggregate, found, integer}
+use Rattle.opl_eval.specs.Evaluation.{Environment, Found, eval, aggregate, integer}
 use Rattle.opl_eval.specs.declared.turns.Ahead.{Ahead}
 use Rattle.opl_eval.specs.declared.turns.Ahead.TheVariants as ahead
 use Rattle.opl_eval.specs.declared.turns.Turn.{Turn}

@@ -1,5 +1,5 @@
 -- Choices, element by element.
-use Rattle.std.proofs.Common.{◌≡◌, ◌≢◌, ◌+◌, ◌<◌, ◌≤◌, ℕ, length, get_or, drop, Result, Bool, true, false, cond, List, [], ◌∷◌, ◌++◌, map, Option, None, Some, Ok, Err, refl, ap, sym, ◌∙◌}
+use Rattle.std.proofs.Common.{◌≡◌, ◌≢◌, ◌+◌, ◌<◌, ◌≤◌, ℕ, length, get_or, drop, Result, Bool, true, false, cond, List, [], ◌∷◌, ◌++◌, map, Ok, Err, refl, ap, sym, ◌∙◌}
 use Rattle.std.specs.List.{flat_map}
 use Rattle.std.specs.Option.{option_copied, option_map}
 use Rattle.std.proofs.lemmas.List.{append-nil, at_drop_more, at_drop_all}
@@ -12,7 +12,7 @@ use Rattle.opl_eval.specs.declared.evaluate.Visit.{Visit}
 use Rattle.opl_eval.specs.declared.fault.EvalFault.{EvalFault}
 use Rattle.opl_eval.specs.declared.fault.EvalFault.TheVariants.{OutOfMemory}
 use Rattle.opl_eval.specs.Arithmetic.{then}
-use Rattle.opl_eval.specs.Evaluation.{Environment, Parameter, Found, Group, found, bound, with_parameters, independent, in_order, choices, gathered, visited, bodies, body_where, elements, declaration_of, group_meaning, set_meaning, meaning}
+use Rattle.opl_eval.specs.Evaluation.{Environment, Parameter, Found, Group, found, bound, with_parameters, independent, in_order, gathered, visited, bodies, body_where, elements, declaration_of, group_meaning, set_meaning, meaning}
 use Rattle.opl_eval.specs.declared.turns.Ahead.{Ahead}
 use Rattle.opl_eval.specs.Turns.{Inner, Leads, chosen, turns}
 use Rattle.opl_eval.specs.declared.gather.Gathered.{Gathered}

@@ -1,11 +1,11 @@
 -- What each form of terms comes to, by what its parts come to.
 use Rattle.std.proofs.Common.{◌≡◌, ◌||◌, ℕ, ℤ, pos, Bool as Truth, not, List, [], ◌∷◌, map, Option, None, Some, Ok, Err, refl, ap, ◌∙◌}
-use Rattle.std.specs.Option.{option_map}
 use Rattle.std.specs.List.{list_any, list_all}
 use Rattle.opl_tree.specs.declared.expression.AggregateOp.{AggregateOp}
 use Rattle.opl_tree.specs.declared.expression.CallOp.{CallOp}
 use Rattle.opl_tree.specs.declared.expression.QuestionOp.{QuestionOp}
 use Rattle.opl_tree.specs.declared.expression.Relation.{Relation}
+use Rattle.opl_term.specs.declared.term.FieldName.{FieldName}
 use Rattle.opl_term.specs.declared.term.GroupTerm.{GroupTerm}
 use Rattle.opl_term.specs.declared.term.SetTerm.{SetTerm}
 use Rattle.opl_term.specs.declared.term.SetTerm.TheVariants as sets
@@ -16,13 +16,11 @@ use Rattle.opl_term.specs.declared.term.Term.TheVariants as terms
 use Rattle.opl_value.specs.declared.value.Value.{Value}
 use Rattle.opl_value.specs.declared.value.Value.TheVariants as values
 use Rattle.opl_value.specs.declared.value.Dimension.TheViews.{out-Value}
-use Rattle.opl_value.specs.Places.{value_at}
 use Rattle.opl_value.specs.Sets.{first_occurrences}
-use Rattle.opl_eval.specs.declared.arithmetic.Operation.{Operation}
 use Rattle.opl_eval.specs.declared.arithmetic.Operation.TheVariants as operations
 use Rattle.opl_eval.specs.Arithmetic.{then, run, negative}
 use Rattle.opl_eval.specs.Compare.{number, relates, is_member}
-use Rattle.opl_eval.specs.Evaluation.{Environment, Found, Group, Meaning, aggregate, all, bodies, between, called, different_layer, element, equivalent, eval, found, integer, is_true, meaning, parts, set_meaning, step_meaning, group_meaning, truth, value_named, values_of}
+use Rattle.opl_eval.specs.Evaluation.{Environment, Found, aggregate, all, called, different_layer, element, equivalent, eval, found, integer, is_true, meaning, part_at, set_meaning, step_meaning, truth, value_named, values_of}
 use Rattle.opl_eval.specs.Visits.{bodies_in, operations_in, values_in}
 use Rattle.opl_eval.proofs.Meanings as by
 
@@ -89,8 +87,8 @@ eval-Question at op t env = ap (λ m. m.value env) (by.meaning-Question at op t)
 pub eval-Element : (at : ℕ) (t : Term) (ts : List Term) (env : Environment) → eval (terms.Element at t ts) env ≡ then (values_in ts env) (λ key. element at key ((meaning t).item env))
 eval-Element at t ts env = ap (λ m. m.value env) (by.meaning-Element at t ts) ∙ ap (λ r. then r (λ key. element at key ((meaning t).item env))) (each-term ts env)
 
-pub eval-Field : (at : ℕ) (t : Term) (place : ℕ) (name : List ℕ) (env : Environment) → eval (terms.Field at t place name) env ≡ found (λ v. value_at (parts v) (env.position place)) (eval t env)
-eval-Field at t place name env = ap (λ m. m.value env) (by.meaning-Field at t place name)
+pub eval-Fields : (at : ℕ) (t : Term) (names : List FieldName) (env : Environment) → eval (terms.Fields at t names) env ≡ found (λ v. part_at env.position v names) (eval t env)
+eval-Fields at t names env = ap (λ m. m.value env) (by.meaning-Fields at t names)
 
 pub eval-Record : (at : ℕ) (ts : List Term) (env : Environment) → eval (terms.Record at ts) env ≡ found values.Record (values_in ts env)
 eval-Record at ts env = ap (λ m. m.value env) (by.meaning-Record at ts) ∙ ap (λ r. found values.Record r) (each-term ts env)
@@ -135,7 +133,7 @@ step-Quotient t env = by.step_meaning-Quotient t env
 pub step-Remainder : (t : Term) (env : Environment) → step_meaning (steps.Remainder t) env ≡ found (λ v. operations.Remainder (number v)) (eval t env)
 step-Remainder t env = by.step_meaning-Remainder t env
 
-pub ruleset evals = (eval-Number, eval-Named, eval-Bracket, eval-Negative, eval-Chain, eval-Related, eval-Member, eval-Equivalent, eval-Implied, eval-Or, eval-And, eval-Not, eval-Call, eval-AllDifferent, eval-Question, eval-Element, eval-Field, eval-Record, eval-Listed, eval-Array, eval-KeyedArray, eval-Aggregate)
+pub ruleset evals = (eval-Number, eval-Named, eval-Bracket, eval-Negative, eval-Chain, eval-Related, eval-Member, eval-Equivalent, eval-Implied, eval-Or, eval-And, eval-Not, eval-Call, eval-AllDifferent, eval-Question, eval-Element, eval-Fields, eval-Record, eval-Listed, eval-Array, eval-KeyedArray, eval-Aggregate)
 
 pub ruleset descriptions = (eval-Described, eval-Number)
 

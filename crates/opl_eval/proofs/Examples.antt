@@ -27,7 +27,7 @@ use Rattle.opl_eval.specs.Compare as values_as
 use Rattle.opl_eval.specs.Compare.{equal}
 use Rattle.opl_eval.specs.Evaluation.{Environment, Item, Parameter, Found, Group, Meaning, value_named, item_named, declaration_of, with_parameters, parts_layer, elements, elements_layer, at_place, element, element_layer, choices, bound_parts, gathered, body_where, integer, value_layer}
 use Rattle.opl_eval.specs.Evaluation.{aggregate as aggregate_of}
-use Rattle.opl_eval.proofs.Known.{Known, KnownGroup, ComesTo, computed, number, name, bracket, negative, chain, related, member, conjunction, aggregate, aggregate_where, call, field, element as element_of, tuple, listed, plus, minus, times, quotient, remainder, whole, between, unordered, ordered}
+use Rattle.opl_eval.proofs.Known.{Known, KnownGroup, ComesTo, computed, number, name, bracket, negative, chain, related, member, conjunction, aggregate, aggregate_where, call, fields, element as element_of, tuple, listed, plus, minus, times, quotient, remainder, whole, between, unordered, ordered}
 
 abbrev num : ℤ → Known
 num n = number 0 n
@@ -216,7 +216,7 @@ unfolding sized equal value_named item_named views.out-Value denote.Hole.Carrier
 last_of_a_range = computed _ env _ refl
 
 -- <5,6>.f, where f is the second field
-second_field : ComesTo (field 0 (tuple 0 (num (pos 5) ∷ num (pos 6) ∷ [])) 6 (codes "f")) env (Ok (Int (pos 6)))
+second_field : ComesTo (fields 0 (tuple 0 (num (pos 5) ∷ num (pos 6) ∷ [])) (record { at = 6; text = codes "f" } ∷ [])) env (Ok (Int (pos 6)))
 unfolding sized equal value_named item_named views.out-Value denote.Hole.Carrier.out
 second_field = computed _ env _ (ap (λ v. Ok (value_at (parts_layer v) 1)) (values.outs-Record (Int (pos 5) ∷ Int (pos 6) ∷ [])))
 

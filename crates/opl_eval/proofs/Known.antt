@@ -3,6 +3,7 @@ use Rattle.std.proofs.Common.{◌≡◌, ℕ, ℤ, List, [], ◌∷◌, map, Non
 use Rattle.opl_tree.specs.declared.expression.AggregateOp.{AggregateOp}
 use Rattle.opl_tree.specs.declared.expression.CallOp.{CallOp}
 use Rattle.opl_tree.specs.declared.expression.Relation.{Relation}
+use Rattle.opl_term.specs.declared.term.FieldName.{FieldName}
 use Rattle.opl_term.specs.declared.term.GroupTerm.{GroupTerm}
 use Rattle.opl_term.specs.declared.term.GroupTerm.TheVariants as groups
 use Rattle.opl_term.specs.declared.term.GroupTerm.TheOpen.{GroupTerm-F, SetTerm-F, Step-F, Term-F}
@@ -134,11 +135,11 @@ element at a others = record {
   is = by.meaning-Element at a.term (map (λ k. k.term) others) ∙ (λ i. term_layer (Term-F.Element at (a.is i) (terms_are others i)));
 }
 
-abbrev pub field : ℕ → Known → ℕ → List ℕ → Known
-field at a place text = record {
-  term = terms.Field at a.term place text;
-  means = term_layer (Term-F.Field at a.means place text);
-  is = by.meaning-Field at a.term place text ∙ (λ i. term_layer (Term-F.Field at (a.is i) place text));
+abbrev pub fields : ℕ → Known → List FieldName → Known
+fields at a names = record {
+  term = terms.Fields at a.term names;
+  means = term_layer (Term-F.Fields at a.means names);
+  is = by.meaning-Fields at a.term names ∙ (λ i. term_layer (Term-F.Fields at (a.is i) names));
 }
 
 abbrev pub tuple : ℕ → List Known → Known

@@ -2,7 +2,7 @@
 use Rattle.std.proofs.Common.{◌≡◌, ℕ, ◌+◌, suc, zero, Bool, true, false, cond, List, [], ◌∷◌, ◌++◌, length, drop, map, Bor, Decides, Option, None, Some, refl, ap, ◌∙◌, sym, arith}
 use Rattle.std.specs.Prelude.{bytes_eq}
 use Rattle.std.specs.List.{slice_get}
-use Rattle.std.specs.Option.{option_copied, option_map}
+use Rattle.std.specs.Option.{option_map}
 use Rattle.std.specs.HashMap.{HashMap, get_by}
 use Rattle.std.proofs.lemmas.Bool.Decides.{same_from_decides}
 use Rattle.std.proofs.lemmas.Slice.Eq.{bytes_eq-Decides}
@@ -10,7 +10,7 @@ use Rattle.opl_value.specs.declared.value.Value.{Value}
 use Rattle.opl_eval.specs.declared.entry.Entry.{Entry}
 use Rattle.opl_eval.specs.declared.environment.Environment as code
 use Rattle.opl_eval.specs.declared.environment.Parameter as parameters
-use Rattle.opl_eval.specs.Evaluation.{Item, Parameter, Environment, latest_or, parameter_or, item_named, value_named, unhidden, visible, declared}
+use Rattle.opl_eval.specs.Evaluation.{Item, Environment, latest_or, parameter_or, item_named, value_named, unhidden, visible, declared}
 use Rattle.opl_eval.specs.LatestPlaces.{place_or, entry_at, entry_or}
 use Rattle.opl_eval.specs.declared.turns.Turn.{Turn}
 use Rattle.opl_eval.specs.Turns.{in_turns, under}
@@ -158,6 +158,6 @@ pub parameter-in : (env : code.Environment) (ps : List parameters.Parameter) (ts
 unfolding within
 parameter-in env ps ts name = under-value (within env ps) name ts
 
-pub position-of : (env : code.Environment) (ps : List parameters.Parameter) (ts : List Turn) (place : ℕ) → (under (within env ps) ts).position place ≡ position_in env.positions place
+pub positions-of : (env : code.Environment) (ps : List parameters.Parameter) (ts : List Turn) → (under (within env ps) ts).position ≡ position_in env.positions
 unfolding within
-position-of env ps ts place = ap (λ f. f place) (under-position (within env ps) ts)
+positions-of env ps ts = under-position (within env ps) ts

@@ -15,5 +15,6 @@ pub mod SetElements
 pub mod Sized
 pub mod Sizes
 pub mod TermItems
+pub mod TurnNames
 pub mod Variants
 pub mod Weights

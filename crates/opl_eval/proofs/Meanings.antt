@@ -4,6 +4,7 @@ use Rattle.opl_tree.specs.declared.expression.AggregateOp.{AggregateOp}
 use Rattle.opl_tree.specs.declared.expression.CallOp.{CallOp}
 use Rattle.opl_tree.specs.declared.expression.QuestionOp.{QuestionOp}
 use Rattle.opl_tree.specs.declared.expression.Relation.{Relation}
+use Rattle.opl_term.specs.declared.term.FieldName.{FieldName}
 use Rattle.opl_term.specs.declared.term.GroupTerm.{GroupTerm}
 use Rattle.opl_term.specs.declared.term.GroupTerm.TheVariants as groups
 use Rattle.opl_term.specs.declared.term.GroupTerm.TheOpen.{GroupTerm-F, SetTerm-F, Step-F, Term-F}
@@ -92,9 +93,9 @@ pub meaning-Element : (at : ℕ) (t : Term) (ts : List Term) → meaning (terms.
 unfolding meaning step_meaning set_meaning group_meaning
 meaning-Element at t ts = ap meaning (sym (terms.rolls-Element at t ts)) ∙ rw fold-roll-Term refl
 
-pub meaning-Field : (at : ℕ) (t : Term) (place : ℕ) (name : List ℕ) → meaning (terms.Field at t place name) ≡ term_layer (Term-F.Field at (meaning t) place name)
+pub meaning-Fields : (at : ℕ) (t : Term) (names : List FieldName) → meaning (terms.Fields at t names) ≡ term_layer (Term-F.Fields at (meaning t) names)
 unfolding meaning step_meaning set_meaning group_meaning
-meaning-Field at t place name = ap meaning (sym (terms.rolls-Field at t place name)) ∙ rw fold-roll-Term refl
+meaning-Fields at t names = ap meaning (sym (terms.rolls-Fields at t names)) ∙ rw fold-roll-Term refl
 
 pub meaning-Record : (at : ℕ) (ts : List Term) → meaning (terms.Record at ts) ≡ term_layer (Term-F.Record at (map meaning ts))
 unfolding meaning step_meaning set_meaning group_meaning
@@ -161,4 +162,4 @@ unfolding meaning step_meaning set_meaning group_meaning
 group_meaning-Ordered ps s = ap group_meaning (sym (groups.rolls-Ordered ps s)) ∙ rw fold-roll-GroupTerm refl
 
 -- what each form means
-pub ruleset meanings = (meaning-Number, meaning-Named, meaning-Bracket, meaning-Negative, meaning-Chain, meaning-Related, meaning-Member, meaning-Equivalent, meaning-Implied, meaning-Or, meaning-And, meaning-Not, meaning-Aggregate, meaning-Aggregate_where, meaning-Call, meaning-AllDifferent, meaning-Question, meaning-Element, meaning-Field, meaning-Record, meaning-Listed, meaning-Described, meaning-Described_where, meaning-Array, meaning-KeyedArray, step_meaning-Plus, step_meaning-Minus, step_meaning-Times, step_meaning-Quotient, step_meaning-Remainder, set_meaning-Whole, set_meaning-Between, group_meaning-Unordered, group_meaning-Ordered)
+pub ruleset meanings = (meaning-Number, meaning-Named, meaning-Bracket, meaning-Negative, meaning-Chain, meaning-Related, meaning-Member, meaning-Equivalent, meaning-Implied, meaning-Or, meaning-And, meaning-Not, meaning-Aggregate, meaning-Aggregate_where, meaning-Call, meaning-AllDifferent, meaning-Question, meaning-Element, meaning-Fields, meaning-Record, meaning-Listed, meaning-Described, meaning-Described_where, meaning-Array, meaning-KeyedArray, step_meaning-Plus, step_meaning-Minus, step_meaning-Times, step_meaning-Quotient, step_meaning-Remainder, set_meaning-Whole, set_meaning-Between, group_meaning-Unordered, group_meaning-Ordered)

@@ -5,13 +5,11 @@ use Rattle.std.proofs.lemmas.List.{append-nil}
 use Rattle.opl_term.specs.declared.term.Pattern.{Pattern}
 use Rattle.opl_value.specs.declared.value.Value.{Value}
 use Rattle.opl_eval.specs.declared.elements.Elements.{Elements}
-use Rattle.opl_eval.specs.declared.turns.Ahead.{Ahead}
 use Rattle.opl_eval.specs.declared.turns.Ahead.TheVariants as ahead
 use Rattle.opl_eval.specs.declared.turns.Course.{Course}
 use Rattle.opl_eval.specs.declared.turns.Turn.{Turn}
-use Rattle.opl_eval.specs.Arithmetic.{then}
-use Rattle.opl_eval.specs.Evaluation.{Environment, Found, Parameter, found, bound, parameter_or, with_parameters}
-use Rattle.opl_eval.specs.Turns.{Inner, ahead_in, both, chosen, in_turns, left, left_of, pending, still, turns, under}
+use Rattle.opl_eval.specs.Evaluation.{Environment, Found, Parameter, bound, parameter_or, with_parameters}
+use Rattle.opl_eval.specs.Turns.{Inner, both, chosen, in_turns, left, left_of, pending, still, turns, under}
 use Rattle.opl_eval.proofs.Choices.{joined, none-first}
 
 pub none-behind : {A : Type 0} (r : Found (List A)) → both r (Ok []) ≡ r

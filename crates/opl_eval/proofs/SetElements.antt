@@ -1,15 +1,17 @@
 -- What the variants of values hold.
-use Rattle.std.proofs.Common.{◌≡◌, ◌-◌, ◌+◌, ℕ, ℤ, pos, subst, zero, suc, List, [], ◌∷◌, length, refl, ap, sym, ◌∙◌, arith}
+use Rattle.std.proofs.Common.{◌≡◌, ◌+◌, ◌<◌, ℕ, ℤ, pos, subst, suc, Bor, IfNone, List, [], ◌∷◌, drop, get_or, length, Option, None, Some, refl, ap, sym, ◌∙◌}
+use Rattle.std.proofs.lemmas.List.{at_drop_more}
+use Rattle.opl_term.specs.declared.term.FieldName.{FieldName}
 use Rattle.opl_value.specs.declared.value.Value.{Value}
 use Rattle.opl_value.specs.declared.value.Value.TheVariants as made
 use Rattle.opl_value.specs.declared.value.IndexSpace.{IndexSpace}
 use Rattle.std.specs.Prelude.{Bool, true, false, Ok}
 use Rattle.opl_value.specs.Places.{numbers_between}
 use Rattle.opl_value.specs.declared.value.Dimension.TheViews.{out-Value}
-use Rattle.opl_value.specs.Places.{lists, place_of}
+use Rattle.opl_value.specs.Places.{lists, place_of, value_at}
 use Rattle.opl_eval.specs.ArrayKeys.{HasPlaces, IsKeyed, keyed_layer}
 use Rattle.opl_eval.specs.Compare.{all_different}
-use Rattle.opl_eval.specs.Evaluation.{Found, at_place, different_layer, element_layer, elements, elements_layer, is_true, names_from, parts, parts_layer, truth_layer}
+use Rattle.opl_eval.specs.Evaluation.{at_place, different_layer, element_layer, elements, elements_layer, is_true, names_from, part_at, part_of, parts, parts_layer, truth_layer}
 use Rattle.opl_eval.specs.Visible.{names_on}
 
 pub names_from-on : (d p : ℕ) (ns : List (List ℕ)) → names_from d p ns ≡ names_on d p (length ns)
@@ -67,6 +69,26 @@ pub parts-Array : (s : IndexSpace) (vs : List Value) → parts (made.Array s vs)
 parts-Array s vs = ap parts_layer (made.outs-Array s vs)
 
 pub ruleset parts_of_variants = (parts-Int, parts-Bool, parts-Enum, parts-Record, parts-Set, parts-Range, parts-Names, parts-Array)
+
+part_of-none : (position : ℕ → ℕ) (name : FieldName) → part_of position (made.Int (pos 0)) name ≡ made.Int (pos 0)
+part_of-none position name = ap (λ vs. value_at vs (position name.at)) (parts-Int (pos 0))
+
+-- what is no record has no part of a part either
+part_at-none : (position : ℕ → ℕ) (names : List FieldName) → part_at position (made.Int (pos 0)) names ≡ made.Int (pos 0)
+part_at-none position [] = refl
+part_at-none position (n ∷ ns) = ap (λ v. part_at position v ns) (part_of-none position n) ∙ part_at-none position ns
+
+-- no part has that field, so that nothing behind it is there
+pub part-missing : (o : Option (Bor Value)) (position : ℕ → ℕ) (names : List FieldName) (i : ℕ) (part whole : Value) (name : FieldName) →
+    IfNone o (part_of position part name ≡ made.Int (pos 0)) → o ≡ None → i < length names → name ≡ get_or names i name →
+    part_at position part (drop i names) ≡ part_at position whole names → made.Int (pos 0) ≡ part_at position whole names
+part-missing (Some p) position names i part whole name h n l e k = cc
+part-missing None position names i part whole name h n l e k =
+    sym (part_at-none position (drop (i + 1) names))
+    ∙ ap (λ v. part_at position v (drop (i + 1) names)) (sym h)
+    ∙ ap (λ f. part_at position part (f ∷ drop (i + 1) names)) e
+    ∙ sym (at_drop_more (part_at position part) names i name l)
+    ∙ k
 
 pub is_true-Int : (n : ℤ) → is_true (made.Int n) ≡ false
 is_true-Int n = ap truth_layer (made.outs-Int n)

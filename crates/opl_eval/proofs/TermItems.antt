@@ -1,9 +1,10 @@
 -- Which item a term is.
-use Rattle.std.proofs.Common.{◌≡◌, ℕ, ℤ, List, Option, None, Some, refl, ap}
+use Rattle.std.proofs.Common.{◌≡◌, ℕ, ℤ, List, Option, None, Some, ap}
 use Rattle.opl_tree.specs.declared.expression.AggregateOp.{AggregateOp}
 use Rattle.opl_tree.specs.declared.expression.CallOp.{CallOp}
 use Rattle.opl_tree.specs.declared.expression.QuestionOp.{QuestionOp}
 use Rattle.opl_tree.specs.declared.expression.Relation.{Relation}
+use Rattle.opl_term.specs.declared.term.FieldName.{FieldName}
 use Rattle.opl_term.specs.declared.term.GroupTerm.{GroupTerm}
 use Rattle.opl_term.specs.declared.term.SetTerm.{SetTerm}
 use Rattle.opl_term.specs.declared.term.SetTerm.TheVariants as sets
@@ -61,8 +62,8 @@ item-Question at op t env = ap (λ m. m.item env) (by.meaning-Question at op t)
 pub item-Element : (at : ℕ) (t : Term) (ts : List Term) (env : Environment) → (meaning (terms.Element at t ts)).item env ≡ None
 item-Element at t ts env = ap (λ m. m.item env) (by.meaning-Element at t ts)
 
-pub item-Field : (at : ℕ) (t : Term) (place : ℕ) (name : List ℕ) (env : Environment) → (meaning (terms.Field at t place name)).item env ≡ None
-item-Field at t place name env = ap (λ m. m.item env) (by.meaning-Field at t place name)
+pub item-Fields : (at : ℕ) (t : Term) (names : List FieldName) (env : Environment) → (meaning (terms.Fields at t names)).item env ≡ None
+item-Fields at t names env = ap (λ m. m.item env) (by.meaning-Fields at t names)
 
 pub item-Record : (at : ℕ) (ts : List Term) (env : Environment) → (meaning (terms.Record at ts)).item env ≡ None
 item-Record at ts env = ap (λ m. m.item env) (by.meaning-Record at ts)
@@ -90,6 +91,6 @@ declaration-Whole t env = ap (λ m. declaration_of (m.item env)) (by.set_meaning
 pub declaration-Between : (t u : Term) (env : Environment) → declaration_of ((set_meaning (sets.Between t u)).item env) ≡ 0
 declaration-Between t u env = ap (λ m. declaration_of (m.item env)) (by.set_meaning-Between t u)
 
-pub ruleset items_of_terms = (item-Number, item-Named, item-Bracket, item-Negative, item-Chain, item-Related, item-Member, item-Equivalent, item-Implied, item-Or, item-And, item-Not, item-Call, item-AllDifferent, item-Question, item-Element, item-Field, item-Record, item-Listed, item-Array, item-KeyedArray, item-Aggregate, item-Described)
+pub ruleset items_of_terms = (item-Number, item-Named, item-Bracket, item-Negative, item-Chain, item-Related, item-Member, item-Equivalent, item-Implied, item-Or, item-And, item-Not, item-Call, item-AllDifferent, item-Question, item-Element, item-Fields, item-Record, item-Listed, item-Array, item-KeyedArray, item-Aggregate, item-Described)
 
 pub ruleset items_of_sets = (declaration-Whole, declaration-Between)

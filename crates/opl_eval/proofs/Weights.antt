@@ -1,10 +1,10 @@
 -- The weight of each form of terms.
-use Rattle.std.proofs.Common.{◌≡◌, ◌+◌, ◌*◌, ◌<◌, ◌≤◌, ℕ, ℤ, List, [], ◌∷◌, map, length, get_or, zero, suc, Option, None, Some, refl, ap, sym, ◌∙◌, arith}
+use Rattle.std.proofs.Common.{◌≡◌, ◌+◌, ◌*◌, ◌<◌, ◌≤◌, ℕ, List, [], ◌∷◌, map, length, get_or, zero, suc, Option, None, Some, refl, ap, sym, ◌∙◌, arith}
 use Rattle.std.specs.Option.{option_map}
 use Rattle.opl_tree.specs.declared.expression.AggregateOp.{AggregateOp}
 use Rattle.opl_tree.specs.declared.expression.CallOp.{CallOp}
-use Rattle.opl_tree.specs.declared.expression.QuestionOp.{QuestionOp}
 use Rattle.opl_tree.specs.declared.expression.Relation.{Relation}
+use Rattle.opl_term.specs.declared.term.FieldName.{FieldName}
 use Rattle.opl_term.specs.declared.term.GroupTerm.{GroupTerm}
 use Rattle.opl_term.specs.declared.term.GroupTerm.TheVariants as groups
 use Rattle.opl_term.specs.declared.term.Pattern.{Pattern}
@@ -69,9 +69,9 @@ pub weight-Element : (at : ℕ) (t : Term) (ts : List Term) → weight (terms.El
 unfolding weight step_weight set_weight group_weight
 weight-Element at t ts = ap weight (sym (terms.rolls-Element at t ts)) ∙ rw fold-roll-Term refl
 
-pub weight-Field : (at : ℕ) (t : Term) (place : ℕ) (name : List ℕ) → weight (terms.Field at t place name) ≡ weight t + 20
+pub weight-Fields : (at : ℕ) (t : Term) (names : List FieldName) → weight (terms.Fields at t names) ≡ weight t + 20
 unfolding weight step_weight set_weight group_weight
-weight-Field at t place name = ap weight (sym (terms.rolls-Field at t place name)) ∙ rw fold-roll-Term refl
+weight-Fields at t names = ap weight (sym (terms.rolls-Fields at t names)) ∙ rw fold-roll-Term refl
 
 pub weight-Record : (at : ℕ) (ts : List Term) → weight (terms.Record at ts) ≡ total (map weight ts) + 20
 unfolding weight step_weight set_weight group_weight
@@ -143,7 +143,7 @@ weight-at w (y ∷ ys) (suc i) x l e =
 pub weight-more : {A : Type 0} (w : A → ℕ) (x : A) (xs ys : List A) → ys ≡ x ∷ xs → total (map w ys) ≡ w x + total (map w xs)
 weight-more w x xs ys e = ap (λ l. total (map w l)) e
 
-pub ruleset weights = (weight-Bracket, weight-Negative, weight-Chain, weight-Related, weight-Member, weight-Equivalent, weight-Implied, weight-Or, weight-And, weight-Not, weight-Call, weight-AllDifferent, weight-Element, weight-Field, weight-Record, weight-Listed, weight-Aggregate)
+pub ruleset weights = (weight-Bracket, weight-Negative, weight-Chain, weight-Related, weight-Member, weight-Equivalent, weight-Implied, weight-Or, weight-And, weight-Not, weight-Call, weight-AllDifferent, weight-Element, weight-Fields, weight-Record, weight-Listed, weight-Aggregate)
 
 pub ruleset weights_of_descriptions = (weight-Described, weight-Bracket)
 

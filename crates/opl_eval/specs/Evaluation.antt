@@ -10,6 +10,7 @@ use Rattle.opl_tree.specs.declared.expression.CallOp.{CallOp}
 use Rattle.opl_tree.specs.declared.expression.CallOp.TheVariants.{Absolute, Cardinality}
 use Rattle.opl_term.specs.declared.term.Pattern.{Pattern}
 use Rattle.opl_term.specs.declared.term.Pattern.TheVariants.{Single, Parts}
+use Rattle.opl_term.specs.declared.term.FieldName.{FieldName}
 use Rattle.opl_term.specs.declared.term.GroupTerm.{GroupTerm}
 use Rattle.opl_term.specs.declared.term.SetTerm.{SetTerm}
 use Rattle.opl_term.specs.declared.term.Step.{Step}
@@ -140,6 +141,13 @@ element_layer at key v = Ok (values.Int (pos 0))
 abbrev pub element : ℕ → List Value → Option Item → Found Value
 element at key (Some i) = element_layer at key (out-Value i.value)
 element at key None = Ok (values.Int (pos 0))
+
+-- the part of a value that a field names, and that which a chain of fields names, the first innermost
+abbrev pub part_of : (ℕ → ℕ) → Value → FieldName → Value
+part_of position v name = value_at (parts v) (position name.at)
+
+abbrev pub part_at : (ℕ → ℕ) → Value → List FieldName → Value
+part_at position v names = fold (part_of position) v names
 
 -- whether the elements of an array differ pairwise
 abbrev pub different_layer : {A C : Type 0} → Value-F A Value C → Bool
@@ -297,8 +305,8 @@ value_layer (Term-F.AllDifferent at t) env = found (λ v. values.Bool (different
 value_layer (Term-F.Question at op t) env = Ok (values.Int (pos 0))
 -- `a[b,..]`
 value_layer (Term-F.Element at base subscripts) env = then (values_of subscripts env) (λ key. element at key (base.item env))
--- `a.f`
-value_layer (Term-F.Field at t place name) env = found (λ v. value_at (parts v) (env.position place)) (t.value env)
+-- `a.f.g..`
+value_layer (Term-F.Fields at t names) env = found (λ v. part_at env.position v names) (t.value env)
 -- `<a,..>`
 value_layer (Term-F.Record at ts) env = found values.Record (values_of ts env)
 -- `{a,..}`

@@ -6,6 +6,7 @@ pub mod Gathered
 pub mod LatestPlaces
 pub mod Laws
 pub mod Scopes
+pub mod TurnNames
 pub mod Turns
 pub mod Visible
 pub mod Visits

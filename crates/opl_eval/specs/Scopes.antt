@@ -5,4 +5,4 @@ use Rattle.opl_eval.specs.Turns.{under}
 use Rattle.opl_eval.specs.Visible.{within}
 
 abbrev pub names_in : Scope → Environment
-names_in s = under (within s.environment.now s.parameters.now) s.turns.now
+names_in s = under (within s.environment.now s.parameters.now) s.turns.now.chosen.items

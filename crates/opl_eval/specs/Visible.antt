@@ -11,7 +11,7 @@ use Rattle.opl_eval.specs.declared.fault.EvalFault.TheVariants.{OutOfMemory}
 use Rattle.opl_eval.specs.declared.held.Held.{Held}
 use Rattle.opl_eval.specs.declared.held.Held.TheVariants.{Borrowed, Owned}
 use Rattle.opl_eval.specs.declared.positions.Positions.{Positions}
-use Rattle.opl_eval.specs.Evaluation.{Item, Parameter, Environment, Found, found, with_parameters}
+use Rattle.opl_eval.specs.Evaluation.{Item, Parameter, Environment, Found, found}
 
 -- ---- what functions answer
 

@@ -4,6 +4,7 @@ ghost use Rattle.std.specs.Prelude.{◌≡◌, ℕ, [], IfNone, IfOk, IfSome, co
 ghost use Rattle.opl_eval.specs.Evaluation.{Environment};
 ghost use Rattle.opl_eval.specs.Turns.{GoesOn, Inner, ahead_in, both, left, left_of, still, under};
 
+use crate::chosen::Turns;
 use crate::elements::Elements;
 use opl_term::Pattern;
 use opl_value::Value;
@@ -53,10 +54,10 @@ pub(crate) enum Ahead<'t> {
 /// Chooses the next element for a pattern, if there is one.
 fn take_turn<'t>(
     alloc: Global,
-    turns: &mut Vec<Turn<'t>>,
+    turns: &mut Turns<'t>,
     course: Course<'t>,
 ) -> Result<Ahead<'t>, AllocError>
-    ensures { IfOk result (λ next. (inner : Inner) (env : Environment) → both (left_of inner course.entry (under env turns.old.items)) (still inner env (Ok []) turns.old.items) ≡ both (ahead_in inner next (under env turns.new.items)) (still inner env (Ok []) turns.new.items)) }
+    ensures { IfOk result (λ next. (inner : Inner) (env : Environment) → both (left_of inner course.entry (under env turns.old.chosen.items)) (still inner env (Ok []) turns.old.chosen.items) ≡ both (ahead_in inner next (under env turns.new.chosen.items)) (still inner env (Ok []) turns.new.chosen.items)) }
 {
     let Course {
         is_ordered,
@@ -78,7 +79,7 @@ fn take_turn<'t>(
                 rest: behind,
                 later,
             };
-            turns.push(Turn { element, course })?;
+            turns.push(alloc, Turn { element, course })?;
             Ok(Ahead::Patterns(Names {
                 is_ordered,
                 patterns: others,
@@ -103,10 +104,10 @@ fn next_of(is_ordered: bool, behind: &Elements, all: &Elements) -> Result<Elemen
 /// Goes on with the first of patterns, or behind them where there are none.
 pub(crate) fn enter<'t>(
     alloc: Global,
-    turns: &mut Vec<Turn<'t>>,
+    turns: &mut Turns<'t>,
     names: Names<'t>,
 ) -> Result<Ahead<'t>, AllocError>
-    ensures { IfOk result (λ next. GoesOn (Ahead.Patterns names.entry) turns.old.items next turns.new.items) }
+    ensures { IfOk result (λ next. GoesOn (Ahead.Patterns names.entry) turns.old.chosen.items next turns.new.chosen.items) }
 {
     let Names {
         is_ordered,
@@ -134,10 +135,10 @@ pub(crate) fn enter<'t>(
 /// Goes back to the latest turn; None where there is none.
 pub(crate) fn go_back<'t>(
     alloc: Global,
-    turns: &mut Vec<Turn<'t>>,
+    turns: &mut Turns<'t>,
 ) -> Result<Option<Ahead<'t>>, AllocError>
-    ensures none { IfOk result (λ r. IfNone r (turns.old.items ≡ [])) }
-    ensures some { IfOk result (λ r. IfSome r (λ next. GoesOn Ahead.Back turns.old.items next turns.new.items)) }
+    ensures none { IfOk result (λ r. IfNone r (turns.old.chosen.items ≡ [])) }
+    ensures some { IfOk result (λ r. IfSome r (λ next. GoesOn Ahead.Back turns.old.chosen.items next turns.new.chosen.items)) }
 {
     match turns.pop() {
         None => Ok(None),

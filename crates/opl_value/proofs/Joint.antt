@@ -90,3 +90,8 @@ place_of-empty ((w ∷ ws) ∷ ds) (v ∷ vs) h =
 pub behind-zero : (n : ℕ) (o : Option ℕ) → behind 0 n o ≡ o
 behind-zero n None = refl
 behind-zero n (Some q) = ap Some (omega arith)
+
+-- the places of a first group are those of the whole
+pub behind-none : (n : ℕ) (o : Option ℕ) → behind 0 n o ≡ o
+behind-none n None = refl
+behind-none n (Some q) = ap Some (omega arith)

@@ -1,7 +1,7 @@
 //! The places of keys in an index space.
-ghost use Rattle.std.specs.Prelude.{◌≡◌, ◌+◌, ◌*◌, false, pos, ◌+ℤ◌, ◌<ℤ◌, ◌≤ℤ◌, ◌<◌, ◌≤◌, ◌^◌, length, map};
+ghost use Rattle.std.specs.Prelude.{◌≡◌, false, pos, ◌+ℤ◌, ◌<ℤ◌, ◌≤ℤ◌, ◌<◌, ◌≤◌, ◌^◌, length, map};
 ghost use Rattle.std.specs.List.{list_any};
-ghost use Rattle.opl_value.specs.Places.{AreRising, AreSorted, IsSorted, behind, dimension_values, dimensions, elements, has_none, lists, numbers_between, place_in, place_of};
+ghost use Rattle.opl_value.specs.Places.{AreRising, AreSorted, IsSorted, dimension_values, dimensions, elements, has_none, lists, numbers_between, place_in, place_of};
 
 use crate::value::{Dimension, IndexSpace, Value};
 use std::cmp::Ordering;
@@ -57,7 +57,7 @@ pub fn place(space: &IndexSpace, key: &[Value]) -> Option<u64>
     if has_empty(dims) {
         return None;
     }
-    place_from(dims, key, 0)
+    place_in_all(dims, key)
 }
 
 /// Whether a dimension has no values.
@@ -72,19 +72,24 @@ pub(crate) fn has_empty(dims: &[Dimension]) -> bool
     false
 }
 
-/// The place of a key in these dimensions, of which none is empty, behind a place in those before them.
-fn place_from(dims: &[Dimension], key: &[Value], before: u64) -> Option<u64>
+/// The place of a key in these dimensions, of which none is empty.
+fn place_in_all(dims: &[Dimension], key: &[Value]) -> Option<u64>
     requires sorted { AreSorted dims.now }
     requires filled { list_any has_none (map dimension_values dims.now) ≡ false }
-    requires countable { (before + 1) * elements (map dimension_values dims.now) < 2 ^ 64 }
-    ensures { result ≡ behind before (elements (map dimension_values dims.now)) (place_of (map dimension_values dims.now) key.now) }
+    requires countable { elements (map dimension_values dims.now) < 2 ^ 64 }
+    ensures { result ≡ place_of (map dimension_values dims.now) key.now }
 {
-    let Some((dimension, others)) = dims.split_first() else {
-        return if key.is_empty() { Some(before) } else { None };
-    };
-    let (component, rest) = key.split_first()?;
-    let place = dimension.place(component)?;
-    place_from(others, rest, before * dimension.size() + place)
+    let mut found = 0;
+    let mut left = dims;
+    let mut rest = key;
+    while let Some((dimension, others)) = left.split_first() {
+        let (component, behind) = rest.split_first()?;
+        let place = dimension.place(component)?;
+        found = found * dimension.size() + place;
+        left = others;
+        rest = behind;
+    }
+    if rest.is_empty() { Some(found) } else { None }
 }
 
 /// The place of a value in the list, of which the places in the rising order of the values are known.

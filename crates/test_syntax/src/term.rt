@@ -1,6 +1,6 @@
 //! What an expression says, each form in brackets with its name and its place.
 use crate::word::{say, say_bytes, say_number};
-use opl_term::{GroupTerm, Pattern, SetTerm, Step, Term};
+use opl_term::{FieldName, GroupTerm, Pattern, SetTerm, Step, Term};
 use opl_token::Seq;
 use opl_tree::{AggregateOp, CallOp, QuestionOp, Relation};
 use std::alloc::AllocError;
@@ -25,7 +25,7 @@ fn form(t: &Term) -> (&'static str, u32) {
         Term::AllDifferent(at, ..) => ("alldifferent", *at),
         Term::Question(at, ..) => ("question", *at),
         Term::Element(at, ..) => ("element", *at),
-        Term::Field(at, ..) => ("field", *at),
+        Term::Fields(at, ..) => ("field", *at),
         Term::Record(at, ..) => ("record", *at),
         Term::Listed(at, ..) => ("listed", *at),
         Term::Described(at, ..) => ("described", *at),
@@ -129,11 +129,13 @@ fn tell_parts(t: &Term, out: &mut Vec<u8>) -> Result<(), AllocError> {
             tell_part(a.get(), out)?;
             tell_all(subscripts.as_slice(), out)
         }
-        Term::Field(_, a, at, name) => {
+        Term::Fields(at, a, names) => {
+            for _ in 1..names.len() {
+                say(out, " (field@")?;
+                say_number(out, *at as i128)?;
+            }
             tell_part(a.get(), out)?;
-            tell_name(name.as_slice(), out)?;
-            say(out, "@")?;
-            say_number(out, *at as i128)
+            tell_fields(names.as_slice(), out)
         }
         Term::Record(_, parts) => tell_all(parts.as_slice(), out),
         Term::Listed(_, parts) => tell_all(parts.as_slice(), out),
@@ -158,6 +160,26 @@ fn tell_parts(t: &Term, out: &mut Vec<u8>) -> Result<(), AllocError> {
 fn tell_name(name: &[u8], out: &mut Vec<u8>) -> Result<(), AllocError> {
     say(out, " ")?;
     say_bytes(out, name)
+}
+
+/// Adds the names of a chain of fields. A bracket closes behind each but the last, which is that of the whole.
+fn tell_fields(names: &[FieldName], out: &mut Vec<u8>) -> Result<(), AllocError> {
+    let Some((first, others)) = names.split_first() else {
+        return Ok(());
+    };
+    tell_field(first, out)?;
+    for name in others {
+        say(out, ")")?;
+        tell_field(name, out)?;
+    }
+    Ok(())
+}
+
+/// Adds the name of a field with its place.
+fn tell_field(name: &FieldName, out: &mut Vec<u8>) -> Result<(), AllocError> {
+    tell_name(name.text.as_slice(), out)?;
+    say(out, "@")?;
+    say_number(out, name.at as i128)
 }
 
 /// Adds a part behind a blank.

@@ -1,8 +1,8 @@
-use Rattle.std.proofs.Common.{◌≡◌, ◌+◌, true, false, ◌∷◌, [], Ok, Err, ap, refl, rules, subst, sym, ◌∙◌}
+use Rattle.std.proofs.Common.{◌+◌, true, false, [], Ok, ap, refl, rules, subst, sym, ◌∙◌}
 use Rattle.opl_eval.specs.declared.gather.Gathered.TheVariants as made
 use Rattle.opl_eval.specs.Gathered.{with_more}
 use Rattle.opl_eval.specs.Scopes.{names_in}
-use Rattle.opl_eval.specs.Turns.{Inner, Leads, ahead_in, both, left, pending, still, under}
+use Rattle.opl_eval.specs.Turns.{Leads, left, pending, still}
 use Rattle.opl_eval.specs.Visible.{Gives, held, within}
 use Rattle.opl_eval.specs.Visits.{bodies_at, bodies_in, bodies_of, group_visits, over_visits}
 use Rattle.opl_eval.proofs.Aggregates.{aggregate-fault, aggregate-is, begins, err-both, err-more, err-same, listed-found, passes-back, passes-groups}
@@ -13,29 +13,29 @@ use Rattle.opl_eval.proofs.evaluate.+evaluation.Goals as goal
 
 pub step-returns-in_err-visit_groups-in-Groups : goal.step-returns-in_err-visit_groups-in-Groups
 step-returns-in_err-visit_groups-in-Groups t c =
-    let h = err-both _ (still (bodies_at c.args.visit) (within c.args.base.environment.now c.args.base.parameters.now) (Ok []) c.args.turns.now.items) _ c.in_err-visit_groups-in-Groups.ensures in
+    let h = err-both _ (still (bodies_at c.args.visit) (within c.args.base.environment.now c.args.base.parameters.now) (Ok []) c.args.turns.now.chosen.items) _ c.in_err-visit_groups-in-Groups.ensures in
     search rules
 
 pub step-returns-in_ok-visit_groups-in-Groups : goal.step-returns-in_ok-visit_groups-in-Groups
 step-returns-in_ok-visit_groups-in-Groups t c =
-    passes-groups (bodies_at c.args.visit) (within c.args.base.environment.now c.args.base.parameters.now) c.args.gathered.now c.visit_groups.new.gathered c.args.turns.now.items c.as_slice.result.now
-    c.args.ahead c.in_ok-visit_groups-in-Groups.field-0 c.in-Groups.place c.in-Groups.is c.as_slice.ensures.value c.in_ok-visit_groups-in-Groups.ensures
+    passes-groups (bodies_at c.args.visit) (within c.args.base.environment.now c.args.base.parameters.now) c.args.gathered.now c.visit_groups.new.gathered c.args.turns.now.chosen.items c.args.turns.now.chosen.items
+    c.args.ahead c.in_ok-visit_groups-in-Groups.field-0 c.in-Groups.place c.in-Groups.is refl c.in_ok-visit_groups-in-Groups.ensures
 
 pub step-returns-in_ok-enter-in-Patterns : goal.step-returns-in_ok-enter-in-Patterns
 step-returns-in_ok-enter-in-Patterns t c =
-    ap (λ a. with_more c.args.gathered.now (pending (bodies_at c.args.visit) (within c.args.base.environment.now c.args.base.parameters.now) a c.args.turns.now.items)) c.in-Patterns.is
+    ap (λ a. with_more c.args.gathered.now (pending (bodies_at c.args.visit) (within c.args.base.environment.now c.args.base.parameters.now) a c.args.turns.now.chosen.items)) c.in-Patterns.is
     ∙ ap (with_more c.args.gathered.now) (c.in_ok-enter-in-Patterns.ensures (bodies_at c.args.visit) (within c.args.base.environment.now c.args.base.parameters.now))
 
 pub step-returns-in_ok-go_back-in-Back : goal.step-returns-in_ok-go_back-in-Back
 step-returns-in_ok-go_back-in-Back t c =
-    passes-back (bodies_at c.args.visit) (within c.args.base.environment.now c.args.base.parameters.now) c.args.gathered.now c.args.turns.now.items c.go_back.new.turns.items c.args.ahead _ c.in-Back.is c.in_ok-go_back-in-Back.ensures.none c.in_ok-go_back-in-Back.ensures.some
+    passes-back (bodies_at c.args.visit) (within c.args.base.environment.now c.args.base.parameters.now) c.args.gathered.now c.args.turns.now.chosen.items c.go_back.new.turns.chosen.items c.args.ahead _ c.in-Back.is c.in_ok-go_back-in-Back.ensures.none c.in_ok-go_back-in-Back.ensures.some
 
 -- ---- the loop
 
 pub visit_all-loop-init : goal.visit_all-loop-init
 visit_all-loop-init t c =
-    begins c.args.visit c.args.gathered.now (names_in c.args.scope) (within c.args.scope.environment.now c.as_slice.result.now) c.new-turns.result.items
-    (ap (within c.args.scope.environment.now) c.as_slice.ensures.value ∙ c.in_ok-known.ensures) c.new-turns.ensures.items
+    begins c.args.visit c.args.gathered.now (names_in c.args.scope) (within c.args.scope.environment.now c.as_slice.result.now) c.new-turns.result.chosen.items
+    (ap (within c.args.scope.environment.now) c.as_slice.ensures.value ∙ c.in_ok-known.ensures) c.new-turns.ensures
 
 pub visit_all-loop-preserved : goal.visit_all-loop-preserved
 visit_all-loop-preserved t c = c.loop.invariant ∙ (rw c.in-Some.is at c.in_ok-next.ensures)

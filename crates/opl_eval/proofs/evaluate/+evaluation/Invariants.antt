@@ -1,4 +1,4 @@
-use Rattle.std.proofs.Common.{◌≡◌, ℕ, ◌+◌, ◌*◌, ◌++◌, cond, drop, length, map}
+use Rattle.std.proofs.Common.{◌≡◌, ◌+◌, ◌++◌, drop, map}
 use Rattle.std.specs.Option.{option_copied, option_map}
 use Rattle.opl_eval.specs.Evaluation.{all, eval, found, step_meaning}
 use Rattle.opl_eval.specs.Gathered.{with_more}
@@ -65,4 +65,4 @@ invariant-operations-loop-step l =
 abbrev pub invariant-visit_all-loop : goal.invariant-visit_all-loop
 invariant-visit_all-loop l =
     with_more l.initial.gathered (bodies_of l.visit (names_in l.scope))
-    ≡ with_more l.gathered (pending (bodies_at l.visit) (within l.base.environment.now l.base.parameters.now) l.ahead l.turns.items)
+    ≡ with_more l.gathered (pending (bodies_at l.visit) (within l.base.environment.now l.base.parameters.now) l.ahead l.turns.chosen.items)

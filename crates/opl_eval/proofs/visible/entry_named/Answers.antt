@@ -9,4 +9,4 @@ returns-in-Some c = sym (item-hidden (names_in c.args.scope) c.args.name.now c.i
 
 pub returns-in-None : goal.returns-in-None
 returns-in-None c =
-    item-visible c.args.scope.environment.now (names_in c.args.scope) c.args.name.now (option_copied c.entry.result) (items-in c.args.scope.environment.now c.args.scope.parameters.now c.args.scope.turns.now) c.in-None.ensures c.entry.ensures
+    item-visible c.args.scope.environment.now (names_in c.args.scope) c.args.name.now (option_copied c.entry.result) (items-in c.args.scope.environment.now c.args.scope.parameters.now c.args.scope.turns.now.chosen.items) c.in-None.ensures c.entry.ensures

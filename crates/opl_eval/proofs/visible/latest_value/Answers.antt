@@ -1,7 +1,7 @@
 use Rattle.std.proofs.Common.{◌-◌, arith, take, ap, ◌∙◌}
 use Rattle.opl_eval.specs.Turns.{in_turns}
 use Rattle.opl_eval.proofs.Pending.{turn-found, turn-passed}
-use Rattle.opl_eval.proofs.visible.turn_value.Goals as goal
+use Rattle.opl_eval.proofs.visible.latest_value.Goals as goal
 
 pub returns-in-Some : goal.returns-in-Some
 returns-in-Some c =

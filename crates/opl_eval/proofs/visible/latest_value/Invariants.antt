@@ -1,7 +1,7 @@
 use Rattle.std.proofs.Common.{◌≡◌, ◌≤◌, Option, length, take}
 use Rattle.opl_value.specs.declared.value.Value.{Value}
 use Rattle.opl_eval.specs.Turns.{in_turns}
-use Rattle.opl_eval.proofs.visible.turn_value.Given as goal
+use Rattle.opl_eval.proofs.visible.latest_value.Given as goal
 
 abbrev pub invariant-loop-place : goal.invariant-loop-place
 invariant-loop-place l = record {
