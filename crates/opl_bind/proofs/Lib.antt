@@ -1,9 +1,11 @@
 pub mod Answering
 pub mod CellSlots
 pub mod Data
+pub mod EachKey
 pub mod Evaluations
 pub mod FilledArrays
 pub mod FirstPlaces
+pub mod Keys
 pub mod NoMemoryBind
 pub mod NoMemoryDimensions
 pub mod NoMemoryWritten

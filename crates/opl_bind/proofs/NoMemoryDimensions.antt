@@ -1,5 +1,5 @@
 -- Want of memory is no fault of the ends and index sets that declarations write.
-use Rattle.std.proofs.Common.{◌+◌, List, [], ◌∷◌, ◌++◌, set, Ok, Err}
+use Rattle.std.proofs.Common.{List, [], ◌∷◌, ◌++◌, Ok, Err}
 use Rattle.opl_tree.specs.declared.declaration.DimTree.{DimTree}
 use Rattle.opl_tree.specs.declared.declaration.DimsTree.{DimsTree}
 use Rattle.opl_tree.specs.declared.expression.AddTree.{AddTree}

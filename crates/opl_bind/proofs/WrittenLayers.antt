@@ -6,6 +6,7 @@ use Rattle.opl_tree.specs.declared.expression.AggregateOp.{AggregateOp}
 use Rattle.opl_tree.specs.declared.expression.CallOp.{CallOp}
 use Rattle.opl_tree.specs.declared.expression.QuestionOp.{QuestionOp}
 use Rattle.opl_tree.specs.declared.expression.Relation.{Relation}
+use Rattle.opl_term.specs.declared.term.FieldName.{FieldName}
 use Rattle.opl_term.specs.declared.term.GroupTerm.{GroupTerm}
 use Rattle.opl_term.specs.declared.term.GroupTerm.TheOpen.{GroupTerm-F, SetTerm-F, Step-F, Term-F}
 use Rattle.opl_term.specs.declared.term.GroupTerm.TheFolds.{fold-GroupTerm, fold-SetTerm, fold-Step, fold-roll-GroupTerm, fold-roll-SetTerm, fold-roll-Step, fold-roll-Term, ind-Term, map-GroupTerm, map-SetTerm, map-Step, map-Term}
@@ -191,7 +192,7 @@ term_parts known (Term-F.Call at op t) = λ i. Term-F.Call at op (t.1 i)
 term_parts known (Term-F.AllDifferent at t) = λ i. Term-F.AllDifferent at (t.1 i)
 term_parts known (Term-F.Question at op t) = λ i. Term-F.Question at op (t.1 i)
 term_parts known (Term-F.Element at t ts) = λ i. Term-F.Element at (t.1 i) (terms_mean known ts i)
-term_parts known (Term-F.Field at t place name) = λ i. Term-F.Field at (t.1 i) place name
+term_parts known (Term-F.Fields at t fs) = λ i. Term-F.Fields at (t.1 i) fs
 term_parts known (Term-F.Record at ts) = λ i. Term-F.Record at (terms_mean known ts i)
 term_parts known (Term-F.Listed at ts) = λ i. Term-F.Listed at (terms_mean known ts i)
 term_parts known (Term-F.Described at t gs None) = λ i. Term-F.Described at (t.1 i) (groups_mean known gs i) None
@@ -311,9 +312,9 @@ pub first_token-Element : (at : ℕ) (t : Term) (ts : List Term) → first_token
 unfolding first_token
 first_token-Element at t ts = ap at_layer (terms.outs-Element at t ts)
 
-pub first_token-Field : (at : ℕ) (t : Term) (place : ℕ) (name : List ℕ) → first_token (terms.Field at t place name) ≡ at
+pub first_token-Fields : (at : ℕ) (t : Term) (fs : List FieldName) → first_token (terms.Fields at t fs) ≡ at
 unfolding first_token
-first_token-Field at t place name = ap at_layer (terms.outs-Field at t place name)
+first_token-Fields at t fs = ap at_layer (terms.outs-Fields at t fs)
 
 pub first_token-Record : (at : ℕ) (ts : List Term) → first_token (terms.Record at ts) ≡ at
 unfolding first_token
@@ -403,9 +404,9 @@ pub has_cells-Element : (at : ℕ) (t : Term) (ts : List Term) → has_cells (te
 unfolding has_cells
 has_cells-Element at t ts = ap has_cells_layer (terms.outs-Element at t ts)
 
-pub has_cells-Field : (at : ℕ) (t : Term) (place : ℕ) (name : List ℕ) → has_cells (terms.Field at t place name) ≡ false
+pub has_cells-Fields : (at : ℕ) (t : Term) (fs : List FieldName) → has_cells (terms.Fields at t fs) ≡ false
 unfolding has_cells
-has_cells-Field at t place name = ap has_cells_layer (terms.outs-Field at t place name)
+has_cells-Fields at t fs = ap has_cells_layer (terms.outs-Fields at t fs)
 
 pub has_cells-Record : (at : ℕ) (ts : List Term) → has_cells (terms.Record at ts) ≡ false
 unfolding has_cells
@@ -446,7 +447,7 @@ at-parts known (Term-F.Call at op t) = refl
 at-parts known (Term-F.AllDifferent at t) = refl
 at-parts known (Term-F.Question at op t) = refl
 at-parts known (Term-F.Element at t ts) = refl
-at-parts known (Term-F.Field at t place name) = refl
+at-parts known (Term-F.Fields at t fs) = refl
 at-parts known (Term-F.Record at ts) = refl
 at-parts known (Term-F.Listed at ts) = refl
 at-parts known (Term-F.Described at t gs c) = refl
@@ -471,7 +472,7 @@ has-parts known (Term-F.Call at op t) = refl
 has-parts known (Term-F.AllDifferent at t) = refl
 has-parts known (Term-F.Question at op t) = refl
 has-parts known (Term-F.Element at t ts) = refl
-has-parts known (Term-F.Field at t place name) = refl
+has-parts known (Term-F.Fields at t fs) = refl
 has-parts known (Term-F.Record at ts) = refl
 has-parts known (Term-F.Listed at ts) = refl
 has-parts known (Term-F.Described at t gs c) = refl
@@ -539,8 +540,8 @@ fit-Question known at op t form env = fit_of known (terms.Question at op t) (Ter
 pub fit-Element : (known : Known) (at : ℕ) (t : Term) (ts : List Term) (form : Form) (env : Environment) → (written known (terms.Element at t ts)).fit form env ≡ whole known (first_token (terms.Element at t ts)) (meaning (terms.Element at t ts)) form env
 fit-Element known at t ts form env = fit_of known (terms.Element at t ts) (Term-F.Element at t ts) form env (terms.rolls-Element at t ts) ∙ ap (λ k. whole known k (meaning (terms.Element at t ts)) form env) (sym (first_token-Element at t ts))
 
-pub fit-Field : (known : Known) (at : ℕ) (t : Term) (place : ℕ) (name : List ℕ) (form : Form) (env : Environment) → (written known (terms.Field at t place name)).fit form env ≡ whole known (first_token (terms.Field at t place name)) (meaning (terms.Field at t place name)) form env
-fit-Field known at t place name form env = fit_of known (terms.Field at t place name) (Term-F.Field at t place name) form env (terms.rolls-Field at t place name) ∙ ap (λ k. whole known k (meaning (terms.Field at t place name)) form env) (sym (first_token-Field at t place name))
+pub fit-Fields : (known : Known) (at : ℕ) (t : Term) (fs : List FieldName) (form : Form) (env : Environment) → (written known (terms.Fields at t fs)).fit form env ≡ whole known (first_token (terms.Fields at t fs)) (meaning (terms.Fields at t fs)) form env
+fit-Fields known at t fs form env = fit_of known (terms.Fields at t fs) (Term-F.Fields at t fs) form env (terms.rolls-Fields at t fs) ∙ ap (λ k. whole known k (meaning (terms.Fields at t fs)) form env) (sym (first_token-Fields at t fs))
 
 pub fit-Record : (known : Known) (at : ℕ) (ts : List Term) (form : Form) (env : Environment) → (written known (terms.Record at ts)).fit form env ≡ record_parts known (first_token (terms.Record at ts)) (meaning (terms.Record at ts)) (map (written known) ts) (parts_of known form) form env
 fit-Record known at ts form env = fit_of known (terms.Record at ts) (Term-F.Record at ts) form env (terms.rolls-Record at ts) ∙ ap (λ k. record_parts known k (meaning (terms.Record at ts)) (map (written known) ts) (parts_of known form) form env) (sym (first_token-Record at ts))
@@ -616,8 +617,8 @@ cells-Question known at op t wrong axis axes env = cells_of known (terms.Questio
 cells-Element : (known : Known) (at : ℕ) (t : Term) (ts : List Term) (wrong : BindFault) (axis : Axis) (axes : List Axis) (env : Environment) → (written known (terms.Element at t ts)).cells wrong (axis ∷ axes) env ≡ Err wrong
 cells-Element known at t ts wrong axis axes env = cells_of known (terms.Element at t ts) (Term-F.Element at t ts) wrong (axis ∷ axes) env (terms.rolls-Element at t ts)
 
-cells-Field : (known : Known) (at : ℕ) (t : Term) (place : ℕ) (name : List ℕ) (wrong : BindFault) (axis : Axis) (axes : List Axis) (env : Environment) → (written known (terms.Field at t place name)).cells wrong (axis ∷ axes) env ≡ Err wrong
-cells-Field known at t place name wrong axis axes env = cells_of known (terms.Field at t place name) (Term-F.Field at t place name) wrong (axis ∷ axes) env (terms.rolls-Field at t place name)
+cells-Fields : (known : Known) (at : ℕ) (t : Term) (fs : List FieldName) (wrong : BindFault) (axis : Axis) (axes : List Axis) (env : Environment) → (written known (terms.Fields at t fs)).cells wrong (axis ∷ axes) env ≡ Err wrong
+cells-Fields known at t fs wrong axis axes env = cells_of known (terms.Fields at t fs) (Term-F.Fields at t fs) wrong (axis ∷ axes) env (terms.rolls-Fields at t fs)
 
 cells-Record : (known : Known) (at : ℕ) (ts : List Term) (wrong : BindFault) (axis : Axis) (axes : List Axis) (env : Environment) → (written known (terms.Record at ts)).cells wrong (axis ∷ axes) env ≡ Err wrong
 cells-Record known at ts wrong axis axes env = cells_of known (terms.Record at ts) (Term-F.Record at ts) wrong (axis ∷ axes) env (terms.rolls-Record at ts)
@@ -637,10 +638,10 @@ cells-KeyedArray known at ts us wrong axis axes env = cells_of known (terms.Keye
     ∙ ap (λ n. provided (nat_eq n (length (values_of axis))) wrong (then (laid wrong axis axes env (free_slots (map (written known) ts)) (map (written known) ts) (map (written known) us)) (gathered wrong []))) (length-map ts (written known))
 
 -- the places of first tokens
-pub ruleset first_tokens = (first_token-Number, first_token-Named, first_token-Bracket, first_token-Negative, first_token-Chain, first_token-Related, first_token-Member, first_token-Equivalent, first_token-Implied, first_token-Or, first_token-And, first_token-Not, first_token-Aggregate, first_token-Call, first_token-AllDifferent, first_token-Question, first_token-Element, first_token-Field, first_token-Record, first_token-Listed, first_token-Described, first_token-Array, first_token-KeyedArray)
+pub ruleset first_tokens = (first_token-Number, first_token-Named, first_token-Bracket, first_token-Negative, first_token-Chain, first_token-Related, first_token-Member, first_token-Equivalent, first_token-Implied, first_token-Or, first_token-And, first_token-Not, first_token-Aggregate, first_token-Call, first_token-AllDifferent, first_token-Question, first_token-Element, first_token-Fields, first_token-Record, first_token-Listed, first_token-Described, first_token-Array, first_token-KeyedArray)
 
 -- which expressions have cells
-pub ruleset cells_had = (has_cells-Number, has_cells-Named, has_cells-Bracket, has_cells-Negative, has_cells-Chain, has_cells-Related, has_cells-Member, has_cells-Equivalent, has_cells-Implied, has_cells-Or, has_cells-And, has_cells-Not, has_cells-Aggregate, has_cells-Call, has_cells-AllDifferent, has_cells-Question, has_cells-Element, has_cells-Field, has_cells-Record, has_cells-Listed, has_cells-Described, has_cells-Array, has_cells-KeyedArray)
+pub ruleset cells_had = (has_cells-Number, has_cells-Named, has_cells-Bracket, has_cells-Negative, has_cells-Chain, has_cells-Related, has_cells-Member, has_cells-Equivalent, has_cells-Implied, has_cells-Or, has_cells-And, has_cells-Not, has_cells-Aggregate, has_cells-Call, has_cells-AllDifferent, has_cells-Question, has_cells-Element, has_cells-Fields, has_cells-Record, has_cells-Listed, has_cells-Described, has_cells-Array, has_cells-KeyedArray)
 
 -- what expressions are as values, and how much there is to them
 pub ruleset fits = (fit-Record, fit-Listed, weight-Record, weight-Listed)
@@ -652,7 +653,7 @@ pub ruleset cells_written = (cells-none, cells-Array, cells-KeyedArray)
 
 -- an expression of any other form than a record or a set that is written out is taken as a whole
 abbrev IsWhole : Term → Type 0
-IsWhole e = ((at : ℕ) × (n : ℤ) × (e ≡ terms.Number at n)) ⊎ (((at : ℕ) × (name : List ℕ) × (e ≡ terms.Named at name)) ⊎ (((at : ℕ) × (t : Term) × (e ≡ terms.Bracket at t)) ⊎ (((at : ℕ) × (t : Term) × (e ≡ terms.Negative at t)) ⊎ (((at : ℕ) × (t : Term) × (ss : List Step) × (e ≡ terms.Chain at t ss)) ⊎ (((at : ℕ) × (t : Term) × (r : Relation) × (u : Term) × (e ≡ terms.Related at t r u)) ⊎ (((at : ℕ) × (t : Term) × (s : SetTerm) × (e ≡ terms.Member at t s)) ⊎ (((at : ℕ) × (ts : List Term) × (e ≡ terms.Equivalent at ts)) ⊎ (((at : ℕ) × (t : Term) × (u : Term) × (e ≡ terms.Implied at t u)) ⊎ (((at : ℕ) × (ts : List Term) × (e ≡ terms.Or at ts)) ⊎ (((at : ℕ) × (ts : List Term) × (e ≡ terms.And at ts)) ⊎ (((at : ℕ) × (t : Term) × (e ≡ terms.Not at t)) ⊎ (((at : ℕ) × (op : AggregateOp) × (gs : List GroupTerm) × (c : Option Term) × (t : Term) × (e ≡ terms.Aggregate at op gs c t)) ⊎ (((at : ℕ) × (op : CallOp) × (t : Term) × (e ≡ terms.Call at op t)) ⊎ (((at : ℕ) × (t : Term) × (e ≡ terms.AllDifferent at t)) ⊎ (((at : ℕ) × (op : QuestionOp) × (t : Term) × (e ≡ terms.Question at op t)) ⊎ (((at : ℕ) × (t : Term) × (ts : List Term) × (e ≡ terms.Element at t ts)) ⊎ (((at : ℕ) × (t : Term) × (place : ℕ) × (name : List ℕ) × (e ≡ terms.Field at t place name)) ⊎ (((at : ℕ) × (t : Term) × (gs : List GroupTerm) × (c : Option Term) × (e ≡ terms.Described at t gs c)) ⊎ (((at : ℕ) × (ts : List Term) × (e ≡ terms.Array at ts)) ⊎ (((at : ℕ) × (ts : List Term) × (us : List Term) × (e ≡ terms.KeyedArray at ts us))))))))))))))))))))))
+IsWhole e = ((at : ℕ) × (n : ℤ) × (e ≡ terms.Number at n)) ⊎ (((at : ℕ) × (name : List ℕ) × (e ≡ terms.Named at name)) ⊎ (((at : ℕ) × (t : Term) × (e ≡ terms.Bracket at t)) ⊎ (((at : ℕ) × (t : Term) × (e ≡ terms.Negative at t)) ⊎ (((at : ℕ) × (t : Term) × (ss : List Step) × (e ≡ terms.Chain at t ss)) ⊎ (((at : ℕ) × (t : Term) × (r : Relation) × (u : Term) × (e ≡ terms.Related at t r u)) ⊎ (((at : ℕ) × (t : Term) × (s : SetTerm) × (e ≡ terms.Member at t s)) ⊎ (((at : ℕ) × (ts : List Term) × (e ≡ terms.Equivalent at ts)) ⊎ (((at : ℕ) × (t : Term) × (u : Term) × (e ≡ terms.Implied at t u)) ⊎ (((at : ℕ) × (ts : List Term) × (e ≡ terms.Or at ts)) ⊎ (((at : ℕ) × (ts : List Term) × (e ≡ terms.And at ts)) ⊎ (((at : ℕ) × (t : Term) × (e ≡ terms.Not at t)) ⊎ (((at : ℕ) × (op : AggregateOp) × (gs : List GroupTerm) × (c : Option Term) × (t : Term) × (e ≡ terms.Aggregate at op gs c t)) ⊎ (((at : ℕ) × (op : CallOp) × (t : Term) × (e ≡ terms.Call at op t)) ⊎ (((at : ℕ) × (t : Term) × (e ≡ terms.AllDifferent at t)) ⊎ (((at : ℕ) × (op : QuestionOp) × (t : Term) × (e ≡ terms.Question at op t)) ⊎ (((at : ℕ) × (t : Term) × (ts : List Term) × (e ≡ terms.Element at t ts)) ⊎ (((at : ℕ) × (t : Term) × (fs : List FieldName) × (e ≡ terms.Fields at t fs)) ⊎ (((at : ℕ) × (t : Term) × (gs : List GroupTerm) × (c : Option Term) × (e ≡ terms.Described at t gs c)) ⊎ (((at : ℕ) × (ts : List Term) × (e ≡ terms.Array at ts)) ⊎ (((at : ℕ) × (ts : List Term) × (us : List Term) × (e ≡ terms.KeyedArray at ts us))))))))))))))))))))))
 
 moved : (known : Known) (t u : Term) (form : Form) (env : Environment) → t ≡ u → (written known u).fit form env ≡ whole known (first_token u) (meaning u) form env → (written known t).fit form env ≡ whole known (first_token t) (meaning t) form env
 moved known t u form env e h = subst (λ v. (written known v).fit form env ≡ whole known (first_token v) (meaning v) form env) (sym e) h
@@ -675,14 +676,14 @@ fit-whole known t form env (inr (inr (inr (inr (inr (inr (inr (inr (inr (inr (in
 fit-whole known t form env (inr (inr (inr (inr (inr (inr (inr (inr (inr (inr (inr (inr (inr (inr (inl h))))))))))))))) = moved known t (terms.AllDifferent h.0 h.1) form env h.2 (fit-AllDifferent known h.0 h.1 form env)
 fit-whole known t form env (inr (inr (inr (inr (inr (inr (inr (inr (inr (inr (inr (inr (inr (inr (inr (inl h)))))))))))))))) = moved known t (terms.Question h.0 h.1 h.2) form env h.3 (fit-Question known h.0 h.1 h.2 form env)
 fit-whole known t form env (inr (inr (inr (inr (inr (inr (inr (inr (inr (inr (inr (inr (inr (inr (inr (inr (inl h))))))))))))))))) = moved known t (terms.Element h.0 h.1 h.2) form env h.3 (fit-Element known h.0 h.1 h.2 form env)
-fit-whole known t form env (inr (inr (inr (inr (inr (inr (inr (inr (inr (inr (inr (inr (inr (inr (inr (inr (inr (inl h)))))))))))))))))) = moved known t (terms.Field h.0 h.1 h.2 h.3) form env h.4 (fit-Field known h.0 h.1 h.2 h.3 form env)
+fit-whole known t form env (inr (inr (inr (inr (inr (inr (inr (inr (inr (inr (inr (inr (inr (inr (inr (inr (inr (inl h)))))))))))))))))) = moved known t (terms.Fields h.0 h.1 h.2) form env h.3 (fit-Fields known h.0 h.1 h.2 form env)
 fit-whole known t form env (inr (inr (inr (inr (inr (inr (inr (inr (inr (inr (inr (inr (inr (inr (inr (inr (inr (inr (inl h))))))))))))))))))) = moved known t (terms.Described h.0 h.1 h.2 h.3) form env h.4 (fit-Described known h.0 h.1 h.2 h.3 form env)
 fit-whole known t form env (inr (inr (inr (inr (inr (inr (inr (inr (inr (inr (inr (inr (inr (inr (inr (inr (inr (inr (inr (inl h)))))))))))))))))))) = moved known t (terms.Array h.0 h.1) form env h.2 (fit-Array known h.0 h.1 form env)
 fit-whole known t form env (inr (inr (inr (inr (inr (inr (inr (inr (inr (inr (inr (inr (inr (inr (inr (inr (inr (inr (inr (inr h)))))))))))))))))))) = moved known t (terms.KeyedArray h.0 h.1 h.2) form env h.3 (fit-KeyedArray known h.0 h.1 h.2 form env)
 
 -- an expression of any other form than `[..]` and `#[..]#` has no cells
 abbrev IsNoArray : Term → Type 0
-IsNoArray e = ((at : ℕ) × (n : ℤ) × (e ≡ terms.Number at n)) ⊎ (((at : ℕ) × (name : List ℕ) × (e ≡ terms.Named at name)) ⊎ (((at : ℕ) × (t : Term) × (e ≡ terms.Bracket at t)) ⊎ (((at : ℕ) × (t : Term) × (e ≡ terms.Negative at t)) ⊎ (((at : ℕ) × (t : Term) × (ss : List Step) × (e ≡ terms.Chain at t ss)) ⊎ (((at : ℕ) × (t : Term) × (r : Relation) × (u : Term) × (e ≡ terms.Related at t r u)) ⊎ (((at : ℕ) × (t : Term) × (s : SetTerm) × (e ≡ terms.Member at t s)) ⊎ (((at : ℕ) × (ts : List Term) × (e ≡ terms.Equivalent at ts)) ⊎ (((at : ℕ) × (t : Term) × (u : Term) × (e ≡ terms.Implied at t u)) ⊎ (((at : ℕ) × (ts : List Term) × (e ≡ terms.Or at ts)) ⊎ (((at : ℕ) × (ts : List Term) × (e ≡ terms.And at ts)) ⊎ (((at : ℕ) × (t : Term) × (e ≡ terms.Not at t)) ⊎ (((at : ℕ) × (op : AggregateOp) × (gs : List GroupTerm) × (c : Option Term) × (t : Term) × (e ≡ terms.Aggregate at op gs c t)) ⊎ (((at : ℕ) × (op : CallOp) × (t : Term) × (e ≡ terms.Call at op t)) ⊎ (((at : ℕ) × (t : Term) × (e ≡ terms.AllDifferent at t)) ⊎ (((at : ℕ) × (op : QuestionOp) × (t : Term) × (e ≡ terms.Question at op t)) ⊎ (((at : ℕ) × (t : Term) × (ts : List Term) × (e ≡ terms.Element at t ts)) ⊎ (((at : ℕ) × (t : Term) × (place : ℕ) × (name : List ℕ) × (e ≡ terms.Field at t place name)) ⊎ (((at : ℕ) × (ts : List Term) × (e ≡ terms.Record at ts)) ⊎ (((at : ℕ) × (ts : List Term) × (e ≡ terms.Listed at ts)) ⊎ (((at : ℕ) × (t : Term) × (gs : List GroupTerm) × (c : Option Term) × (e ≡ terms.Described at t gs c))))))))))))))))))))))
+IsNoArray e = ((at : ℕ) × (n : ℤ) × (e ≡ terms.Number at n)) ⊎ (((at : ℕ) × (name : List ℕ) × (e ≡ terms.Named at name)) ⊎ (((at : ℕ) × (t : Term) × (e ≡ terms.Bracket at t)) ⊎ (((at : ℕ) × (t : Term) × (e ≡ terms.Negative at t)) ⊎ (((at : ℕ) × (t : Term) × (ss : List Step) × (e ≡ terms.Chain at t ss)) ⊎ (((at : ℕ) × (t : Term) × (r : Relation) × (u : Term) × (e ≡ terms.Related at t r u)) ⊎ (((at : ℕ) × (t : Term) × (s : SetTerm) × (e ≡ terms.Member at t s)) ⊎ (((at : ℕ) × (ts : List Term) × (e ≡ terms.Equivalent at ts)) ⊎ (((at : ℕ) × (t : Term) × (u : Term) × (e ≡ terms.Implied at t u)) ⊎ (((at : ℕ) × (ts : List Term) × (e ≡ terms.Or at ts)) ⊎ (((at : ℕ) × (ts : List Term) × (e ≡ terms.And at ts)) ⊎ (((at : ℕ) × (t : Term) × (e ≡ terms.Not at t)) ⊎ (((at : ℕ) × (op : AggregateOp) × (gs : List GroupTerm) × (c : Option Term) × (t : Term) × (e ≡ terms.Aggregate at op gs c t)) ⊎ (((at : ℕ) × (op : CallOp) × (t : Term) × (e ≡ terms.Call at op t)) ⊎ (((at : ℕ) × (t : Term) × (e ≡ terms.AllDifferent at t)) ⊎ (((at : ℕ) × (op : QuestionOp) × (t : Term) × (e ≡ terms.Question at op t)) ⊎ (((at : ℕ) × (t : Term) × (ts : List Term) × (e ≡ terms.Element at t ts)) ⊎ (((at : ℕ) × (t : Term) × (fs : List FieldName) × (e ≡ terms.Fields at t fs)) ⊎ (((at : ℕ) × (ts : List Term) × (e ≡ terms.Record at ts)) ⊎ (((at : ℕ) × (ts : List Term) × (e ≡ terms.Listed at ts)) ⊎ (((at : ℕ) × (t : Term) × (gs : List GroupTerm) × (c : Option Term) × (e ≡ terms.Described at t gs c))))))))))))))))))))))
 
 bare : (known : Known) (t u : Term) (wrong : BindFault) (axis : Axis) (axes : List Axis) (env : Environment) → t ≡ u → (written known u).cells wrong (axis ∷ axes) env ≡ Err wrong → (written known t).cells wrong (axis ∷ axes) env ≡ Err wrong
 bare known t u wrong axis axes env e h = subst (λ v. (written known v).cells wrong (axis ∷ axes) env ≡ Err wrong) (sym e) h
@@ -705,7 +706,7 @@ cells-wrong known t wrong axis axes env (inr (inr (inr (inr (inr (inr (inr (inr 
 cells-wrong known t wrong axis axes env (inr (inr (inr (inr (inr (inr (inr (inr (inr (inr (inr (inr (inr (inr (inl h))))))))))))))) = bare known t (terms.AllDifferent h.0 h.1) wrong axis axes env h.2 (cells-AllDifferent known h.0 h.1 wrong axis axes env)
 cells-wrong known t wrong axis axes env (inr (inr (inr (inr (inr (inr (inr (inr (inr (inr (inr (inr (inr (inr (inr (inl h)))))))))))))))) = bare known t (terms.Question h.0 h.1 h.2) wrong axis axes env h.3 (cells-Question known h.0 h.1 h.2 wrong axis axes env)
 cells-wrong known t wrong axis axes env (inr (inr (inr (inr (inr (inr (inr (inr (inr (inr (inr (inr (inr (inr (inr (inr (inl h))))))))))))))))) = bare known t (terms.Element h.0 h.1 h.2) wrong axis axes env h.3 (cells-Element known h.0 h.1 h.2 wrong axis axes env)
-cells-wrong known t wrong axis axes env (inr (inr (inr (inr (inr (inr (inr (inr (inr (inr (inr (inr (inr (inr (inr (inr (inr (inl h)))))))))))))))))) = bare known t (terms.Field h.0 h.1 h.2 h.3) wrong axis axes env h.4 (cells-Field known h.0 h.1 h.2 h.3 wrong axis axes env)
+cells-wrong known t wrong axis axes env (inr (inr (inr (inr (inr (inr (inr (inr (inr (inr (inr (inr (inr (inr (inr (inr (inr (inl h)))))))))))))))))) = bare known t (terms.Fields h.0 h.1 h.2) wrong axis axes env h.3 (cells-Fields known h.0 h.1 h.2 wrong axis axes env)
 cells-wrong known t wrong axis axes env (inr (inr (inr (inr (inr (inr (inr (inr (inr (inr (inr (inr (inr (inr (inr (inr (inr (inr (inl h))))))))))))))))))) = bare known t (terms.Record h.0 h.1) wrong axis axes env h.2 (cells-Record known h.0 h.1 wrong axis axes env)
 cells-wrong known t wrong axis axes env (inr (inr (inr (inr (inr (inr (inr (inr (inr (inr (inr (inr (inr (inr (inr (inr (inr (inr (inr (inl h)))))))))))))))))))) = bare known t (terms.Listed h.0 h.1) wrong axis axes env h.2 (cells-Listed known h.0 h.1 wrong axis axes env)
 cells-wrong known t wrong axis axes env (inr (inr (inr (inr (inr (inr (inr (inr (inr (inr (inr (inr (inr (inr (inr (inr (inr (inr (inr (inr h)))))))))))))))))))) = bare known t (terms.Described h.0 h.1 h.2 h.3) wrong axis axes env h.4 (cells-Described known h.0 h.1 h.2 h.3 wrong axis axes env)

@@ -1,6 +1,8 @@
 pub mod Bind
 pub mod Cells
 pub mod Dimensions
+pub mod EachKey
+pub mod Keys
 pub mod Laws
 pub mod Readings
 pub mod Scopes

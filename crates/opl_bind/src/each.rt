@@ -1,133 +1,67 @@
 //! Arrays whose dimensions have names: the expression for each key.
-ghost use Rattle.std.specs.Prelude.{◌≡◌, ◌∷◌, ◌++◌, [], IfOk, map, Ok};
-ghost use Rattle.opl_eval.specs.Visible.{parameter_of};
+ghost use Rattle.std.specs.Prelude.{◌≡◌, ◌∷◌, [], IfOk, map, take};
 ghost use Rattle.opl_given.specs.Arrays.{values_of};
-ghost use Rattle.opl_given.specs.Faults.{Binds, then};
+ghost use Rattle.opl_given.specs.Elements.{left};
+ghost use Rattle.opl_given.specs.Faults.{Binds};
 ghost use Rattle.opl_given.specs.Readings.{axis_of, known_of};
-ghost use Rattle.opl_given.specs.Turns.{named};
+ghost use Rattle.opl_bind.specs.EachKey as keys;
+ghost use Rattle.opl_bind.specs.Keys.{chosen};
 ghost use Rattle.opl_bind.specs.Scopes.{names_in};
 ghost use Rattle.opl_bind.specs.Written as spec;
 
 use crate::fitted::fitted;
+use crate::key_names::with_names;
+use crate::key_walk::{Turn, Walk};
 use crate::scope::Scope;
-use opl_eval::Parameter;
-use opl_given::{Axis, BindFault, Form, Types, elements_of};
+use opl_given::{Axis, BindFault, Elements, Form, Types, elements_of};
 use opl_list::Seq;
 use opl_term::Term;
 use opl_tree::DimTree;
 use opl_value::Value;
 use std::alloc::{AllocError, Global};
 
-/// The value of one key, behind those before.
-fn last_cell(
-    alloc: Global,
-    types: &Types<'_>,
-    scope: Scope<'_>,
-    form: &Form,
-    term: &Term,
-    before: Seq<Value>,
-) -> Result<Seq<Value>, BindFault>
-    ensures { Binds (then ((spec.written (known_of types.now) term.now).fit form.now (names_in scope.entry)) (λ v. Ok (before ++ v ∷ []))) result }
+/// The first so many axes, or all of them where there are fewer.
+#[tactic(auto, using(crate::proofs::EachKey::first_axes))]
+fn first_of(axes: &[Axis], count: usize) -> &[Axis]
+    ensures { map axis_of result.now ≡ take count (map axis_of axes.now) }
 {
-    let mut cells = before;
-    cells.push(fitted(alloc, types, scope, form, term)?)?;
-    Ok(cells)
-}
-
-/// The names that are seen, and behind them that of a dimension for an element.
-fn with_name<'a>(
-    alloc: Global,
-    parameters: &[Parameter<'a>],
-    dim: &'a DimTree,
-    value: &'a Value,
-) -> Result<Vec<Parameter<'a>>, AllocError>
-    ensures { IfOk result (λ all. map parameter_of all.items ≡ map parameter_of parameters.now ++ named dim.now.name value.now) }
-{
-    let mut all = Vec::from_slice(alloc, parameters)?;
-    if let Some(name) = &dim.name {
-        all.push(Parameter {
-            name: name.text.as_slice(),
-            value,
-        })?;
+    if count < axes.len() {
+        &axes[..count]
+    } else {
+        axes
     }
-    Ok(all)
 }
 
-/// The expression for each key, in index order, behind the values before.
-#[cycle(each)]
-fn each_cell(
-    alloc: Global,
-    types: &Types<'_>,
-    scope: Scope<'_>,
-    form: &Form,
-    term: &Term,
-    dims: &[DimTree],
-    axes: &[Axis],
-    before: Seq<Value>,
-) -> Result<Seq<Value>, BindFault>
-    ensures { Binds (spec.each_cell (spec.written (known_of types.now) term.now).fit form.now dims.now (map axis_of axes.now) (names_in scope.entry) before) result }
+/// The index sets of axes.
+fn sets_of<'d>(alloc: Global, axes: &'d [Axis]) -> Result<Vec<Elements<'d>>, AllocError>
+    ensures { IfOk result (λ sets. map left sets.items ≡ map values_of (map axis_of axes.now)) }
 {
-    let Some((dim, other_dims)) = dims.split_first() else {
-        return last_cell(alloc, types, scope, form, term, before);
-    };
-    let Some((axis, other_axes)) = axes.split_first() else {
-        return last_cell(alloc, types, scope, form, term, before);
-    };
-    dimension_cells(
-        alloc, types, scope, form, term, dim, axis, other_dims, other_axes, before,
-    )
-}
-
-/// The expression for each key of a dimension and those behind it, behind the values before.
-#[cycle(each)]
-fn dimension_cells(
-    alloc: Global,
-    types: &Types<'_>,
-    scope: Scope<'_>,
-    form: &Form,
-    term: &Term,
-    dim: &DimTree,
-    axis: &Axis,
-    dims: &[DimTree],
-    axes: &[Axis],
-    before: Seq<Value>,
-) -> Result<Seq<Value>, BindFault>
-    ensures { Binds (spec.over (λ v more. spec.each_cell (spec.written (known_of types.now) term.now).fit form.now dims.now (map axis_of axes.now) (spec.with_name dim.now.name v (names_in scope.entry)) more) before (values_of (axis_of axis.now))) result }
-{
-    let mut cells = before;
-    let mut rest = elements_of(&axis.dimension);
-    while let Some((element, behind)) = rest.split_first() {
-        let value = element.get();
-        cells = element_cells(
-            alloc, types, scope, form, term, dim, value, dims, axes, cells,
-        )?;
-        rest = behind;
+    let mut sets = Vec::new(alloc);
+    for axis in axes {
+        sets.push(elements_of(&axis.dimension))?;
     }
-    Ok(cells)
+    Ok(sets)
 }
 
-/// The expression for each key that begins with an element, behind the values before.
-#[cycle(each)]
-fn element_cells(
+/// The value of one key.
+fn value_at(
     alloc: Global,
     types: &Types<'_>,
     scope: Scope<'_>,
     form: &Form,
     term: &Term,
-    dim: &DimTree,
-    value: &Value,
-    dims: &[DimTree],
-    axes: &[Axis],
-    before: Seq<Value>,
-) -> Result<Seq<Value>, BindFault>
-    ensures { Binds (spec.each_cell (spec.written (known_of types.now) term.now).fit form.now dims.now (map axis_of axes.now) (spec.with_name dim.now.name value.now (names_in scope.entry)) before) result }
+    first: &DimTree,
+    rest: &[DimTree],
+    key: &[Turn<'_, '_>],
+) -> Result<Value, BindFault>
+    ensures { Binds ((spec.written (known_of types.now) term.now).fit form.now (keys.with_names (first.now ∷ rest.now) (chosen key.now) (names_in scope.entry))) result }
 {
-    let parameters = with_name(alloc, scope.parameters, dim, value)?;
+    let parameters = with_names(alloc, scope.parameters, first, rest, key)?;
     let inner = Scope {
         environment: scope.environment,
         parameters: parameters.as_slice(),
     };
-    each_cell(alloc, types, inner, form, term, dims, axes, before)
+    fitted(alloc, types, inner, form, term)
 }
 
 /// The expression for each key of an array, in index order.
@@ -143,11 +77,12 @@ pub(crate) fn each_key(
 ) -> Result<Seq<Value>, BindFault>
     ensures { Binds (spec.each_cell (spec.written (known_of types.now) term.now).fit form.now (first.now ∷ rest.now) (map axis_of axes.now) (names_in scope.entry) []) result }
 {
-    let before = Seq::new(alloc);
-    let Some((axis, others)) = axes.split_first() else {
-        return last_cell(alloc, types, scope, form, term, before);
-    };
-    dimension_cells(
-        alloc, types, scope, form, term, first, axis, rest, others, before,
-    )
+    let sets = sets_of(alloc, first_of(axes, rest.len() + 1))?;
+    let mut walk = Walk::new(alloc, sets.as_slice());
+    let mut cells = Seq::new(alloc);
+    while walk.advance()? {
+        let value = value_at(alloc, types, scope, form, term, first, rest, walk.key())?;
+        cells.push(value)?;
+    }
+    Ok(cells)
 }

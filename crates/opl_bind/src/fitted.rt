@@ -37,7 +37,7 @@ pub(crate) fn first_token(term: &Term) -> u32
         Term::AllDifferent(at, _) => *at,
         Term::Question(at, _, _) => *at,
         Term::Element(at, _, _) => *at,
-        Term::Field(at, _, _, _) => *at,
+        Term::Fields(at, _, _) => *at,
         Term::Record(at, _) => *at,
         Term::Listed(at, _) => *at,
         Term::Described(at, _, _, _) => *at,
@@ -107,7 +107,7 @@ pub(crate) fn fitted(
         | Term::AllDifferent(..)
         | Term::Question(..)
         | Term::Element(..)
-        | Term::Field(..)
+        | Term::Fields(..)
         | Term::Described(..)
         | Term::Array(..)
         | Term::KeyedArray(..) => whole(alloc, types, scope, form, term),

@@ -222,7 +222,7 @@ fn cells_over<'t>(
         | Term::AllDifferent(..)
         | Term::Question(..)
         | Term::Element(..)
-        | Term::Field(..)
+        | Term::Fields(..)
         | Term::Record(..)
         | Term::Listed(..)
         | Term::Described(..) => Err(BindFault::Shape(0, opening.at)),

@@ -61,7 +61,7 @@ fn has_cells(term: &Term) -> bool
         | Term::AllDifferent(..)
         | Term::Question(..)
         | Term::Element(..)
-        | Term::Field(..)
+        | Term::Fields(..)
         | Term::Record(..)
         | Term::Listed(..)
         | Term::Described(..) => false,

@@ -1,4 +1,5 @@
 pub mod ConditionsRun
+pub mod EachSet
 pub mod ItemForms
 pub mod KnownNames
 pub mod Means
@@ -14,7 +15,6 @@ pub mod Solved
 pub mod Stays
 pub mod Unrun
 pub mod Uses
-pub mod VariableElements
 pub mod VariableLaws
 pub mod VariableNames
 pub mod VariableSets

@@ -5,6 +5,7 @@ use Rattle.opl_tree.specs.declared.expression.AggregateOp.{AggregateOp}
 use Rattle.opl_tree.specs.declared.expression.CallOp.{CallOp}
 use Rattle.opl_tree.specs.declared.expression.QuestionOp.{QuestionOp}
 use Rattle.opl_tree.specs.declared.expression.Relation.{Relation}
+use Rattle.opl_term.specs.declared.term.FieldName.{FieldName}
 use Rattle.opl_term.specs.declared.term.GroupTerm.{GroupTerm}
 use Rattle.opl_term.specs.declared.term.GroupTerm.TheVariants as groups
 use Rattle.opl_term.specs.declared.term.GroupTerm.TheOpen.{Term-F}
@@ -90,8 +91,8 @@ mentioned-Question names at op t = ap (λ u. u.is_mentioned) (by.use_of-Question
 pub mentioned-Element : (names : Names) (at : ℕ) (t : Term) (ts : List Term) → (use_of names (terms.Element at t ts)).is_mentioned ≡ ((use_of names t).is_mentioned || any_mentioned (map (use_of names) ts))
 mentioned-Element names at t ts = ap (λ u. u.is_mentioned) (by.use_of-Element names at t ts)
 
-pub mentioned-Field : (names : Names) (at : ℕ) (t : Term) (place : ℕ) (name : List ℕ) → (use_of names (terms.Field at t place name)).is_mentioned ≡ (use_of names t).is_mentioned
-mentioned-Field names at t place name = ap (λ u. u.is_mentioned) (by.use_of-Field names at t place name)
+pub mentioned-Fields : (names : Names) (at : ℕ) (t : Term) (fs : List FieldName) → (use_of names (terms.Fields at t fs)).is_mentioned ≡ (use_of names t).is_mentioned
+mentioned-Fields names at t fs = ap (λ u. u.is_mentioned) (by.use_of-Fields names at t fs)
 
 pub mentioned-Record : (names : Names) (at : ℕ) (ts : List Term) → (use_of names (terms.Record at ts)).is_mentioned ≡ any_mentioned (map (use_of names) ts)
 mentioned-Record names at ts = ap (λ u. u.is_mentioned) (by.use_of-Record names at ts)
@@ -135,7 +136,7 @@ mentioned-Unordered names ps s = by.group_use-Unordered names ps s
 pub mentioned-Ordered : (names : Names) (ps : List Pattern) (s : SetTerm) → group_use names (groups.Ordered ps s) ≡ set_use names s
 mentioned-Ordered names ps s = by.group_use-Ordered names ps s
 
-pub ruleset mentions = (mentioned-Number, mentioned-Named, mentioned-Bracket, mentioned-Negative, mentioned-Chain, mentioned-Related, mentioned-Member, mentioned-Equivalent, mentioned-Implied, mentioned-Or, mentioned-And, mentioned-Not, mentioned-Aggregate, mentioned-Call, mentioned-AllDifferent, mentioned-Question, mentioned-Element, mentioned-Field, mentioned-Record, mentioned-Listed, mentioned-Described, mentioned-Array, mentioned-KeyedArray, mentioned-Plus, mentioned-Minus, mentioned-Times, mentioned-Quotient, mentioned-Remainder, mentioned-Whole, mentioned-Between, mentioned-Unordered, mentioned-Ordered)
+pub ruleset mentions = (mentioned-Number, mentioned-Named, mentioned-Bracket, mentioned-Negative, mentioned-Chain, mentioned-Related, mentioned-Member, mentioned-Equivalent, mentioned-Implied, mentioned-Or, mentioned-And, mentioned-Not, mentioned-Aggregate, mentioned-Call, mentioned-AllDifferent, mentioned-Question, mentioned-Element, mentioned-Fields, mentioned-Record, mentioned-Listed, mentioned-Described, mentioned-Array, mentioned-KeyedArray, mentioned-Plus, mentioned-Minus, mentioned-Times, mentioned-Quotient, mentioned-Remainder, mentioned-Whole, mentioned-Between, mentioned-Unordered, mentioned-Ordered)
 
 -- what is found of the parts of `{a | GROUPS : c}`
 pub described-is : (names : Names) (term : Term) (at : ℕ) (t u : Term) (gs hs : List GroupTerm) (c : Option Term) (g h m r : Bool) →
@@ -199,8 +200,8 @@ plain-Question names at op t = ap (λ u. u.is_plain) (by.use_of-Question names a
 pub plain-Element : (names : Names) (at : ℕ) (t : Term) (ts : List Term) → (use_of names (terms.Element at t ts)).is_plain ≡ false
 plain-Element names at t ts = ap (λ u. u.is_plain) (by.use_of-Element names at t ts)
 
-pub plain-Field : (names : Names) (at : ℕ) (t : Term) (place : ℕ) (name : List ℕ) → (use_of names (terms.Field at t place name)).is_plain ≡ false
-plain-Field names at t place name = ap (λ u. u.is_plain) (by.use_of-Field names at t place name)
+pub plain-Fields : (names : Names) (at : ℕ) (t : Term) (fs : List FieldName) → (use_of names (terms.Fields at t fs)).is_plain ≡ false
+plain-Fields names at t fs = ap (λ u. u.is_plain) (by.use_of-Fields names at t fs)
 
 pub plain-Record : (names : Names) (at : ℕ) (ts : List Term) → (use_of names (terms.Record at ts)).is_plain ≡ false
 plain-Record names at ts = ap (λ u. u.is_plain) (by.use_of-Record names at ts)
@@ -217,7 +218,7 @@ plain-Array names at ts = ap (λ u. u.is_plain) (by.use_of-Array names at ts)
 pub plain-KeyedArray : (names : Names) (at : ℕ) (ts : List Term) (us : List Term) → (use_of names (terms.KeyedArray at ts us)).is_plain ≡ false
 plain-KeyedArray names at ts us = ap (λ u. u.is_plain) (by.use_of-KeyedArray names at ts us)
 
-pub ruleset plains = (plain-Number, plain-Named, plain-Bracket, plain-Negative, plain-Chain, plain-Related, plain-Member, plain-Equivalent, plain-Implied, plain-Or, plain-And, plain-Not, plain-Aggregate, plain-Call, plain-AllDifferent, plain-Question, plain-Element, plain-Field, plain-Record, plain-Listed, plain-Described, plain-Array, plain-KeyedArray)
+pub ruleset plains = (plain-Number, plain-Named, plain-Bracket, plain-Negative, plain-Chain, plain-Related, plain-Member, plain-Equivalent, plain-Implied, plain-Or, plain-And, plain-Not, plain-Aggregate, plain-Call, plain-AllDifferent, plain-Question, plain-Element, plain-Fields, plain-Record, plain-Listed, plain-Described, plain-Array, plain-KeyedArray)
 
 -- ---- their places
 
@@ -289,9 +290,9 @@ pub place-Element : (at : ℕ) (t : Term) (ts : List Term) → place_of (terms.E
 unfolding place_of
 place-Element at t ts = ap (λ u. u.at) (by.use_of-Element no_names at t ts)
 
-pub place-Field : (at : ℕ) (t : Term) (place : ℕ) (name : List ℕ) → place_of (terms.Field at t place name) ≡ at
+pub place-Fields : (at : ℕ) (t : Term) (fs : List FieldName) → place_of (terms.Fields at t fs) ≡ at
 unfolding place_of
-place-Field at t place name = ap (λ u. u.at) (by.use_of-Field no_names at t place name)
+place-Fields at t fs = ap (λ u. u.at) (by.use_of-Fields no_names at t fs)
 
 pub place-Record : (at : ℕ) (ts : List Term) → place_of (terms.Record at ts) ≡ at
 unfolding place_of
@@ -313,4 +314,4 @@ pub place-KeyedArray : (at : ℕ) (ts : List Term) (us : List Term) → place_of
 unfolding place_of
 place-KeyedArray at ts us = ap (λ u. u.at) (by.use_of-KeyedArray no_names at ts us)
 
-pub ruleset places = (place-Number, place-Named, place-Bracket, place-Negative, place-Chain, place-Related, place-Member, place-Equivalent, place-Implied, place-Or, place-And, place-Not, place-Aggregate, place-Call, place-AllDifferent, place-Question, place-Element, place-Field, place-Record, place-Listed, place-Described, place-Array, place-KeyedArray)
+pub ruleset places = (place-Number, place-Named, place-Bracket, place-Negative, place-Chain, place-Related, place-Member, place-Equivalent, place-Implied, place-Or, place-And, place-Not, place-Aggregate, place-Call, place-AllDifferent, place-Question, place-Element, place-Fields, place-Record, place-Listed, place-Described, place-Array, place-KeyedArray)

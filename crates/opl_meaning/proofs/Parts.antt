@@ -5,6 +5,7 @@ use Rattle.opl_tree.specs.declared.expression.AggregateOp.{AggregateOp}
 use Rattle.opl_tree.specs.declared.expression.CallOp.{CallOp}
 use Rattle.opl_tree.specs.declared.expression.QuestionOp.{QuestionOp}
 use Rattle.opl_tree.specs.declared.expression.Relation.{Relation}
+use Rattle.opl_term.specs.declared.term.FieldName.{FieldName}
 use Rattle.opl_term.specs.declared.term.GroupTerm.{GroupTerm}
 use Rattle.opl_term.specs.declared.term.GroupTerm.TheOpen.{GroupTerm-F, SetTerm-F, Step-F, Term-F}
 use Rattle.opl_term.specs.declared.term.GroupTerm.TheFolds.{fold-GroupTerm, fold-SetTerm, fold-Step, fold-roll-GroupTerm, fold-roll-SetTerm, fold-roll-Step, fold-roll-Term, map-GroupTerm, map-SetTerm, map-Step, map-Term, ind-Term}
@@ -113,7 +114,7 @@ module _ (scope : Scope) where
   term-back (Term-F.AllDifferent at t) = λ i. roll-Term (Term-F.AllDifferent at (t.1 i))
   term-back (Term-F.Question at op t) = λ i. roll-Term (Term-F.Question at op (t.1 i))
   term-back (Term-F.Element at t ts) = λ i. roll-Term (Term-F.Element at (t.1 i) (terms-back ts i))
-  term-back (Term-F.Field at t place name) = λ i. roll-Term (Term-F.Field at (t.1 i) place name)
+  term-back (Term-F.Fields at t fs) = λ i. roll-Term (Term-F.Fields at (t.1 i) fs)
   term-back (Term-F.Record at ts) = λ i. roll-Term (Term-F.Record at (terms-back ts i))
   term-back (Term-F.Listed at ts) = λ i. roll-Term (Term-F.Listed at (terms-back ts i))
   term-back (Term-F.Described at t gs None) = λ i. roll-Term (Term-F.Described at (t.1 i) (groups-back gs i) None)
@@ -253,9 +254,9 @@ pub formula_of-Element : (scope : Scope) (at : ℕ) (t : Term) (ts : List Term) 
 formula_of-Element scope at t ts env =
     subst (λ x. formula_of scope x env ≡ either scope x (connective_layer scope (parts_of scope (Term-F.Element at t ts)) env) env) (terms.rolls-Element at t ts) (formula-roll scope (Term-F.Element at t ts) env)
 
-pub formula_of-Field : (scope : Scope) (at : ℕ) (t : Term) (place : ℕ) (name : List ℕ) (env : Environment) → formula_of scope (terms.Field at t place name) env ≡ either scope (terms.Field at t place name) (Ok (formulas.Known false)) env
-formula_of-Field scope at t place name env =
-    subst (λ x. formula_of scope x env ≡ either scope x (connective_layer scope (parts_of scope (Term-F.Field at t place name)) env) env) (terms.rolls-Field at t place name) (formula-roll scope (Term-F.Field at t place name) env)
+pub formula_of-Fields : (scope : Scope) (at : ℕ) (t : Term) (fs : List FieldName) (env : Environment) → formula_of scope (terms.Fields at t fs) env ≡ either scope (terms.Fields at t fs) (Ok (formulas.Known false)) env
+formula_of-Fields scope at t fs env =
+    subst (λ x. formula_of scope x env ≡ either scope x (connective_layer scope (parts_of scope (Term-F.Fields at t fs)) env) env) (terms.rolls-Fields at t fs) (formula-roll scope (Term-F.Fields at t fs) env)
 
 pub formula_of-Record : (scope : Scope) (at : ℕ) (ts : List Term) (env : Environment) → formula_of scope (terms.Record at ts) env ≡ either scope (terms.Record at ts) (Ok (formulas.Known false)) env
 formula_of-Record scope at ts env =
@@ -280,7 +281,7 @@ formula_of-KeyedArray scope at ts us env =
     subst (λ x. formula_of scope x env ≡ either scope x (connective_layer scope (parts_of scope (Term-F.KeyedArray at ts us)) env) env) (terms.rolls-KeyedArray at ts us) (formula-roll scope (Term-F.KeyedArray at ts us) env)
 
 -- the formula of each form
-pub ruleset formulas_of_terms = (formula_of-Number, formula_of-Named, formula_of-Bracket, formula_of-Negative, formula_of-Chain, formula_of-Related, formula_of-Member, formula_of-Equivalent, formula_of-Implied, formula_of-Or, formula_of-And, formula_of-Not, formula_of-Aggregate, formula_of-Call, formula_of-AllDifferent, formula_of-Question, formula_of-Element, formula_of-Field, formula_of-Record, formula_of-Listed, formula_of-Described, formula_of-Array, formula_of-KeyedArray)
+pub ruleset formulas_of_terms = (formula_of-Number, formula_of-Named, formula_of-Bracket, formula_of-Negative, formula_of-Chain, formula_of-Related, formula_of-Member, formula_of-Equivalent, formula_of-Implied, formula_of-Or, formula_of-And, formula_of-Not, formula_of-Aggregate, formula_of-Call, formula_of-AllDifferent, formula_of-Question, formula_of-Element, formula_of-Fields, formula_of-Record, formula_of-Listed, formula_of-Described, formula_of-Array, formula_of-KeyedArray)
 
 -- ---- whether a formula holds, by its parts
 

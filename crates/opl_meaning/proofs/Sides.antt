@@ -4,6 +4,7 @@ use Rattle.opl_tree.specs.declared.expression.AggregateOp.{AggregateOp}
 use Rattle.opl_tree.specs.declared.expression.CallOp.{CallOp}
 use Rattle.opl_tree.specs.declared.expression.QuestionOp.{QuestionOp}
 use Rattle.opl_tree.specs.declared.expression.Relation.{Relation}
+use Rattle.opl_term.specs.declared.term.FieldName.{FieldName}
 use Rattle.opl_term.specs.declared.term.GroupTerm.{GroupTerm}
 use Rattle.opl_term.specs.declared.term.GroupTerm.TheViews.{out-Term}
 use Rattle.opl_term.specs.declared.term.SetTerm.{SetTerm}
@@ -74,8 +75,8 @@ variable-Question scope at op t = ap (variable_layer scope) (terms.outs-Question
 pub variable-Element : (scope : Scope) (at : ℕ) (t : Term) (ts : List Term) → variable_layer scope (out-Term (terms.Element at t ts)) ≡ side_of None
 variable-Element scope at t ts = ap (variable_layer scope) (terms.outs-Element at t ts)
 
-pub variable-Field : (scope : Scope) (at : ℕ) (t : Term) (place : ℕ) (name : List ℕ) → variable_layer scope (out-Term (terms.Field at t place name)) ≡ side_of None
-variable-Field scope at t place name = ap (variable_layer scope) (terms.outs-Field at t place name)
+pub variable-Fields : (scope : Scope) (at : ℕ) (t : Term) (fs : List FieldName) → variable_layer scope (out-Term (terms.Fields at t fs)) ≡ side_of None
+variable-Fields scope at t fs = ap (variable_layer scope) (terms.outs-Fields at t fs)
 
 pub variable-Record : (scope : Scope) (at : ℕ) (ts : List Term) → variable_layer scope (out-Term (terms.Record at ts)) ≡ side_of None
 variable-Record scope at ts = ap (variable_layer scope) (terms.outs-Record at ts)
@@ -92,7 +93,7 @@ variable-Array scope at ts = ap (variable_layer scope) (terms.outs-Array at ts)
 pub variable-KeyedArray : (scope : Scope) (at : ℕ) (ts : List Term) (us : List Term) → variable_layer scope (out-Term (terms.KeyedArray at ts us)) ≡ side_of None
 variable-KeyedArray scope at ts us = ap (variable_layer scope) (terms.outs-KeyedArray at ts us)
 
-pub ruleset variable_sides = (variable-Number, variable-Named, variable-Bracket, variable-Negative, variable-Chain, variable-Related, variable-Member, variable-Equivalent, variable-Implied, variable-Or, variable-And, variable-Not, variable-Aggregate, variable-Call, variable-AllDifferent, variable-Question, variable-Element, variable-Field, variable-Record, variable-Listed, variable-Described, variable-Array, variable-KeyedArray)
+pub ruleset variable_sides = (variable-Number, variable-Named, variable-Bracket, variable-Negative, variable-Chain, variable-Related, variable-Member, variable-Equivalent, variable-Implied, variable-Or, variable-And, variable-Not, variable-Aggregate, variable-Call, variable-AllDifferent, variable-Question, variable-Element, variable-Fields, variable-Record, variable-Listed, variable-Described, variable-Array, variable-KeyedArray)
 
 -- ---- formulas
 
@@ -153,8 +154,8 @@ formula-Question scope at op t env h = by.formula_of-Question scope at op t env 
 pub formula-Element : (scope : Scope) (at : ℕ) (t : Term) (ts : List Term) (env : Environment) → is_mentioned scope (terms.Element at t ts) ≡ true → formula_of scope (terms.Element at t ts) env ≡ Ok (formulas.Known false)
 formula-Element scope at t ts env h = by.formula_of-Element scope at t ts env ∙ either-there scope (terms.Element at t ts) _ env h
 
-pub formula-Field : (scope : Scope) (at : ℕ) (t : Term) (place : ℕ) (name : List ℕ) (env : Environment) → is_mentioned scope (terms.Field at t place name) ≡ true → formula_of scope (terms.Field at t place name) env ≡ Ok (formulas.Known false)
-formula-Field scope at t place name env h = by.formula_of-Field scope at t place name env ∙ either-there scope (terms.Field at t place name) _ env h
+pub formula-Fields : (scope : Scope) (at : ℕ) (t : Term) (fs : List FieldName) (env : Environment) → is_mentioned scope (terms.Fields at t fs) ≡ true → formula_of scope (terms.Fields at t fs) env ≡ Ok (formulas.Known false)
+formula-Fields scope at t fs env h = by.formula_of-Fields scope at t fs env ∙ either-there scope (terms.Fields at t fs) _ env h
 
 pub formula-Record : (scope : Scope) (at : ℕ) (ts : List Term) (env : Environment) → is_mentioned scope (terms.Record at ts) ≡ true → formula_of scope (terms.Record at ts) env ≡ Ok (formulas.Known false)
 formula-Record scope at ts env h = by.formula_of-Record scope at ts env ∙ either-there scope (terms.Record at ts) _ env h
@@ -177,4 +178,4 @@ pub formulas-by : (s r : Scope) (ts : List Term) (env : Environment) (result : R
 unfolding formulas_in
 formulas-by s r ts env result h m = subst (λ x. Makes (evaluated (all (map (λ t. formula_of x t env) ts))) result) h m
 
-pub ruleset formulas_by_forms = (formula_of-data, formula-Number, formula-Named, formula-Bracket, formula-Negative, formula-Chain, formula-Related, formula-Member, formula-Equivalent, formula-Implied, formula-Or, formula-And, formula-Not, formula-Aggregate, formula-Call, formula-AllDifferent, formula-Question, formula-Element, formula-Field, formula-Record, formula-Listed, formula-Described, formula-Array, formula-KeyedArray)
+pub ruleset formulas_by_forms = (formula_of-data, formula-Number, formula-Named, formula-Bracket, formula-Negative, formula-Chain, formula-Related, formula-Member, formula-Equivalent, formula-Implied, formula-Or, formula-And, formula-Not, formula-Aggregate, formula-Call, formula-AllDifferent, formula-Question, formula-Element, formula-Fields, formula-Record, formula-Listed, formula-Described, formula-Array, formula-KeyedArray)

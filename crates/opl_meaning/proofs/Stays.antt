@@ -12,13 +12,12 @@ use Rattle.opl_term.specs.declared.term.Term.{Term}
 use Rattle.opl_value.specs.declared.value.Value.{Value}
 use Rattle.opl_value.specs.declared.value.Value.TheVariants as values
 use Rattle.opl_value.specs.declared.value.Dimension.TheViews.{out-Value}
-use Rattle.opl_value.specs.Places.{value_at}
 use Rattle.opl_value.specs.Sets.{first_occurrences}
 use Rattle.opl_eval.specs.declared.arithmetic.Operation.{Operation}
 use Rattle.opl_eval.specs.declared.arithmetic.Operation.TheVariants as operations
 use Rattle.opl_eval.specs.Arithmetic.{then, run, negative}
 use Rattle.opl_eval.specs.Compare.{number, relates, is_member}
-use Rattle.opl_eval.specs.Evaluation.{Environment, Found, Group, Meaning, Parameter, aggregate, all, bodies, body_where, called, choices, declaration_of, different_layer, element, elements, equivalent, found, gathered, integer, is_true, item_named, latest_or, parameter_or, parts, truth, unhidden, value_named, values_of, visible, visited, with_parameters, meaning, step_meaning, set_meaning, group_meaning, item_layer, value_layer, term_layer, step_layer, set_layer, group_layer}
+use Rattle.opl_eval.specs.Evaluation.{Environment, Found, Group, Meaning, Parameter, aggregate, all, bodies, body_where, called, choices, declaration_of, different_layer, element, elements, equivalent, found, gathered, integer, is_true, item_named, latest_or, parameter_or, part_at, truth, unhidden, value_named, values_of, visible, visited, with_parameters, meaning, step_meaning, set_meaning, group_meaning, item_layer, value_layer, term_layer, step_layer, set_layer, group_layer}
 use Rattle.opl_meaning.specs.Runs.{Names, Text, Use, any, any_mentioned, group_use, is_among, set_use, step_use, use_of, term_mentions, step_mentions, set_mentions, group_mentions}
 use Rattle.opl_meaning.proofs.Uses.{use_of-roll, step_use-roll, set_use-roll, group_use-roll}
 
@@ -211,7 +210,7 @@ module _ (names : Names) where
   value-stays (Term-F.Element at t ts) h a b g =
       let p = or_parts (use_of names t.0).is_mentioned (any_mentioned (map (use_of names) (map (λ e. e.0) ts))) h in
       λ i. then (values-stay ts p.1 a b g i) (λ key. element at key ((t.1 p.0 a b g).1 i))
-  value-stays (Term-F.Field at t place name) h a b g = λ i. found (λ v. value_at (parts v) (g.position i place)) ((t.1 h a b g).0 i)
+  value-stays (Term-F.Fields at t fs) h a b g = λ i. found (λ v. part_at (g.position i) v fs) ((t.1 h a b g).0 i)
   value-stays (Term-F.Record at ts) h a b g = λ i. found values.Record (values-stay ts h a b g i)
   value-stays (Term-F.Listed at ts) h a b g = λ i. found (λ vs. values.Set (first_occurrences vs)) (values-stay ts h a b g i)
   value-stays (Term-F.Described at t gs None) h a b g =

@@ -4,6 +4,7 @@ use Rattle.opl_tree.specs.declared.expression.AggregateOp.{AggregateOp}
 use Rattle.opl_tree.specs.declared.expression.CallOp.{CallOp}
 use Rattle.opl_tree.specs.declared.expression.QuestionOp.{QuestionOp}
 use Rattle.opl_tree.specs.declared.expression.Relation.{Relation}
+use Rattle.opl_term.specs.declared.term.FieldName.{FieldName}
 use Rattle.opl_term.specs.declared.term.GroupTerm.{GroupTerm}
 use Rattle.opl_term.specs.declared.term.GroupTerm.TheOpen.{Term-F}
 use Rattle.opl_term.specs.declared.term.GroupTerm.TheFolds.{map-Term}
@@ -44,7 +45,7 @@ place-layer names others (Term-F.Call at op t) = refl
 place-layer names others (Term-F.AllDifferent at t) = refl
 place-layer names others (Term-F.Question at op t) = refl
 place-layer names others (Term-F.Element at t ts) = refl
-place-layer names others (Term-F.Field at t place name) = refl
+place-layer names others (Term-F.Fields at t fs) = refl
 place-layer names others (Term-F.Record at ts) = refl
 place-layer names others (Term-F.Listed at ts) = refl
 place-layer names others (Term-F.Described at t gs c) = refl
@@ -152,8 +153,8 @@ unrun-Question names at op t = ap (λ u. u.unrun) (by.use_of-Question names at o
 pub unrun-Element : (names : Names) (at : ℕ) (t : Term) (ts : List Term) → (use_of names (terms.Element at t ts)).unrun ≡ whole_unrun (use_of names (terms.Element at t ts))
 unrun-Element names at t ts = ap (λ u. u.unrun) (by.use_of-Element names at t ts) ∙ sym (ap whole_unrun (by.use_of-Element names at t ts))
 
-pub unrun-Field : (names : Names) (at : ℕ) (t : Term) (place : ℕ) (name : List ℕ) → (use_of names (terms.Field at t place name)).unrun ≡ whole_unrun (use_of names (terms.Field at t place name))
-unrun-Field names at t place name = ap (λ u. u.unrun) (by.use_of-Field names at t place name) ∙ sym (ap whole_unrun (by.use_of-Field names at t place name))
+pub unrun-Fields : (names : Names) (at : ℕ) (t : Term) (fs : List FieldName) → (use_of names (terms.Fields at t fs)).unrun ≡ whole_unrun (use_of names (terms.Fields at t fs))
+unrun-Fields names at t fs = ap (λ u. u.unrun) (by.use_of-Fields names at t fs) ∙ sym (ap whole_unrun (by.use_of-Fields names at t fs))
 
 pub unrun-Record : (names : Names) (at : ℕ) (ts : List Term) → (use_of names (terms.Record at ts)).unrun ≡ whole_unrun (use_of names (terms.Record at ts))
 unrun-Record names at ts = ap (λ u. u.unrun) (by.use_of-Record names at ts) ∙ sym (ap whole_unrun (by.use_of-Record names at ts))
@@ -170,7 +171,7 @@ unrun-Array names at ts = ap (λ u. u.unrun) (by.use_of-Array names at ts) ∙ s
 pub unrun-KeyedArray : (names : Names) (at : ℕ) (ts : List Term) (us : List Term) → (use_of names (terms.KeyedArray at ts us)).unrun ≡ whole_unrun (use_of names (terms.KeyedArray at ts us))
 unrun-KeyedArray names at ts us = ap (λ u. u.unrun) (by.use_of-KeyedArray names at ts us) ∙ sym (ap whole_unrun (by.use_of-KeyedArray names at ts us))
 
-pub ruleset forms = (unrun-Number, unrun-Named, unrun-Bracket, unrun-Negative, unrun-Chain, unrun-Related, unrun-Member, unrun-Equivalent, unrun-Implied, unrun-Or, unrun-And, unrun-Not, unrun-Aggregate, unrun-Call, unrun-AllDifferent, unrun-Question, unrun-Element, unrun-Field, unrun-Record, unrun-Listed, unrun-Described, unrun-Array, unrun-KeyedArray)
+pub ruleset forms = (unrun-Number, unrun-Named, unrun-Bracket, unrun-Negative, unrun-Chain, unrun-Related, unrun-Member, unrun-Equivalent, unrun-Implied, unrun-Or, unrun-And, unrun-Not, unrun-Aggregate, unrun-Call, unrun-AllDifferent, unrun-Question, unrun-Element, unrun-Fields, unrun-Record, unrun-Listed, unrun-Described, unrun-Array, unrun-KeyedArray)
 
 pub ruleset known_places = (use-place)
 

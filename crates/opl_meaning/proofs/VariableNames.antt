@@ -1,9 +1,7 @@
 -- What the name of a type stands for.
-use Rattle.std.proofs.Common.{◌≡◌, ℕ, pos, ◌||◌, Bool, true, false, cond, List, [], ◌∷◌, ◌++◌, map, Option, Some, None, Ok, refl, ap, sym, ◌∙◌}
+use Rattle.std.proofs.Common.{◌≡◌, ℕ, pos, ◌||◌, Bool, true, false, cond, List, [], ◌∷◌, map, Option, Some, None, Ok, refl, ap, sym, ◌∙◌}
 use Rattle.std.specs.Prelude.{bytes_eq, is_some}
 use Rattle.std.specs.Option.{option_map}
-use Rattle.std.proofs.lemmas.List.{append-nil}
-use Rattle.opl_tree.specs.declared.expression.NameTree.{NameTree}
 use Rattle.opl_term.specs.declared.term.SetTerm.{SetTerm}
 use Rattle.opl_term.specs.declared.term.SetTerm.TheVariants as sets
 use Rattle.opl_term.specs.declared.term.Term.TheVariants as terms
@@ -13,11 +11,11 @@ use Rattle.opl_value.specs.declared.value.Dimension.TheViews.{out-Value}
 use Rattle.opl_eval.specs.declared.environment.Environment as code
 use Rattle.opl_eval.specs.declared.environment.Parameter as parameters
 use Rattle.opl_eval.specs.Evaluation.{Found, Item, declaration_of, item_named, latest_or, parameter_or, set_meaning, term_layer, unhidden, value_named, visible}
-use Rattle.opl_eval.specs.Visible.{item_of, parameter_of, position_in, seen, within}
+use Rattle.opl_eval.specs.Visible.{parameter_of, seen, within}
 use Rattle.opl_eval.proofs.Meanings as by
 use Rattle.opl_meaning.specs.declared.ends.Ends as ends
-use Rattle.opl_meaning.specs.VariableReadings.{is_named, named, reach}
-use Rattle.opl_meaning.specs.Variables.{no_ends, type_ends, type_layer, with_name}
+use Rattle.opl_meaning.specs.VariableReadings.{is_named, reach}
+use Rattle.opl_meaning.specs.Variables.{no_ends, type_ends, type_layer}
 use Rattle.opl_meaning.proofs.VariableTypes.{kind-Int}
 
 -- ---- parameters hide declared names
@@ -55,12 +53,6 @@ module _ (env : code.Environment) (ps : List parameters.Parameter) (name : List 
 
   pub hidden_reach : is_named ps name ≡ true → (e : ends.Ends) → e ≡ reach no_ends → e ≡ reach (type_ends (item_named name (within env ps)))
   hidden_reach h e f = f ∙ ap (λ i. reach (type_ends i)) (sym (item_hidden h))
-
--- the parameters, and the name of a dimension for an element
-pub within-named : (env : code.Environment) (ps qs : List parameters.Parameter) (name : Option NameTree) (v : Value) → map parameter_of qs ≡ map parameter_of ps ++ named name v → within env qs ≡ with_name name v (within env ps)
-unfolding within
-within-named env ps qs (Some name) v h = λ i. record { items = map item_of env.entries; parameters = h i; position = position_in env.positions }
-within-named env ps qs None v h = λ i. record { items = map item_of env.entries; parameters = (h ∙ append-nil (map parameter_of ps)) i; position = position_in env.positions }
 
 -- ---- the ends of what is declared
 

@@ -1,3 +1,4 @@
+pub mod EachSet
 pub mod Faults
 pub mod Assigned
 pub mod Runs

@@ -1,16 +1,9 @@
 -- What the program's values stand for in the definitions of decision variables.
-use Rattle.std.specs.Prelude.{ℕ, Bool, bytes_eq, List, [], ◌∷◌, Option, Some, None}
+use Rattle.std.specs.Prelude.{ℕ, Bool, bytes_eq, List}
 use Rattle.std.specs.List.{list_any}
-use Rattle.opl_tree.specs.declared.expression.NameTree.{NameTree}
-use Rattle.opl_value.specs.declared.value.Value.{Value}
-use Rattle.opl_value.specs.Places.{numbers_between}
 use Rattle.opl_eval.specs.declared.environment.Parameter as parameters
-use Rattle.opl_eval.specs.Evaluation.{Environment, Parameter}
+use Rattle.opl_eval.specs.Evaluation.{Environment}
 use Rattle.opl_eval.specs.Visible.{within}
-use Rattle.opl_meaning.specs.declared.elements.Element.{Element}
-use Rattle.opl_meaning.specs.declared.elements.Element.TheVariants.{Borrowed, Owned}
-use Rattle.opl_meaning.specs.declared.elements.Elements.{Elements}
-use Rattle.opl_meaning.specs.declared.elements.Elements.TheVariants.{Listed, Between}
 use Rattle.opl_meaning.specs.declared.ends.Ends as code
 use Rattle.opl_meaning.specs.declared.variable.Kind.TheVariants.{Number}
 use Rattle.opl_meaning.specs.declared.visible.Visible.{Visible}
@@ -23,21 +16,6 @@ sees s = within s.environment.now s.parameters.now
 -- whether one of the parameters has this name
 abbrev pub is_named : List parameters.Parameter → List ℕ → Bool
 is_named ps name = list_any (λ p. bytes_eq name p.name.now) ps
-
--- what the name of a dimension adds to the parameters
-abbrev pub named : Option NameTree → Value → List Parameter
-named (Some name) v = record { name = name.text; value = v } ∷ []
-named None v = []
-
--- an element, borrowed or owned
-abbrev pub element : Element → Value
-element (Borrowed v) = v.now
-element (Owned v) = v
-
--- the elements that are left
-abbrev pub left : Elements → List Value
-left (Listed vs) = vs.now
-left (Between low high) = numbers_between low high
 
 -- the ends alone, as the program keeps them
 abbrev pub reach : Ends → code.Ends

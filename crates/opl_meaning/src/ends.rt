@@ -1,8 +1,10 @@
 //! The ends of declared sets.
 ghost use Rattle.std.specs.Prelude.{◌≡◌, ℕ, IfOk};
+ghost use Rattle.std.specs.Option.{option_map};
 ghost use Rattle.opl_value.specs.declared.value.Dimension.TheViews.{out-Value};
 ghost use Rattle.opl_eval.specs.Evaluation.{item_named};
 ghost use Rattle.opl_eval.specs.Visible.{seen};
+ghost use Rattle.opl_meaning.specs.EachSet.{ends_by, set_by, terms_of};
 ghost use Rattle.opl_meaning.specs.Faults.{Does, Makes, found};
 ghost use Rattle.opl_meaning.specs.VariableReadings.{reach, sees, whole};
 ghost use Rattle.opl_meaning.specs.Variables as spec;
@@ -12,7 +14,7 @@ use crate::variable::{DeclaredSet, Kind};
 use crate::visible::{Visible, end_in, is_hidden};
 use opl_eval::{Environment, eval_set};
 use opl_list::Boxed;
-use opl_term::{SetTerm, Term};
+use opl_term::{SetTerm, Term, add_term};
 use opl_token::Name;
 use opl_tree::{BoundsTree, NameTree, VariableTree, VariableTypeTree};
 use opl_value::Value;
@@ -81,20 +83,44 @@ fn ends_of_type(visible: Visible<'_>, kind: &VariableTypeTree) -> Ends
     }
 }
 
+/// The expressions of ends that are written.
+#[derive(Drop)]
+pub(crate) struct EndTerms {
+    low: Boxed<Term>,
+    high: Boxed<Term>,
+}
+
+/// The expressions of the ends, if they are written.
+pub(crate) fn end_terms(
+    alloc: Global,
+    bounds: &Option<BoundsTree>,
+) -> Result<Option<EndTerms>, AllocError>
+    ensures { IfOk result (λ ends. ends ≡ option_map terms_of bounds.now) }
+{
+    match bounds {
+        None => Ok(None),
+        Some(bounds) => {
+            let low = add_term(alloc, &bounds.low)?;
+            let high = add_term(alloc, &bounds.high)?;
+            Ok(Some(EndTerms { low, high }))
+        }
+    }
+}
+
 /// The ends that are written, else those of the type.
-fn ends_in(
+fn ends_by(
     alloc: Global,
     visible: Visible<'_>,
     kind: &VariableTypeTree,
-    bounds: &Option<BoundsTree>,
+    ends: &Option<EndTerms>,
 ) -> Result<Ends, MeaningFault>
-    ensures { Makes (found reach (spec.ends_in (sees visible.entry) kind.now bounds.now)) result }
+    ensures { Makes (found reach (ends_by (sees visible.entry) kind.now ends.now)) result }
 {
-    match bounds {
+    match ends {
         None => Ok(ends_of_type(visible, kind)),
-        Some(bounds) => {
-            let low = end_in(alloc, visible, &bounds.low)?;
-            let high = end_in(alloc, visible, &bounds.high)?;
+        Some(ends) => {
+            let low = end_in(alloc, visible, ends.low.get())?;
+            let high = end_in(alloc, visible, ends.high.get())?;
             Ok(Ends { low, high })
         }
     }
@@ -119,7 +145,20 @@ fn near_set(at: u32, ends: &Ends) -> Result<DeclaredSet, MeaningFault>
     Ok(DeclaredSet { low, high })
 }
 
-/// The declared set of a variable, or of one element of an array of them.
+/// The declared set of a variable, or of one element of an array of them, by the expressions of its ends.
+pub(crate) fn set_by(
+    alloc: Global,
+    visible: Visible<'_>,
+    t: &VariableTree,
+    ends: &Option<EndTerms>,
+) -> Result<DeclaredSet, MeaningFault>
+    ensures { Makes (set_by t.now ends.now (sees visible.entry)) result }
+{
+    let ends = ends_by(alloc, visible, &t.kind, ends)?;
+    near_set(t.at, &ends)
+}
+
+/// The declared set of a variable.
 pub(crate) fn set_in(
     alloc: Global,
     visible: Visible<'_>,
@@ -127,8 +166,8 @@ pub(crate) fn set_in(
 ) -> Result<DeclaredSet, MeaningFault>
     ensures { Makes (spec.set_in t.now (sees visible.entry)) result }
 {
-    let ends = ends_in(alloc, visible, &t.kind, &t.bounds)?;
-    near_set(t.at, &ends)
+    let ends = end_terms(alloc, &t.bounds)?;
+    set_by(alloc, visible, t, &ends)
 }
 
 /// What the values of a type are, where an enumeration has this number of its declaration.

@@ -8,7 +8,7 @@ ghost use Rattle.opl_meaning.specs.Variables as spec;
 
 use crate::ends::{kind_of, set_in};
 use crate::fault::MeaningFault;
-use crate::sets::{last_set, sets_over};
+use crate::sets::each_set;
 use crate::variable::{DeclaredSet, VariableItem};
 use crate::visible::Visible;
 use opl_bind::{BindFault, index_space};
@@ -78,21 +78,14 @@ fn array_sets(
         environment,
         parameters: &[],
     };
-    let before = Seq::new(alloc);
-    let rest = dims.rest.as_slice();
-    match space.dims.as_slice().split_first() {
-        Some((dimension, others)) => sets_over(
-            alloc,
-            visible,
-            t,
-            &dims.first,
-            dimension,
-            rest,
-            others,
-            before,
-        ),
-        None => last_set(alloc, visible, t, before),
-    }
+    each_set(
+        alloc,
+        visible,
+        t,
+        &dims.first,
+        dims.rest.as_slice(),
+        space.dims.as_slice(),
+    )
 }
 
 /// The variables of a declaration, with their index space and declared sets.

@@ -3,7 +3,6 @@
 
 mod assignment;
 mod condition;
-mod elements;
 mod ends;
 mod evaluation;
 mod fault;

@@ -53,7 +53,7 @@ pub(crate) fn is_mentioned(names: &VariableNames<'_>, term: &Term) -> bool
         Term::Element(_, base, subscripts) => {
             is_mentioned(names, base.get()) || in_terms(names, subscripts.as_slice())
         }
-        Term::Field(_, record, _, _) => is_mentioned(names, record.get()),
+        Term::Fields(_, record, _) => is_mentioned(names, record.get()),
         Term::Record(_, terms) => in_terms(names, terms.as_slice()),
         Term::Listed(_, terms) => in_terms(names, terms.as_slice()),
         Term::Described(_, body, groups, condition) => {
@@ -189,7 +189,7 @@ fn is_plain(names: &VariableNames<'_>, term: &Term) -> bool
         | Term::AllDifferent(..)
         | Term::Question(..)
         | Term::Element(..)
-        | Term::Field(..)
+        | Term::Fields(..)
         | Term::Record(..)
         | Term::Listed(..)
         | Term::Described(..)
@@ -229,7 +229,7 @@ fn place(term: &Term) -> u32
         Term::AllDifferent(at, _) => *at,
         Term::Question(at, ..) => *at,
         Term::Element(at, ..) => *at,
-        Term::Field(at, ..) => *at,
+        Term::Fields(at, ..) => *at,
         Term::Record(at, _) => *at,
         Term::Listed(at, _) => *at,
         Term::Described(at, ..) => *at,
@@ -292,7 +292,7 @@ pub(crate) fn unrun(names: &VariableNames<'_>, term: &Term) -> Option<u32>
         | Term::AllDifferent(..)
         | Term::Question(..)
         | Term::Element(..)
-        | Term::Field(..)
+        | Term::Fields(..)
         | Term::Record(..)
         | Term::Listed(..)
         | Term::Described(..)

@@ -1,107 +1,85 @@
 //! The declared sets of an array of variables, key by key.
-ghost use Rattle.std.specs.Prelude.{◌≡◌, ◌∷◌, ◌++◌, [], map, Ok};
+ghost use Rattle.std.specs.Prelude.{◌≡◌, ◌∷◌, [], IfOk, map, take};
 ghost use Rattle.opl_value.specs.Places.{dimension_values};
-ghost use Rattle.opl_meaning.specs.Faults.{Makes, then};
-ghost use Rattle.opl_meaning.specs.VariableReadings.{left, sees};
+ghost use Rattle.opl_given.specs.Elements.{left};
+ghost use Rattle.opl_bind.specs.EachKey.{with_names};
+ghost use Rattle.opl_bind.specs.Keys.{chosen};
+ghost use Rattle.opl_meaning.specs.EachSet as keys;
+ghost use Rattle.opl_meaning.specs.Faults.{Makes};
+ghost use Rattle.opl_meaning.specs.VariableReadings.{sees};
 ghost use Rattle.opl_meaning.specs.Variables as spec;
 
-use crate::elements::elements_of;
-use crate::ends::set_in;
+use crate::ends::{EndTerms, end_terms, set_by};
 use crate::fault::MeaningFault;
 use crate::variable::DeclaredSet;
-use crate::visible::{Visible, with_name};
+use crate::visible::Visible;
+use opl_bind::{Turn, Walk, with_names};
+use opl_given::{Elements, elements_of};
 use opl_list::Seq;
 use opl_tree::{DimTree, VariableTree};
-use opl_value::{Dimension, Value};
-use std::alloc::Global;
+use opl_value::Dimension;
+use std::alloc::{AllocError, Global};
 
-/// The declared set of one key, behind those before.
-pub(crate) fn last_set(
-    alloc: Global,
-    visible: Visible<'_>,
-    t: &VariableTree,
-    before: Seq<DeclaredSet>,
-) -> Result<Seq<DeclaredSet>, MeaningFault>
-    ensures { Makes (then (spec.set_in t.now (sees visible.entry)) (λ set. Ok (before ++ set ∷ []))) result }
+/// The first so many dimensions, or all of them where there are fewer.
+#[tactic(auto, using(crate::proofs::EachSet::first_dimensions))]
+fn first_of(dimensions: &[Dimension], count: usize) -> &[Dimension]
+    ensures { map dimension_values result.now ≡ take count (map dimension_values dimensions.now) }
 {
-    let mut sets = before;
-    sets.push(set_in(alloc, visible, t)?)?;
-    Ok(sets)
+    if count < dimensions.len() {
+        &dimensions[..count]
+    } else {
+        dimensions
+    }
 }
 
-/// The declared set for each key, in index order, behind those before.
-#[cycle(each_set)]
-fn each_set(
-    alloc: Global,
-    visible: Visible<'_>,
-    t: &VariableTree,
-    dims: &[DimTree],
-    dimensions: &[Dimension],
-    before: Seq<DeclaredSet>,
-) -> Result<Seq<DeclaredSet>, MeaningFault>
-    ensures { Makes (spec.each_set t.now dims.now (map dimension_values dimensions.now) (sees visible.entry) before) result }
+/// The index sets of dimensions.
+fn sets_of<'d>(alloc: Global, dimensions: &'d [Dimension]) -> Result<Vec<Elements<'d>>, AllocError>
+    ensures { IfOk result (λ sets. map left sets.items ≡ map dimension_values dimensions.now) }
 {
-    let Some((dim, other_dims)) = dims.split_first() else {
-        return last_set(alloc, visible, t, before);
-    };
-    let Some((dimension, others)) = dimensions.split_first() else {
-        return last_set(alloc, visible, t, before);
-    };
-    sets_over(
-        alloc, visible, t, dim, dimension, other_dims, others, before,
-    )
-}
-
-/// The declared set for each key that begins with an element of the first index set.
-#[cycle(each_set)]
-pub(crate) fn sets_over(
-    alloc: Global,
-    visible: Visible<'_>,
-    t: &VariableTree,
-    dim: &DimTree,
-    dimension: &Dimension,
-    dims: &[DimTree],
-    dimensions: &[Dimension],
-    before: Seq<DeclaredSet>,
-) -> Result<Seq<DeclaredSet>, MeaningFault>
-    ensures { Makes (spec.each_set t.now (dim.now ∷ dims.now) (dimension_values dimension.now ∷ map dimension_values dimensions.now) (sees visible.entry) before) result }
-{
-    let mut sets = before;
-    let mut rest = elements_of(dimension);
-    while let Some((element, behind)) = rest.split_first() {
-        sets = sets_at(
-            alloc,
-            visible,
-            t,
-            dim,
-            element.get(),
-            dims,
-            dimensions,
-            sets,
-        )?;
-        rest = behind;
+    let mut sets = Vec::new(alloc);
+    for dimension in dimensions {
+        sets.push(elements_of(dimension))?;
     }
     Ok(sets)
 }
 
-/// The declared set for each key that begins with this element.
-#[cycle(each_set)]
-fn sets_at(
+/// The declared set of one key.
+fn set_at(
     alloc: Global,
     visible: Visible<'_>,
     t: &VariableTree,
-    dim: &DimTree,
-    value: &Value,
-    dims: &[DimTree],
-    dimensions: &[Dimension],
-    before: Seq<DeclaredSet>,
-) -> Result<Seq<DeclaredSet>, MeaningFault>
-    ensures { Makes (spec.each_set t.now dims.now (map dimension_values dimensions.now) (spec.with_name dim.now.name value.now (sees visible.entry)) before) result }
+    ends: &Option<EndTerms>,
+    first: &DimTree,
+    rest: &[DimTree],
+    key: &[Turn<'_, '_>],
+) -> Result<DeclaredSet, MeaningFault>
+    ensures { Makes (keys.set_by t.now ends.now (with_names (first.now ∷ rest.now) (chosen key.now) (sees visible.entry))) result }
 {
-    let parameters = with_name(alloc, visible.parameters, dim, value)?;
+    let parameters = with_names(alloc, visible.parameters, first, rest, key)?;
     let inner = Visible {
         environment: visible.environment,
         parameters: parameters.as_slice(),
     };
-    each_set(alloc, inner, t, dims, dimensions, before)
+    set_by(alloc, inner, t, ends)
+}
+
+/// The declared set for each key of an array of variables, in index order. The expressions of its ends are made once for all.
+pub(crate) fn each_set(
+    alloc: Global,
+    visible: Visible<'_>,
+    t: &VariableTree,
+    first: &DimTree,
+    rest: &[DimTree],
+    dimensions: &[Dimension],
+) -> Result<Seq<DeclaredSet>, MeaningFault>
+    ensures { Makes (spec.each_set t.now (first.now ∷ rest.now) (map dimension_values dimensions.now) (sees visible.entry) []) result }
+{
+    let ends = end_terms(alloc, &t.bounds)?;
+    let index_sets = sets_of(alloc, first_of(dimensions, rest.len() + 1))?;
+    let mut walk = Walk::new(alloc, index_sets.as_slice());
+    let mut sets = Seq::new(alloc);
+    while walk.advance()? {
+        sets.push(set_at(alloc, visible, t, &ends, first, rest, walk.key())?)?;
+    }
+    Ok(sets)
 }

@@ -1,17 +1,15 @@
 //! What expressions come to under the names that a declaration of variables sees.
-ghost use Rattle.std.specs.Prelude.{◌≡◌, ◌++◌, IfOk, map};
+ghost use Rattle.std.specs.Prelude.{◌≡◌};
 ghost use Rattle.opl_eval.specs.Evaluation.{eval};
-ghost use Rattle.opl_eval.specs.Visible.{parameter_of};
+ghost use Rattle.opl_meaning.specs.EachSet.{end_by};
 ghost use Rattle.opl_meaning.specs.Faults.{Makes, evaluated};
-ghost use Rattle.opl_meaning.specs.VariableReadings.{is_named, named, sees};
-ghost use Rattle.opl_meaning.specs.Variables as spec;
+ghost use Rattle.opl_meaning.specs.VariableReadings.{is_named, sees};
 
 use crate::fault::MeaningFault;
 use opl_eval::{Environment, EvalFault, Parameter, eval, number};
-use opl_term::{Term, add_term};
-use opl_tree::{AddTree, DimTree};
+use opl_term::Term;
 use opl_value::Value;
-use std::alloc::{AllocError, Global};
+use std::alloc::Global;
 
 /// The declared names with their values, and the names of dimensions with those of their elements.
 #[derive(Clone, Copy)]
@@ -35,11 +33,10 @@ fn value_of(alloc: Global, visible: Visible<'_>, term: &Term) -> Result<Value, M
 }
 
 /// The number that an end of a declared set comes to.
-pub(crate) fn end_in(alloc: Global, visible: Visible<'_>, t: &AddTree) -> Result<i128, MeaningFault>
-    ensures { Makes (spec.end_in (sees visible.entry) t.now) result }
+pub(crate) fn end_in(alloc: Global, visible: Visible<'_>, end: &Term) -> Result<i128, MeaningFault>
+    ensures { Makes (end_by (sees visible.entry) end.now) result }
 {
-    let term = add_term(alloc, t)?;
-    let value = value_of(alloc, visible, term.get())?;
+    let value = value_of(alloc, visible, end)?;
     Ok(number(&value))
 }
 
@@ -53,24 +50,4 @@ pub(crate) fn is_hidden(parameters: &[Parameter<'_>], name: &[u8]) -> bool
         }
     }
     false
-}
-
-/// The parameters, and behind them the name of a dimension for an element, if it has one.
-pub(crate) fn with_name<'a>(
-    alloc: Global,
-    parameters: &[Parameter<'a>],
-    dim: &'a DimTree,
-    value: &'a Value,
-) -> Result<Vec<Parameter<'a>>, AllocError>
-    ensures { IfOk result (λ all. map parameter_of all.items ≡ map parameter_of parameters.now ++ named dim.now.name value.now) }
-{
-    let mut all = Vec::from_slice(alloc, parameters)?;
-    match &dim.name {
-        Some(name) => all.push(Parameter {
-            name: name.text.as_slice(),
-            value,
-        })?,
-        None => {}
-    }
-    Ok(all)
 }
