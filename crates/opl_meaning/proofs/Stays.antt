@@ -4,7 +4,7 @@ use Rattle.std.specs.List.{list_all, list_any}
 use Rattle.std.proofs.lemmas.Bool.{or_parts}
 use Rattle.opl_term.specs.declared.term.GroupTerm.{GroupTerm}
 use Rattle.opl_term.specs.declared.term.GroupTerm.TheOpen.{GroupTerm-F, SetTerm-F, Step-F, Term-F}
-use Rattle.opl_term.specs.declared.term.GroupTerm.TheFolds.{fold-roll-GroupTerm, fold-roll-SetTerm, fold-roll-Step, fold-roll-Term, map-GroupTerm, map-SetTerm, map-Step, map-Term, ind-Term}
+use Rattle.opl_term.specs.declared.term.GroupTerm.TheFolds.{fold-roll-GroupTerm, fold-roll-SetTerm, fold-roll-Step, fold-roll-Term, map-GroupTerm, map-SetTerm, map-Step, map-Term, ind-GroupTerm, ind-Term}
 use Rattle.opl_term.specs.declared.term.GroupTerm.TheViews.{roll-GroupTerm, roll-SetTerm, roll-Step, roll-Term}
 use Rattle.opl_term.specs.declared.term.SetTerm.{SetTerm}
 use Rattle.opl_term.specs.declared.term.Step.{Step}
@@ -44,7 +44,7 @@ item-agrees names name a b h g = λ i. unhidden (parameter_or None name (g.param
 abbrev pub meanings_of : Term-F GroupTerm SetTerm Step Term → Term-F Group Meaning (Environment → Found Operation) Meaning
 meanings_of = map-Term GroupTerm SetTerm Step Term Group Meaning (Environment → Found Operation) Meaning group_meaning set_meaning step_meaning meaning
 
-abbrev step_meanings : Step-F GroupTerm SetTerm Step Term → Step-F Group Meaning (Environment → Found Operation) Meaning
+abbrev pub step_meanings : Step-F GroupTerm SetTerm Step Term → Step-F Group Meaning (Environment → Found Operation) Meaning
 step_meanings = map-Step GroupTerm SetTerm Step Term Group Meaning (Environment → Found Operation) Meaning group_meaning set_meaning step_meaning meaning
 
 abbrev set_meanings : SetTerm-F GroupTerm SetTerm Step Term → SetTerm-F Group Meaning (Environment → Found Operation) Meaning
@@ -57,7 +57,7 @@ pub meaning-roll : (x : Term-F GroupTerm SetTerm Step Term) → meaning (roll-Te
 unfolding meaning step_meaning set_meaning group_meaning
 meaning-roll x = fold-roll-Term Group Meaning (Environment → Found Operation) Meaning group_layer set_layer step_layer term_layer x
 
-step_meaning-roll : (x : Step-F GroupTerm SetTerm Step Term) → step_meaning (roll-Step x) ≡ step_layer (step_meanings x)
+pub step_meaning-roll : (x : Step-F GroupTerm SetTerm Step Term) → step_meaning (roll-Step x) ≡ step_layer (step_meanings x)
 unfolding meaning step_meaning set_meaning group_meaning
 step_meaning-roll x = fold-roll-Step Group Meaning (Environment → Found Operation) Meaning group_layer set_layer step_layer term_layer x
 
@@ -94,7 +94,7 @@ module _ (names : Names) where
   abbrev SetStays : SetTerm → Type 0
   SetStays s = set_use names s ≡ false → Stays (set_meaning s)
 
-  abbrev GroupStays : GroupTerm → Type 0
+  abbrev pub GroupStays : GroupTerm → Type 0
   GroupStays g = group_use names g ≡ false → Stays (group_meaning g).over
 
   abbrev OperationStays : (Environment → Found Operation) → Type 0
@@ -254,6 +254,18 @@ module _ (names : Names) where
   -- a term comes to the same where none of the names is named in it
   pub term_stays : (t : Term) → TermStays t
   term_stays = ind-Term GroupStays SetStays StepStays TermStays
+      (λ x y is h. subst (λ m. Stays m.over) (sym (group_meaning-roll x))
+      (subst (λ z. group_mentions (group_uses z) ≡ false → Stays (group_layer (group_meanings z)).over) is (group-stays y) (sym (group_use-roll names x) ∙ h)))
+      (λ x y is h. subst Stays (sym (set_meaning-roll x))
+      (subst (λ z. set_mentions (set_uses z) ≡ false → Stays (set_layer (set_meanings z))) is (set-stays y) (sym (set_use-roll names x) ∙ h)))
+      (λ x y is h. subst OperationStays (sym (step_meaning-roll x))
+      (subst (λ z. step_mentions (step_uses z) ≡ false → OperationStays (step_layer (step_meanings z))) is (step-stays y) (sym (step_use-roll names x) ∙ h)))
+      (λ x y is h. subst Stays (sym (meaning-roll x))
+      (subst (λ z. term_mentions names.all (uses_of z) ≡ false → Stays (term_layer (meanings_of z))) is (λ k a b g. (value-stays y k a b g, item-stays y k a b g)) (ap (λ u. u.is_mentioned) (sym (use_of-roll names x)) ∙ h)))
+
+  -- the set of a group likewise
+  pub group_stays : (g : GroupTerm) → GroupStays g
+  group_stays = ind-GroupTerm GroupStays SetStays StepStays TermStays
       (λ x y is h. subst (λ m. Stays m.over) (sym (group_meaning-roll x))
       (subst (λ z. group_mentions (group_uses z) ≡ false → Stays (group_layer (group_meanings z)).over) is (group-stays y) (sym (group_use-roll names x) ∙ h)))
       (λ x y is h. subst Stays (sym (set_meaning-roll x))
