@@ -1,0 +1,47 @@
+-- Laws of unrolling.
+use Rattle.std.specs.Prelude.{◌≡◌, ℤ, Bool, true, filter, List, length, map}
+use Rattle.std.specs.List.{All, flat_map, list_all}
+use Rattle.opl_term.specs.declared.term.Term.{Term}
+use Rattle.opl_eval.specs.Evaluation.{Environment, eval}
+use Rattle.opl_meaning.specs.declared.variable.VariableItem.{VariableItem}
+use Rattle.opl_meaning.specs.Assigned.{with_variables}
+use Rattle.opl_meaning.specs.Laws.{HasOneSet}
+use Rattle.opl_meaning.specs.Runs.{Names}
+use Rattle.opl_meaning.specs.Solutions.{declared_sets, product, truth}
+use Rattle.opl_draft.specs.Drafts.{Cells, draft_value}
+use Rattle.opl_draft.specs.Instances.{Condition, Instance, condition_of, is_clean_instance}
+use Rattle.opl_draft.specs.Numbers.{arrays_of, entries}
+use Rattle.opl_draft.specs.Solutions.{Model, holds, solutions}
+use Rattle.opl_draft.specs.Unrolled.{is_clean, unrolled}
+
+-- decision variables have these names, and those that are no arrays have one declared set
+pub record AreDeclared (items : List VariableItem) (names : Names) : Type 0 where
+  pub named : names.all ≡ map (λ v. v.name) items
+  pub single : All HasOneSet items
+
+-- an assignment has one number for each declared set
+abbrev pub Fits : List VariableItem → List ℤ → Type 0
+Fits items ns = length ns ≡ length (flat_map (λ v. v.sets) items)
+
+-- the arrays of a model: those of the data and those of variables
+abbrev pub arrays : Environment → List VariableItem → List Cells
+arrays env items = arrays_of (entries env.items items)
+
+-- under an assignment an unrolled expression comes to what the expression does, be it a value or a fault
+abbrev pub UnrolledMeans : Type 0
+UnrolledMeans = (items : List VariableItem) (names : Names) (ns : List ℤ) (env : Environment) (t : Term) → AreDeclared items names → Fits items ns →
+    is_clean items names t ≡ true → draft_value (arrays env items) ns (unrolled items names t env) ≡ eval t (with_variables items ns env)
+
+-- whether what a condition comes to under an assignment is true; what comes to no value is not
+abbrev pub is_met : List Cells → List ℤ → Condition → Bool
+is_met cells ns c = truth (draft_value cells ns c.draft)
+
+-- an instance holds under an assignment exactly where its draft is true
+abbrev pub InstanceMeans : Type 0
+InstanceMeans = (items : List VariableItem) (names : Names) (ns : List ℤ) (env : Environment) (i : Instance) → AreDeclared items names → Fits items ns →
+    is_clean_instance items names i ≡ true → holds env items ns i ≡ is_met (arrays env items) ns (condition_of items names env i)
+
+-- the solutions of a model are the assignments of the declared sets, in lexicographic order, on which the drafts of all instances are true
+abbrev pub SolutionsUnrolled : Type 0
+SolutionsUnrolled = (m : Model) (names : Names) → AreDeclared m.variables names → list_all (is_clean_instance m.variables names) m.conditions ≡ true →
+    solutions m ≡ filter (λ ns. list_all (is_met (arrays m.environment m.variables) ns) (map (condition_of m.variables names m.environment) m.conditions)) (product (declared_sets m.variables))
