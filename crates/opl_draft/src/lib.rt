@@ -1,2 +1,4 @@
-//! Models unrolled: which conditions their items give, and what each is without parameters and names.
+//! Models unrolled: the conditions that items give, and each of them without parameters and names; definitions and their laws.
 #![tactic(auto)]
+
+pub mod laws;

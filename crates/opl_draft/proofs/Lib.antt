@@ -1,0 +1,6 @@
+mod Arrays
+mod Comes
+pub mod Instances
+mod Names
+mod Parts
+pub mod Unrolls

@@ -1,0 +1,19 @@
+//! Laws of unrolling, as contracts of functions without effect.
+ghost use Rattle.opl_draft.specs.Laws.{InstanceMeans, SolutionsUnrolled, UnrolledMeans};
+
+/// Under an assignment an unrolled expression comes to what the expression does where the decision variables have its values, be it a
+/// value or a fault with its place. The variables stand only where typing lets them.
+pub fn unrolled_means()
+    ensures { UnrolledMeans }
+{}
+
+/// An instance holds under an assignment exactly where its draft comes to a value that is true.
+pub fn instance_means()
+    ensures { InstanceMeans }
+{}
+
+/// The solutions of a model are the assignments of the declared sets, in lexicographic order, on which the drafts of all instances
+/// come to values that are true.
+pub fn solutions_unrolled()
+    ensures { SolutionsUnrolled }
+{}
