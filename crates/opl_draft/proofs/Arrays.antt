@@ -20,6 +20,7 @@ from-number ns all before k name (e ∷ es) h = by (λ b k h. from-number ns all
     chosen : (b : Bool) (i : Option ℕ) → array_at all ns (cond b i before) ≡ cond b (array_at all ns i) (array_at all ns before)
     chosen true i = refl
     chosen false i = refl
+
     by : ((b : Option ℕ) (k : ℕ) → ((j : ℕ) → slice_get all (k + j) ≡ slice_get (arrays_of es) j) → array_at all ns (array_or b k name es) ≡ cells_or (array_at all ns b) name es) →
         (c : Option Cells) → ((j : ℕ) → slice_get all (k + j) ≡ slice_get (with_cells c (arrays_of es)) j) →
         array_at all ns (array_or (cond (bytes_eq name e.name) (number_of k c) before) (number_after k c) name es) ≡ cells_or (cond (bytes_eq name e.name) c (array_at all ns before)) name es

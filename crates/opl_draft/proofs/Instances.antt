@@ -1,19 +1,17 @@
 -- Instances hold where their drafts are true, and so a model's solutions are those of the drafts.
-use Rattle.std.proofs.Common.{◌≡◌, ◌&&◌, suc, ℤ, Bool, true, false, cond, filter, List, [], ◌∷◌, ◌++◌, length, map, refl, sym, ap, ◌∙◌}
+use Rattle.std.proofs.Common.{◌≡◌, ◌&&◌, suc, ℤ, Bool, true, cond, filter, List, [], ◌∷◌, length, map, refl, sym, ap, ◌∙◌}
 use Rattle.std.specs.List.{All, flat_map, list_all}
 use Rattle.std.proofs.lemmas.Bool.{and_parts}
 use Rattle.std.proofs.lemmas.List.{length-map}
 use Rattle.std.proofs.lemmas.List.Elements.{All-append, All-cons, All-head, All-map, All-nil, All-tail, All-weaker}
 use Rattle.opl_eval.specs.Evaluation.{Environment, with_parameters}
-use Rattle.opl_meaning.specs.declared.variable.DeclaredSet.{DeclaredSet}
 use Rattle.opl_meaning.specs.declared.variable.VariableItem.{VariableItem}
 use Rattle.opl_meaning.specs.Runs.{Names}
 use Rattle.opl_meaning.specs.Solutions.{declared_sets, numbers_of, product, truth}
-use Rattle.opl_draft.specs.Drafts.{draft_value}
-use Rattle.opl_draft.specs.Instances.{Condition, Instance, condition_of, is_clean_instance}
+use Rattle.opl_draft.specs.Instances.{Instance, condition_of, is_clean_instance}
 use Rattle.opl_draft.specs.Instances.Instance.{posted, stopped}
 use Rattle.opl_draft.specs.Laws.{AreDeclared, Fits, InstanceMeans, SolutionsUnrolled, arrays, is_met}
-use Rattle.opl_draft.specs.Solutions.{Model, holds, satisfies, solutions}
+use Rattle.opl_draft.specs.Solutions.{holds, satisfies, solutions}
 use Rattle.opl_draft.proofs.Unrolls.{unrolled_means}
 
 pub instance_means : InstanceMeans

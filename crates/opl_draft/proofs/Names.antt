@@ -1,5 +1,5 @@
 -- What names stand for under an assignment.
-use Rattle.std.proofs.Common.{◌≡◌, ◌||◌, ℕ, zero, suc, ◌+◌, ◌≤◌, ◌<◌, ℤ, pos, Bool, true, false, cond, List, [], ◌∷◌, ◌++◌, drop, length, map, take, Option, None, Some, Ok, Err, refl, sym, ap, subst, ◌∙◌, arith}
+use Rattle.std.proofs.Common.{◌≡◌, ℕ, zero, suc, ◌+◌, ◌≤◌, ◌<◌, ℤ, pos, Bool, true, false, cond, List, [], ◌∷◌, ◌++◌, drop, length, map, take, Option, None, Some, Ok, refl, sym, ap, subst, ◌∙◌, arith}
 use Rattle.std.specs.Prelude.{bytes_eq, slice_index_or}
 use Rattle.std.specs.List.{All, flat_map}
 use Rattle.std.proofs.lemmas.Bool.{or_parts}
@@ -12,7 +12,7 @@ use Rattle.opl_value.specs.declared.value.Dimension.TheOpen.{Value-F}
 use Rattle.opl_value.specs.declared.value.Dimension.TheViews.{out-Value}
 use Rattle.opl_value.specs.Places.{lists, place_of}
 use Rattle.opl_eval.specs.Compare.{all_different}
-use Rattle.opl_eval.specs.Evaluation.{Environment, Found, Item, Parameter, at_place, declared, different_layer, element, element_layer, item_named, latest_or, parameter_or, unhidden, value_named, visible, with_parameters}
+use Rattle.opl_eval.specs.Evaluation.{Environment, Item, Parameter, at_place, declared, different_layer, element, element_layer, item_named, latest_or, parameter_or, unhidden, value_named, visible, with_parameters}
 use Rattle.opl_meaning.specs.declared.variable.Kind.{Kind}
 use Rattle.opl_meaning.specs.declared.variable.Kind.TheVariants.{Number, Enumeration}
 use Rattle.opl_meaning.specs.declared.variable.VariableItem.{VariableItem}
@@ -21,10 +21,10 @@ use Rattle.opl_meaning.specs.Laws.{HasOneSet}
 use Rattle.opl_meaning.specs.Runs.{Names, Text, is_among}
 use Rattle.opl_meaning.proofs.Stays.{Agree}
 use Rattle.opl_meaning.proofs.VariableValues.{latest-added, variables-agree}
-use Rattle.opl_draft.specs.Drafts.{Cells, are_different, array_at, chosen, draft_value, leaf_values, variable_values}
+use Rattle.opl_draft.specs.Drafts.{Cells, are_different, array_at, chosen, draft_value, variable_values}
 use Rattle.opl_draft.specs.Laws.{AreDeclared, Fits}
 use Rattle.opl_draft.specs.Numbers.{Entry, Numbered, array_or, arrays_of, cells_layer, cells_or, data_cells, data_entries, entries, variable_cells, variable_entries, variable_named, variable_or}
-use Rattle.opl_draft.specs.Unrolled.{has_no_space, is_plain_variable, named_array, named_cells, named_draft, plain_draft}
+use Rattle.opl_draft.specs.Unrolled.{is_plain_variable, named_array, named_cells, named_draft, plain_draft}
 use Rattle.opl_draft.proofs.Arrays.{array-named}
 
 -- the environment with one declaration's variables
@@ -71,6 +71,7 @@ found-fits (v ∷ vs) before name number h w e =
   where
     same : (n : ℕ) → n ≤ n
     same n = omega arith
+
     total : (a number m n all : ℕ) → a ≤ number + m + n → all ≡ m + n → a ≤ number + all
     total a number m n all h e = omega (arith, h, e)
 
@@ -139,7 +140,7 @@ module _ (ns : List ℤ) where
       let here : Numbered = record { item = v; first = number } in
       ap (λ xs. latest_or None name (with_variables vs xs (with_one v (drop number ns) env)).items) (drop-drop (length v.sets) number ns)
       ∙ latest-from vs (number + length v.sets) (with_one v (drop number ns) env) name (cond (bytes_eq name v.name) (Some here) before) i
-        (latest-added None name env.items (item_under here) ∙ ap (cond (bytes_eq name v.name) (Some (item_under here))) h ∙ later-cond (bytes_eq name v.name) here before i)
+      (latest-added None name env.items (item_under here) ∙ ap (cond (bytes_eq name v.name) (Some (item_under here))) h ∙ later-cond (bytes_eq name v.name) here before i)
 
   pub latest-is : (items : List VariableItem) (env : Environment) (name : Text) → latest_or None name (with_variables items ns env).items ≡ later (variable_named name items) (latest_or None name env.items)
   latest-is items env name = latest-from items 0 env name None (latest_or None name env.items) refl

@@ -1,10 +1,7 @@
 -- Under an assignment an unrolled expression comes to what the expression does.
-use Rattle.std.proofs.Common.{◌≡◌, ◌||◌, ◌&&◌, ℤ, ℕ, Bool, true, false, cond, not, List, [], ◌∷◌, ◌++◌, map, Option, None, Some, Ok, Err, refl, sym, ap, subst, ◌∙◌}
+use Rattle.std.proofs.Common.{◌≡◌, ◌||◌, ◌&&◌, ℤ, ℕ, Bool, true, false, cond, not, List, [], ◌∷◌, map, None, Some, Ok, refl, sym, ap, subst, ◌∙◌}
 use Rattle.std.specs.List.{flat_map, list_all, list_any}
-use Rattle.std.specs.Option.{option_map}
 use Rattle.std.proofs.lemmas.Bool.{and_parts}
-use Rattle.opl_tree.specs.declared.expression.CallOp.{CallOp}
-use Rattle.opl_tree.specs.declared.expression.CallOp.TheVariants.{Absolute, Cardinality}
 use Rattle.opl_term.specs.declared.term.GroupTerm.{GroupTerm}
 use Rattle.opl_term.specs.declared.term.GroupTerm.TheOpen.{Step-F, Term-F}
 use Rattle.opl_term.specs.declared.term.GroupTerm.TheFolds.{map-Step, map-Term, ind-Term}
@@ -17,7 +14,7 @@ use Rattle.opl_value.specs.declared.value.Value.TheVariants as values
 use Rattle.opl_value.specs.declared.value.Dimension.TheViews.{out-Value}
 use Rattle.opl_eval.specs.declared.arithmetic.Operation.{Operation}
 use Rattle.opl_eval.specs.declared.arithmetic.Operation.TheVariants as operations
-use Rattle.opl_eval.specs.Arithmetic.{then, run, negative, absolute}
+use Rattle.opl_eval.specs.Arithmetic.{then, run, negative}
 use Rattle.opl_eval.specs.Compare.{number, relates}
 use Rattle.opl_eval.specs.Evaluation as evaluation
 use Rattle.opl_eval.specs.Evaluation.{Environment, Found, Group, all, bodies, body_where, choices, declaration_of, different_layer, element, elements, eval, found, gathered, group_meaning, integer, is_true, item_layer, meaning, step_meaning, truth, value_layer, values_of, visited, with_parameters}
@@ -25,12 +22,12 @@ use Rattle.opl_meaning.specs.declared.variable.VariableItem.{VariableItem}
 use Rattle.opl_meaning.specs.Assigned.{with_variables}
 use Rattle.opl_meaning.specs.Runs.{Names, group_use}
 use Rattle.opl_meaning.proofs.Stays.{group_stays, meaning-roll, meanings_of, step_meaning-roll, step_meanings, term_stays}
-use Rattle.opl_draft.specs.Choices.{or_stop, under_groups, where_true}
-use Rattle.opl_draft.specs.Drafts.{Cells, Draft, Drafts, DraftStep, are_different, array_at, chosen, draft_value, draft_values, drafts_of, operation, step_values, steps_of}
+use Rattle.opl_draft.specs.Choices.{under_groups, where_true}
+use Rattle.opl_draft.specs.Drafts.{Cells, Draft, DraftStep, are_different, array_at, chosen, draft_value, operation, step_values, steps_of}
 use Rattle.opl_draft.specs.Drafts.Draft.{broken}
 use Rattle.opl_draft.specs.Laws.{AreDeclared, Fits, UnrolledMeans}
 use Rattle.opl_draft.specs.Numbers.{arrays_of, entries}
-use Rattle.opl_draft.specs.Unrolled.{Part, StepPart, called, clean_layer, data_draft, is_absolute, is_mentioned, layer_array, layer_cells, live_layer, name_layer, operand_layer, part_of, part_with, place_layer, step_clean, step_part}
+use Rattle.opl_draft.specs.Unrolled.{Part, StepPart, clean_layer, data_draft, is_absolute, is_mentioned, layer_array, layer_cells, live_layer, name_layer, operand_layer, part_of, place_layer, step_clean, step_part}
 use Rattle.opl_draft.proofs.Comes.{called-means, come, come-data, come-listed, come-one, come-stop, come-where, then-each}
 use Rattle.opl_draft.proofs.Names.{after-with, array-means, cells-mean, names-agree, plain-means}
 use Rattle.opl_draft.proofs.Parts.{part-form, part_group, part_group_is, part_term, parts_of, step-roll, step_parts}
@@ -124,8 +121,8 @@ module _ (items : List VariableItem) (names : Names) (ns : List ℤ) (declares :
       let stays = group-stays m env (is-false (group_use names m) p.0) in
       come-stop (arrays env) ns ((group_meaning m).over.value env) (λ v. flat_map (λ ps. under_groups broken (groups_of gs) drafts (with_parameters ps env)) (choices (group_meaning m) (elements (declaration_of ((group_meaning m).over.item env)) v)))
       ∙ (λ i. then (sym stays.0 i) (λ v. come-listed (arrays env) ns (λ ps. under_groups broken (groups_of gs) drafts (with_parameters ps env)) (λ ps. visited (groups_of gs) bodies (with_parameters ps (after env)))
-           (λ ps. groups-mean gs drafts bodies p.1 k (with_parameters ps env) ∙ ap (visited (groups_of gs) bodies) (after-with items ns ps env))
-           (choices (group_meaning m) (elements (declaration_of (sym stays.1 i)) v)) i))
+      (λ ps. groups-mean gs drafts bodies p.1 k (with_parameters ps env) ∙ ap (visited (groups_of gs) bodies) (after-with items ns ps env))
+      (choices (group_meaning m) (elements (declaration_of (sym stays.1 i)) v)) i))
 
   -- ---- aggregates
 
@@ -217,10 +214,11 @@ module _ (items : List VariableItem) (names : Names) (ns : List ℤ) (declares :
 
   means-by : (x : Term-F GroupTerm SetTerm Step Term) → LayerMeans x → Means (roll-Term x)
   means-by x layer =
-      let b : Bool = is_mentioned items names (roll-Term x) in
-      ((λ h env. ap (λ p. draft_value (arrays env) ns (p.draft env)) (part-form items names x) ∙ draft-either x b refl layer (sym (ap (λ p. p.is_clean) (part-form items names x)) ∙ h) env),
-       (λ h env. ap (λ p. Ok (values.Bool (are_different (arrays env) ns (p.cells env)))) (part-form items names x) ∙ layer.1 (sym (ap (λ p. p.is_name) (part-form items names x)) ∙ h) env ∙ sym (ap (λ m. differ (m.value (after env))) (meaning-roll x))),
-       (λ h env at key. ap (λ p. chosen (arrays env) ns at (array_at (arrays env) ns (p.array env)) key) (part-form items names x) ∙ layer.2 (sym (ap (λ p. p.is_name) (part-form items names x)) ∙ h) env at key ∙ sym (ap (λ m. element at key (m.item (after env))) (meaning-roll x))))
+      let b : Bool = is_mentioned items names (roll-Term x) in (
+        (λ h env. ap (λ p. draft_value (arrays env) ns (p.draft env)) (part-form items names x) ∙ draft-either x b refl layer (sym (ap (λ p. p.is_clean) (part-form items names x)) ∙ h) env),
+        (λ h env. ap (λ p. Ok (values.Bool (are_different (arrays env) ns (p.cells env)))) (part-form items names x) ∙ layer.1 (sym (ap (λ p. p.is_name) (part-form items names x)) ∙ h) env ∙ sym (ap (λ m. differ (m.value (after env))) (meaning-roll x))),
+        (λ h env at key. ap (λ p. chosen (arrays env) ns at (array_at (arrays env) ns (p.array env)) key) (part-form items names x) ∙ layer.2 (sym (ap (λ p. p.is_name) (part-form items names x)) ∙ h) env at key ∙ sym (ap (λ m. element at key (m.item (after env))) (meaning-roll x))),
+      )
 
   step-layer-means : (y : Step-F InGroup InSet InStep InTerm) → step_clean items names (step_parts items names (step_inner y)) ≡ true → (env : Environment) →
       step_value env (operand_layer items names (step_parts items names (step_inner y)) env) ≡ evaluation.step_layer (step_meanings (step_inner y)) (after env)

@@ -1,6 +1,6 @@
 -- Drafts: expressions after unrolling. No parameters and no names are left, aggregates are written out over their elements, parts without
 -- decision variables are values, and variables and arrays are numbers. No arithmetic is done yet.
-use Rattle.std.specs.Prelude.{slice_get, ℕ, zero, suc, ℤ, pos, Bool, true, false, cond, not, ◌||◌, slice_index_or, List, [], ◌∷◌, map, Option, Some, None, Result, Ok, Err}
+use Rattle.std.specs.Prelude.{slice_get, ℕ, zero, suc, ℤ, pos, Bool, true, not, ◌||◌, slice_index_or, List, [], ◌∷◌, map, Option, Some, None, Ok, Err}
 use Rattle.std.specs.List.{list_any, list_all}
 use Rattle.opl_tree.specs.declared.expression.AggregateOp.{AggregateOp}
 use Rattle.opl_tree.specs.declared.expression.Relation.{Relation}
