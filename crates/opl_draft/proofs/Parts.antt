@@ -97,7 +97,7 @@ module _ (items : List VariableItem) (names : Names) where
   term-back (Term-F.AllDifferent at t) = λ i. roll-Term (Term-F.AllDifferent at (t.1 i))
   term-back (Term-F.Question at op t) = λ i. roll-Term (Term-F.Question at op (t.1 i))
   term-back (Term-F.Element at t ts) = λ i. roll-Term (Term-F.Element at (t.1 i) (terms-back ts i))
-  term-back (Term-F.Field at t place name) = λ i. roll-Term (Term-F.Field at (t.1 i) place name)
+  term-back (Term-F.Fields at t fs) = λ i. roll-Term (Term-F.Fields at (t.1 i) fs)
   term-back (Term-F.Record at ts) = λ i. roll-Term (Term-F.Record at (terms-back ts i))
   term-back (Term-F.Listed at ts) = λ i. roll-Term (Term-F.Listed at (terms-back ts i))
   term-back (Term-F.Described at t gs None) = λ i. roll-Term (Term-F.Described at (t.1 i) (groups-back gs i) None)
