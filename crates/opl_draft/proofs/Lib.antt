@@ -1,6 +1,8 @@
 mod Arrays
+mod Clean
 mod Comes
-pub mod Instances
+mod Forms
+mod Instances
 mod Names
 mod Parts
-pub mod Unrolls
+mod Unrolls

@@ -1,6 +1,12 @@
 -- Laws of unrolling.
 use Rattle.std.specs.Prelude.{◌≡◌, ℤ, Bool, true, filter, List, length, map}
 use Rattle.std.specs.List.{All, flat_map, list_all}
+use Rattle.opl_tree.specs.declared.instruction.InstrTree.{InstrTree}
+use Rattle.opl_term.specs.declared.term.GroupTerm.{GroupTerm}
+use Rattle.opl_term.specs.declared.term.GroupTerm.TheOpen.{Step-F, Term-F}
+use Rattle.opl_term.specs.declared.term.GroupTerm.TheViews.{roll-Step}
+use Rattle.opl_term.specs.declared.term.SetTerm.{SetTerm}
+use Rattle.opl_term.specs.declared.term.Step.{Step}
 use Rattle.opl_term.specs.declared.term.Term.{Term}
 use Rattle.opl_eval.specs.Evaluation.{Environment, eval}
 use Rattle.opl_meaning.specs.declared.variable.VariableItem.{VariableItem}
@@ -8,8 +14,10 @@ use Rattle.opl_meaning.specs.Assigned.{with_variables}
 use Rattle.opl_meaning.specs.Laws.{HasOneSet}
 use Rattle.opl_meaning.specs.Runs.{Names}
 use Rattle.opl_meaning.specs.Solutions.{declared_sets, product, truth}
+use Rattle.opl_draft.specs.Clean.{is_clean_instr}
 use Rattle.opl_draft.specs.Drafts.{Cells, draft_value}
-use Rattle.opl_draft.specs.Instances.{Condition, Instance, condition_of, is_clean_instance}
+use Rattle.opl_draft.specs.Forms.{HasForm, form_step, step_in}
+use Rattle.opl_draft.specs.Instances.{Condition, Instance, condition_of, instances, is_clean_instance}
 use Rattle.opl_draft.specs.Numbers.{arrays_of, entries}
 use Rattle.opl_draft.specs.Solutions.{Model, holds, solutions}
 use Rattle.opl_draft.specs.Unrolled.{is_clean, unrolled}
@@ -45,3 +53,15 @@ InstanceMeans = (items : List VariableItem) (names : Names) (ns : List ℤ) (env
 abbrev pub SolutionsUnrolled : Type 0
 SolutionsUnrolled = (m : Model) (names : Names) → AreDeclared m.variables names → list_all (is_clean_instance m.variables names) m.conditions ≡ true →
     solutions m ≡ filter (λ ns. list_all (is_met (arrays m.environment m.variables) ns) (map (condition_of m.variables names m.environment) m.conditions)) (product (declared_sets m.variables))
+
+-- where variables stand in the items of a model only where they may, they do so in all instances
+abbrev pub InstancesClean : Type 0
+InstancesClean = (items : List VariableItem) (names : Names) (t : InstrTree) (env : Environment) → is_clean_instr items names t ≡ true →
+    list_all (is_clean_instance items names) (instances t env) ≡ true
+
+-- each form of terms is unrolled as the equations of forms say, and each form of steps
+abbrev pub UnrolledByForm : Type 0
+UnrolledByForm = (items : List VariableItem) (names : Names) (x : Term-F GroupTerm SetTerm Step Term) (env : Environment) → HasForm items names x env
+
+abbrev pub StepByForm : Type 0
+StepByForm = (items : List VariableItem) (names : Names) (x : Step-F GroupTerm SetTerm Step Term) (env : Environment) → step_in items names (roll-Step x) env ≡ form_step items names x env

@@ -1,5 +1,5 @@
 //! Laws of unrolling, as contracts of functions without effect.
-ghost use Rattle.opl_draft.specs.Laws.{InstanceMeans, SolutionsUnrolled, UnrolledMeans};
+ghost use Rattle.opl_draft.specs.Laws.{InstanceMeans, InstancesClean, SolutionsUnrolled, StepByForm, UnrolledByForm, UnrolledMeans};
 
 /// Under an assignment an unrolled expression comes to what the expression does where the decision variables have its values, be it a
 /// value or a fault with its place. The variables stand only where typing lets them.
@@ -16,4 +16,20 @@ pub fn instance_means()
 /// come to values that are true.
 pub fn solutions_unrolled()
     ensures { SolutionsUnrolled }
+{}
+
+/// Where decision variables stand in the items of a model only where typing lets them, they do so in each instance: what the laws above
+/// ask of instances is a question on the text.
+pub fn instances_clean()
+    ensures { InstancesClean }
+{}
+
+/// Each form of expressions is unrolled by its parts, or evaluated as a whole where it names no decision variable.
+pub fn unrolled_by_form()
+    ensures { UnrolledByForm }
+{}
+
+/// Each form of steps is unrolled by its operand.
+pub fn step_by_form()
+    ensures { StepByForm }
 {}
