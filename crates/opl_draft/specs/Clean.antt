@@ -12,7 +12,7 @@ use Rattle.opl_term.specs.declared.term.Term.{Term}
 use Rattle.opl_term.specs.Terms.{expr_term, params_term}
 use Rattle.opl_meaning.specs.declared.variable.VariableItem.{VariableItem}
 use Rattle.opl_meaning.specs.Runs.{Names, group_use}
-use Rattle.opl_draft.specs.Unrolled.{is_clean, is_mentioned}
+use Rattle.opl_draft.specs.Unrolled.{has_no_variable, is_clean, is_mentioned}
 
 abbrev pub all_clean : List Bool → Bool
 all_clean items = list_all (λ b. b) items
@@ -23,13 +23,9 @@ or_clean (Some b) = b
 
 -- with these decision variables, which have these names
 module _ (items : List VariableItem) (names : Names) where
-  -- groups with or without a condition that name no variable
-  abbrev pub has_no_variable : Option Term → Bool
-  has_no_variable None = true
-  has_no_variable (Some condition) = not (is_mentioned items names condition)
-
+  -- groups, with or without a condition, that name no variable
   abbrev pub are_data : ParamsTerm → Bool
-  are_data params = list_all (λ g. not (group_use names g)) params.groups && has_no_variable params.condition
+  are_data params = list_all (λ g. not (group_use names g)) params.groups && has_no_variable items names params.condition
 
   abbrev pub item_layer : ItemTree-F Bool Bool Bool → Bool
   item_layer (ItemTree-F.Block inner) = inner

@@ -16,7 +16,7 @@ use Rattle.opl_draft.specs.Drafts.{Cells, Draft, DraftStep, Drafts, Steps, draft
 use Rattle.opl_draft.specs.Drafts.Draft.{known, broken, negated, chain, related, equivalent, implied, one_of, all_of, opposite, aggregate, different, element}
 use Rattle.opl_draft.specs.Drafts.Sign.{plus, minus, times, quotient, remainder}
 use Rattle.opl_draft.specs.Numbers.{array_or, cells_or, entries, variable_named}
-use Rattle.opl_draft.specs.Unrolled.{called, data_draft, is_absolute, is_clean, is_mentioned, is_plain_variable, named_array, named_cells, named_draft, part_of, step_part, unrolled}
+use Rattle.opl_draft.specs.Unrolled.{called, data_draft, has_no_variable, is_absolute, is_clean, is_mentioned, is_plain_variable, named_array, named_cells, named_draft, part_of, step_part, unrolled}
 
 -- with these decision variables, which have these names
 module _ (items : List VariableItem) (names : Names) where
@@ -85,10 +85,6 @@ module _ (items : List VariableItem) (names : Names) where
   form_name t = false
 
   -- what is clean where variables are named in it
-  abbrev pub condition_clean : Option Term → Bool
-  condition_clean None = true
-  condition_clean (Some condition) = not (is_mentioned items names condition)
-
   abbrev pub form_clean : Term-F GroupTerm SetTerm Step Term → Bool
   form_clean (Term-F.Number at n) = true
   form_clean (Term-F.Named at name) = is_plain_variable (variable_named name items)
@@ -101,7 +97,7 @@ module _ (items : List VariableItem) (names : Names) where
   form_clean (Term-F.Or at ts) = list_all (is_clean items names) ts
   form_clean (Term-F.And at ts) = list_all (is_clean items names) ts
   form_clean (Term-F.Not at t) = is_clean items names t
-  form_clean (Term-F.Aggregate at op groups condition body) = list_all (λ g. not (group_use names g)) groups && (condition_clean condition && is_clean items names body)
+  form_clean (Term-F.Aggregate at op groups condition body) = list_all (λ g. not (group_use names g)) groups && (has_no_variable items names condition && is_clean items names body)
   form_clean (Term-F.Call at op t) = is_absolute op && is_clean items names t
   form_clean (Term-F.AllDifferent at t) = is_name t
   form_clean (Term-F.Element at base subscripts) = is_name base && list_all (is_clean items names) subscripts

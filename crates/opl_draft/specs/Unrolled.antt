@@ -109,9 +109,10 @@ module _ (items : List VariableItem) (names : Names) where
   abbrev pub is_mentioned : Term → Bool
   is_mentioned t = (use_of names t).is_mentioned
 
-  abbrev pub is_data : Option Part → Bool
-  is_data None = true
-  is_data (Some condition) = not (is_mentioned condition.term)
+  -- a condition, if there is one, that names no variable
+  abbrev pub has_no_variable : Option Term → Bool
+  has_no_variable None = true
+  has_no_variable (Some condition) = not (is_mentioned condition)
 
   -- an expression in which variables are named is clean where they stand as numbers, names or truths alone: not in a set, a condition of
   -- parameters, a record, or where typing wants data otherwise. Typing rules out all else.
@@ -127,7 +128,7 @@ module _ (items : List VariableItem) (names : Names) where
   clean_layer (Term-F.Or at ts) = list_all (λ t. t.is_clean) ts
   clean_layer (Term-F.And at ts) = list_all (λ t. t.is_clean) ts
   clean_layer (Term-F.Not at t) = t.is_clean
-  clean_layer (Term-F.Aggregate at op groups condition body) = list_all (λ g. not (group_use names g)) groups && (is_data condition && body.is_clean)
+  clean_layer (Term-F.Aggregate at op groups condition body) = list_all (λ g. not (group_use names g)) groups && (has_no_variable (option_map (λ c. c.term) condition) && body.is_clean)
   clean_layer (Term-F.Call at op t) = is_absolute op && t.is_clean
   clean_layer (Term-F.AllDifferent at t) = t.is_name
   clean_layer (Term-F.Element at base subscripts) = base.is_name && list_all (λ t. t.is_clean) subscripts
