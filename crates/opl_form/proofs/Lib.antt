@@ -9,6 +9,7 @@ pub mod Meaning
 pub mod Nodes
 pub mod FormLaws
 pub mod Small
+pub mod Solved
 pub mod Sound
 pub mod SoundParts
 pub mod SoundValues

@@ -1,9 +1,13 @@
 -- Laws of ground forms.
-use Rattle.std.specs.Prelude.{◌≡◌, ℕ, ◌+◌, ◌≤◌, ℤ, unsigned_abs, Bool, true, List, map, Some, Ok}
-use Rattle.std.specs.List.{All, list_all}
+use Rattle.std.specs.Prelude.{◌≡◌, ℕ, ◌+◌, ◌≤◌, ℤ, unsigned_abs, Bool, true, filter, List, map, Some, Ok}
+use Rattle.std.specs.List.{All, flat_map, list_all}
 use Rattle.opl_draft.specs.Drafts.{Cells, Draft, draft_value}
-use Rattle.opl_draft.specs.Instances.{Condition}
-use Rattle.opl_draft.specs.Laws.{is_met}
+use Rattle.opl_meaning.specs.declared.variable.VariableItem.{VariableItem}
+use Rattle.opl_meaning.specs.Runs.{Names}
+use Rattle.opl_meaning.specs.Solutions.{declared_sets, product}
+use Rattle.opl_draft.specs.Instances.{Condition, condition_of, is_clean_instance}
+use Rattle.opl_draft.specs.Laws.{AreDeclared, arrays as arrays_in, is_met}
+use Rattle.opl_draft.specs.Solutions.{Model, solutions}
 use Rattle.opl_domain.specs.Family.{Family}
 use Rattle.opl_domain.specs.Span.{values}
 use Rattle.opl_expr.specs.declared.forms.Cons.{Cons}
@@ -69,3 +73,14 @@ pub record AreSoundConstraints (sets : List (ℤ × ℤ)) (arrays : List Cells) 
 abbrev pub FormsAreSound : Type 0
 FormsAreSound = (sets : List (ℤ × ℤ)) (arrays : List Cells) (n : ℕ) (conditions : List Condition) (cs : List Cons) → AreSoundArrays sets arrays → n ≤ 4194304 → forms sets arrays n conditions ≡ Ok cs →
     AreSoundConstraints sets arrays n cs
+
+-- The ends of the declared sets of all variables, in the order of their numbers.
+abbrev pub declared_ends : List VariableItem → List (ℤ × ℤ)
+declared_ends items = map (λ set. (set.low, set.high)) (flat_map (λ v. v.sets) items)
+
+-- The solutions of a model whose conditions have constraints are the assignments of the declared sets, in lexicographic order, on which all constraints hold.
+abbrev pub SolutionsMean : Type 0
+SolutionsMean = (m : Model) (names : Names) (cs : List Cons) → AreDeclared m.variables names → list_all (is_clean_instance m.variables names) m.conditions ≡ true →
+    AreSoundArrays (declared_ends m.variables) (arrays_in m.environment m.variables) →
+    forms (declared_ends m.variables) (arrays_in m.environment m.variables) 0 (map (condition_of m.variables names m.environment) m.conditions) ≡ Ok cs →
+    solutions m ≡ filter (λ ns. list_all (is_held (arrays_in m.environment m.variables) ns) cs) (product (declared_sets m.variables))

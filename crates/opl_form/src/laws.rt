@@ -1,5 +1,5 @@
 //! Laws of ground forms, as contracts of functions without effect.
-ghost use Rattle.opl_form.specs.Laws.{FormsAreSound, FormsMean, MadeIsSound, MadeIsWorth, ValuesAreSmall};
+ghost use Rattle.opl_form.specs.Laws.{FormsAreSound, FormsMean, MadeIsSound, MadeIsWorth, SolutionsMean, ValuesAreSmall};
 
 /// Under an assignment of the declared sets, no value of an expression is greater than its magnitude.
 pub fn values_are_small()
@@ -25,3 +25,10 @@ pub fn forms_mean()
 pub fn forms_are_sound()
     ensures { FormsAreSound }
 {}
+
+/// The solutions of a model are the assignments of the declared sets, in lexicographic order, on which the constraints of all conditions hold.
+pub fn solutions_mean()
+    ensures { SolutionsMean }
+{
+    opl_draft::laws::solutions_unrolled();
+}
