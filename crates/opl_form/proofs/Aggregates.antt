@@ -74,6 +74,11 @@ lift-last f o (p ∷ os) = ap (lift f o) (lift-last f p os) ∙ by o p (whole os
     by (Some a) (Some b) None = refl
     by (Some a) (Some b) (Some bs) = refl
 
+-- the first part of a product has small values
+abbrev pub FirstSmall : List (Option Value) → Type 0
+FirstSmall [] = Unit {0}
+FirstSmall (r ∷ rs) = (v : Value) → r ≡ Some v → unsigned_abs (compare.number v) < 2 ^ 127
+
 module _ (sets : List (ℤ × ℤ)) (arrays : List Cells) (item : ℕ) (ns : List ℤ)
     (value-small : (t : Term) (v : ℤ) → value ns t ≡ Some v → unsigned_abs v ≤ term_magnitude sets t)
   where
@@ -86,8 +91,8 @@ module _ (sets : List (ℤ × ℤ)) (arrays : List Cells) (item : ℕ) (ns : Lis
     absolute-worth at n r g h w e =
         let node : Expr = E.Abs (as_number g) in
         subst (λ o. Worth arrays ns o h) (one-whole (absolute_of at) r)
-        (folded-worth sets arrays item ns value-small n (r ∷ []) (g ∷ []) (λ vs. integer (arithmetic.absolute at (compare.number (value_at vs 0)))) (number_node sets arrays item at n node) h (w, tt) e
-        (λ k. let p = number-node sets arrays item ns value-small at n node h k in
+        (folded-worth arrays ns item n (r ∷ []) (g ∷ []) (λ vs. integer (arithmetic.absolute at (compare.number (value_at vs 0)))) (number_node sets arrays item at n node) h (w, tt) e
+        (λ k. let p = number-node sets arrays item at n node h k in
         subst (Worth arrays ns (bind1 (λ vs. absolute_of at (value_at vs 0)) (whole (r ∷ [])))) p.0
         (one-whole (absolute_of at) r ∙ found r (as_number-worth arrays ns r g w) p.1 ∙ ap (lift1 values.Int) (sym (ap (value ns) (term_Abs (tables arrays) [] (as_number g)))))))
       where
@@ -105,10 +110,10 @@ module _ (sets : List (ℤ × ℤ)) (arrays : List Cells) (item : ℕ) (ns : Lis
 
     -- ---- the least and the greatest
 
-    extreme-value : (f : ℤ → ℤ → ℤ) (r : Option Value) (rs : List (Option Value)) (g : Form) (gs : List Form) → AreWorth sets arrays item ns value-small (r ∷ rs) (g ∷ gs) →
+    extreme-value : (f : ℤ → ℤ → ℤ) (r : Option Value) (rs : List (Option Value)) (g : Form) (gs : List Form) → AreWorth arrays ns (r ∷ rs) (g ∷ gs) →
         lift_some f (all_values ns (terms_of (map (plain arrays) (map as_number (g ∷ gs))))) ≡ bind1 (λ v. lift1 (λ vs. from_last f (compare.number v) (map compare.number vs)) (whole rs)) r
     extreme-value f r rs g gs w =
-        ap (lift_some f) (values-list sets arrays item ns value-small (g ∷ gs) ∙ sym (numbers-worth sets arrays item ns value-small (r ∷ rs) (g ∷ gs) w))
+        ap (lift_some f) (values-list arrays ns (g ∷ gs) ∙ sym (numbers-worth arrays ns (r ∷ rs) (g ∷ gs) w))
         ∙ lift-last f (lift1 compare.number r) (map (lift1 compare.number) rs)
         ∙ ap (λ q. bind1 (λ a. lift1 (from_last f a) q) (lift1 compare.number r)) (whole-map compare.number rs) ∙ by r (whole rs)
       where
@@ -131,24 +136,24 @@ module _ (sets : List (ℤ × ℤ)) (arrays : List Cells) (item : ℕ) (ns : Lis
 
     extreme-worth : (at n : ℕ) (op : List ℤ → Found ℤ) (f : ℤ → ℤ → ℤ) (make : List Expr → Expr) (plain_of : Terms → Term) (r : Option Value) (rs : List (Option Value)) (g : Form) (gs : List Form) (k : Form) →
         ((es : List Expr) → term (tables arrays) [] (make es) ≡ plain_of (terms_of (map (plain arrays) es))) → ((ts : Terms) → value ns (plain_of ts) ≡ lift_some f (all_values ns ts)) →
-        ((m : ℤ) (ms : List ℤ) → op (m ∷ ms) ≡ Ok (from_last f m ms)) → AreWorth sets arrays item ns value-small (r ∷ rs) (g ∷ gs) →
+        ((m : ℤ) (ms : List ℤ) → op (m ∷ ms) ≡ Ok (from_last f m ms)) → AreWorth arrays ns (r ∷ rs) (g ∷ gs) →
         folded item n (all_known (g ∷ gs)) (λ vs. integer (op (map compare.number vs))) (number_node sets arrays item at n (make (map as_number (g ∷ gs)))) ≡ Ok k →
         Worth arrays ns (bind1 (λ vs. some_of (integer (op (map compare.number vs)))) (whole (r ∷ rs))) k
     extreme-worth at n op f make plain_of r rs g gs k forms means is w e =
         let node : Expr = make (map as_number (g ∷ gs)) in
-        folded-worth sets arrays item ns value-small n (r ∷ rs) (g ∷ gs) (λ vs. integer (op (map compare.number vs))) (number_node sets arrays item at n node) k w e
-        (λ m. let p = number-node sets arrays item ns value-small at n node k m in
+        folded-worth arrays ns item n (r ∷ rs) (g ∷ gs) (λ vs. integer (op (map compare.number vs))) (number_node sets arrays item at n node) k w e
+        (λ m. let p = number-node sets arrays item at n node k m in
         subst (Worth arrays ns (bind1 (λ vs. some_of (integer (op (map compare.number vs)))) (whole (r ∷ rs)))) p.0
         (extreme-found op f is r (whole rs)
         ∙ ap (lift1 values.Int) (sym (ap (value ns) (forms (map as_number (g ∷ gs))) ∙ means (terms_of (map (plain arrays) (map as_number (g ∷ gs)))) ∙ extreme-value f r rs g gs w))))
 
-    pub least-worth : (at n : ℕ) (rs : List (Option Value)) (gs : List Form) (k : Form) → AreWorth sets arrays item ns value-small rs gs → least sets arrays item at n gs ≡ Ok k →
+    pub least-worth : (at n : ℕ) (rs : List (Option Value)) (gs : List Form) (k : Form) → AreWorth arrays ns rs gs → least sets arrays item at n gs ≡ Ok k →
         Worth arrays ns (bind1 (λ vs. some_of (integer (arithmetic.least at (map compare.number vs)))) (whole rs)) k
     least-worth at n rs [] k w e = absurd (cc)
     least-worth at n [] (g ∷ gs) k w e = absurd w
     least-worth at n (r ∷ rs) (g ∷ gs) k w e = extreme-worth at n (arithmetic.least at) smaller E.Min Term.least r rs g gs k (λ es. term_Min (tables arrays) [] es) (λ ts. refl) (least-is at) w e
 
-    pub greatest-worth : (at n : ℕ) (rs : List (Option Value)) (gs : List Form) (k : Form) → AreWorth sets arrays item ns value-small rs gs → greatest_of sets arrays item at n gs ≡ Ok k →
+    pub greatest-worth : (at n : ℕ) (rs : List (Option Value)) (gs : List Form) (k : Form) → AreWorth arrays ns rs gs → greatest_of sets arrays item at n gs ≡ Ok k →
         Worth arrays ns (bind1 (λ vs. some_of (integer (arithmetic.greatest at (map compare.number vs)))) (whole rs)) k
     greatest-worth at n rs [] k w e = absurd (cc)
     greatest-worth at n [] (g ∷ gs) k w e = absurd w
@@ -178,7 +183,7 @@ module _ (sets : List (ℤ × ℤ)) (arrays : List Cells) (item : ℕ) (ns : Lis
         by (Err fault) None h = refl
         by (Err fault) (Some vs) h = ap (λ q. some_of (integer (then q (λ b. run at b (map Times (map compare.number vs)))))) (sym h)
 
-    from-worth : (at n : ℕ) (r : Option Value) (rs : List (Option Value)) (g : Form) (gs : List Form) (k : Form) → Worth arrays ns r g → AreWorth sets arrays item ns value-small rs gs → product_from sets arrays item at n g gs ≡ Ok k →
+    from-worth : (at n : ℕ) (r : Option Value) (rs : List (Option Value)) (g : Form) (gs : List Form) (k : Form) → Worth arrays ns r g → AreWorth arrays ns rs gs → product_from sets arrays item at n g gs ≡ Ok k →
         Worth arrays ns (times_all at r rs) k
     from-worth at n r [] g [] k w x e = subst (λ o. Worth arrays ns o k) (alone r) (number_part-worth sets arrays item ns value-small at n r g k w e)
       where
@@ -208,14 +213,9 @@ module _ (sets : List (ℤ × ℤ)) (arrays : List Cells) (item : ℕ) (ns : Lis
         by None = refl
         by (Some vs) = ap (λ q. some_of (integer (then q (λ b. run at b (map Times (map compare.number vs)))))) (sym first)
 
-    -- the first part of a product has small values
-    abbrev pub FirstSmall : List (Option Value) → Type 0
-    FirstSmall [] = Unit {0}
-    FirstSmall (r ∷ rs) = (v : Value) → r ≡ Some v → unsigned_abs (compare.number v) < 2 ^ 127
-
-    pub product-worth : (at n : ℕ) (rs : List (Option Value)) (gs : List Form) (k : Form) → FirstSmall rs → AreWorth sets arrays item ns value-small rs gs → product sets arrays item at n gs ≡ Ok k →
+    pub product-worth : (at n : ℕ) (rs : List (Option Value)) (gs : List Form) (k : Form) → FirstSmall rs → AreWorth arrays ns rs gs → product sets arrays item at n gs ≡ Ok k →
         Worth arrays ns (bind1 (λ vs. some_of (integer (arithmetic.product at (map compare.number vs)))) (whole rs)) k
-    product-worth at n [] [] k small w e = subst (Worth arrays ns (Some (values.Int (pos 1)))) (nodes.counted-made sets arrays item n 1 1 (Form.known (values.Int (pos 1))) k e) refl
+    product-worth at n [] [] k small w e = subst (Worth arrays ns (Some (values.Int (pos 1)))) (nodes.counted-made item n 1 1 (Form.known (values.Int (pos 1))) k e) refl
     product-worth at n [] (g ∷ gs) k small w e = absurd w
     product-worth at n (r ∷ rs) [] k small w e = absurd w
     product-worth at n (r ∷ rs) (g ∷ gs) k small w e = subst (λ o. Worth arrays ns o k) (first-times at r rs small) (from-worth at n r rs g gs k w.0 w.1 e)

@@ -138,18 +138,18 @@ module _ (sets : List (ℤ × ℤ)) (arrays : List Cells) (item : ℕ) (ns : Lis
 
     variables-differ : (at n : ℕ) (kind : Kind) (x m : ℕ) (g : Form) → variable_sorts sets (variable_sort sets kind x) kind x m ≡ true → all_differ sets arrays item at n (variables kind x m) ≡ Ok g →
         Worth arrays ns (Some (values.Bool (all_different (variable_values arrays ns kind x m)))) g
-    variables-differ at n kind x zero g h e = subst (Worth arrays ns (Some (values.Bool true))) (counted-made sets arrays item n 1 1 (known (values.Bool true)) g e) refl
+    variables-differ at n kind x zero g h e = subst (Worth arrays ns (Some (values.Bool true))) (counted-made item n 1 1 (known (values.Bool true)) g e) refl
     variables-differ at n kind x (suc m) g h e =
         let p = and_parts (alike (variable_sort sets kind x) (variable_sort sets kind x)) (variable_sorts sets (variable_sort sets kind x) kind (suc x) m) h in
         let c = C.AllDifferent (map ranked (variables kind x (suc m))) in
         let node : Made Form = making.sized at (two_greatest (map (λ g. size sets arrays (ranked g)) (variables kind x (suc m)))) (condition_node item n c) in
-        let q = sized-made sets arrays item at (two_greatest (map (λ g. size sets arrays (ranked g)) (variables kind x (suc m)))) (condition_node item n c) g
+        let q = sized-made at (two_greatest (map (λ g. size sets arrays (ranked g)) (variables kind x (suc m)))) (condition_node item n c) g
         (subst (λ o. making.folded item n o (λ vs. Ok (values.Bool (all_different vs))) node ≡ Ok g) (not-known kind x m) e) in
-        subst (Worth arrays ns (Some (values.Bool (all_different (variable_values arrays ns kind x (suc m)))))) (counted-made sets arrays item n (measures.depth_of c) (measures.nodes_of c) (condition c) g q.1)
+        subst (Worth arrays ns (Some (values.Bool (all_different (variable_values arrays ns kind x (suc m)))))) (counted-made item n (measures.depth_of c) (measures.nodes_of c) (condition c) g q.1)
         (ap (lift1 values.Bool) (sym (hold-AllDifferent (variable_sort sets kind x) kind x (suc m) p.0 h)))
 
     pub different-worth : (at n : ℕ) (a : Option Cells) (g : Form) → different sets arrays item at n a ≡ Ok g → Worth arrays ns (Some (values.Bool (are_different arrays ns a))) g
-    different-worth at n None g e = subst (Worth arrays ns (Some (values.Bool true))) (counted-made sets arrays item n 1 1 (known (values.Bool true)) g e) refl
+    different-worth at n None g e = subst (Worth arrays ns (Some (values.Bool true))) (counted-made item n 1 1 (known (values.Bool true)) g e) refl
     different-worth at n (Some a) g e = by a.leaves e
       where
         by : (ls : Leaves) → cond (are_alike sets ls) (all_differ sets arrays item at n (leaves ls)) (Err (making.Fault.eval (OutOfIndex at))) ≡ Ok g →
@@ -157,7 +157,7 @@ module _ (sets : List (ℤ × ℤ)) (arrays : List Cells) (item : ℕ) (ns : Lis
         by (listed vs) e =
             let node : Made Form = making.sized at (two_greatest (map (λ g. size sets arrays (ranked g)) (map known vs))) (condition_node item n (C.AllDifferent (map ranked (map known vs)))) in
             let f : known_node item n (values.Bool (all_different vs)) ≡ Ok g = subst (λ o. making.folded item n o (λ vs. Ok (values.Bool (all_different vs))) node ≡ Ok g) (nodes.known-values vs) e in
-            subst (Worth arrays ns (Some (values.Bool (all_different vs)))) (counted-made sets arrays item n 1 1 (known (values.Bool (all_different vs))) g f) refl
+            subst (Worth arrays ns (Some (values.Bool (all_different vs)))) (counted-made item n 1 1 (known (values.Bool (all_different vs))) g f) refl
         by (numbered kind x m) e = tested (nat_le (x + m) (length sets)) (variable_sorts sets (variable_sort sets kind x) kind x m) refl e
           where
             tested : (a b : Bool) → variable_sorts sets (variable_sort sets kind x) kind x m ≡ b → cond (a && b) (all_differ sets arrays item at n (variables kind x m)) (Err (making.Fault.eval (OutOfIndex at))) ≡ Ok g →

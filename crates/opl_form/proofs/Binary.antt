@@ -64,8 +64,8 @@ module _ (sets : List (ℤ × ℤ)) (arrays : List Cells) (item : ℕ) (ns : Lis
         let node : Expr = make (as_number g) (as_number h) in
         let value-is : val arrays ns node ≡ bind F (val arrays ns (as_number g)) (val arrays ns (as_number h)) = ap (value ns) (forms (as_number g) (as_number h)) ∙ means (plain arrays (as_number g)) (plain arrays (as_number h)) in
         subst (λ o. Worth arrays ns o k) (two-whole (by_numbers op) r s)
-        (folded-worth sets arrays item ns value-small n (r ∷ s ∷ []) (g ∷ h ∷ []) (λ vs. integer (op (compare.number (value_at vs 0)) (compare.number (value_at vs 1)))) (number_node sets arrays item at n node) k (w, (x, tt)) e
-        (λ m. let p = number-node sets arrays item ns value-small at n node k m in
+        (folded-worth arrays ns item n (r ∷ s ∷ []) (g ∷ h ∷ []) (λ vs. integer (op (compare.number (value_at vs 0)) (compare.number (value_at vs 1)))) (number_node sets arrays item at n node) k (w, (x, tt)) e
+        (λ m. let p = number-node sets arrays item at n node k m in
         subst (Worth arrays ns (bind1 (λ vs. by_numbers op (value_at vs 0) (value_at vs 1)) (nodes.whole (r ∷ s ∷ [])))) p.0
         (two-whole (by_numbers op) r s
         ∙ two-likely (by_numbers op) (λ v u. F (compare.number v) (compare.number u)) values.Int r s

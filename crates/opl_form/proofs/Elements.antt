@@ -80,7 +80,7 @@ module _ (sets : List (ℤ × ℤ)) (arrays : List Cells) (item : ℕ) (ns : Lis
     key-worth (truth c) v w = lift-key values.Bool other (λ b. ap key_layer (values.outs-Bool b)) (hold arrays ns c) v w
 
     -- the place of the values is that of their ranks
-    fit-place : (ds : List (List Value)) (gs : List Form) (vs : List Value) → AreWorth sets arrays item ns value-small (map (λ v. Some v) vs) gs → subscripts_fit ds gs ≡ true → place_of ds vs ≡ ints_place (map (map rank) ds) (map rank vs)
+    fit-place : (ds : List (List Value)) (gs : List Form) (vs : List Value) → AreWorth arrays ns (map (λ v. Some v) vs) gs → subscripts_fit ds gs ≡ true → place_of ds vs ≡ ints_place (map (map rank) ds) (map rank vs)
     fit-place [] [] [] w h = refl
     fit-place [] [] (v ∷ vs) w h = absurd w
     fit-place [] (g ∷ gs) vs w h = absurd (cc)
@@ -91,7 +91,7 @@ module _ (sets : List (ℤ × ℤ)) (arrays : List Cells) (item : ℕ) (ns : Lis
         (λ i. joint (elements ds) (place-ranks v d (subst (λ s. all_alike s d ≡ true) (key-worth g v w.0) p.0) i) (fit-place ds gs vs w.1 p.1 i))
         ∙ ap (λ n. joint n (place_in (rank v) (map rank d)) (ints_place (map (map rank) ds) (map rank vs))) (sym (keys-ranks ds))
 
-    ranks-worth : (rs : List (Option Value)) (gs : List Form) → AreWorth sets arrays item ns value-small rs gs → map (λ g. val arrays ns (ranked g)) gs ≡ map (lift1 rank) rs
+    ranks-worth : (rs : List (Option Value)) (gs : List Form) → AreWorth arrays ns rs gs → map (λ g. val arrays ns (ranked g)) gs ≡ map (lift1 rank) rs
     ranks-worth [] [] w = refl
     ranks-worth [] (g ∷ gs) w = absurd w
     ranks-worth (r ∷ rs) [] w = absurd w
@@ -177,14 +177,14 @@ module _ (sets : List (ℤ × ℤ)) (arrays : List Cells) (item : ℕ) (ns : Lis
             by None = refl
             by (Some p) = refl
 
-        at-is : (k : ℕ) (a : Cells) (rs : List (Option Value)) (gs : List Form) → slice_get arrays k ≡ Some a → subscripts_fit a.dims gs ≡ true → element_sort sets a.leaves ≢ other → AreWorth sets arrays item ns value-small rs gs →
+        at-is : (k : ℕ) (a : Cells) (rs : List (Option Value)) (gs : List Form) → slice_get arrays k ≡ Some a → subscripts_fit a.dims gs ≡ true → element_sort sets a.leaves ≢ other → AreWorth arrays ns rs gs →
             val arrays ns (E.At k (map ranked gs)) ≡ lift1 rank (bind1 (reached a) (nodes.whole rs))
         at-is k a rs gs h fit sure w =
             at-value k a gs (map (lift1 rank) rs) h fit (ranks-worth rs gs w)
             ∙ ap (bind1 (λ is. lift1 (cell_at ns (cells_of a.leaves)) (ints_place (map (map rank) a.dims) is))) (whole-map rank rs)
-            ∙ by (nodes.whole rs) (λ vs e. subst (λ rs. AreWorth sets arrays item ns value-small rs gs) (all-there rs vs e) w)
+            ∙ by (nodes.whole rs) (λ vs e. subst (λ rs. AreWorth arrays ns rs gs) (all-there rs vs e) w)
           where
-            by : (o : Option (List Value)) → ((vs : List Value) → o ≡ Some vs → AreWorth sets arrays item ns value-small (map (λ v. Some v) vs) gs) →
+            by : (o : Option (List Value)) → ((vs : List Value) → o ≡ Some vs → AreWorth arrays ns (map (λ v. Some v) vs) gs) →
                 bind1 (λ is. lift1 (cell_at ns (cells_of a.leaves)) (ints_place (map (map rank) a.dims) is)) (lift1 (map rank) o) ≡ lift1 rank (bind1 (reached a) o)
             by None f = refl
             by (Some vs) f = ap (lift1 (cell_at ns (cells_of a.leaves))) (sym (fit-place a.dims gs vs (f vs refl) fit)) ∙ each (place_of a.dims vs) (λ p e. (cell-rank k a vs p h e sure).0)
@@ -212,10 +212,10 @@ module _ (sets : List (ℤ × ℤ)) (arrays : List Cells) (item : ℕ) (ns : Lis
 
         -- the node of an element is worth what is reached
         node-worth : (at n k : ℕ) (a : Cells) (rs : List (Option Value)) (gs : List Form) (g : Form) (s : Sort) → element_sort sets a.leaves ≡ s → slice_get arrays k ≡ Some a → subscripts_fit a.dims gs ≡ true →
-            AreWorth sets arrays item ns value-small rs gs → element_node sets arrays item s at n (E.At k (map ranked gs)) ≡ Ok g → Worth arrays ns (bind1 (reached a) (nodes.whole rs)) g
+            AreWorth arrays ns rs gs → element_node sets arrays item s at n (E.At k (map ranked gs)) ≡ Ok g → Worth arrays ns (bind1 (reached a) (nodes.whole rs)) g
         node-worth at n k a rs gs g whole q h fit w e =
             let sure : element_sort sets a.leaves ≢ other = λ o. absurd (whole-other (sym q ∙ o)) in
-            let p = number-node sets arrays item ns value-small at n (E.At k (map ranked gs)) g e in
+            let p = number-node sets arrays item at n (E.At k (map ranked gs)) g e in
             subst (Worth arrays ns (bind1 (reached a) (nodes.whole rs))) p.0
             (ints-of (bind1 (reached a) (nodes.whole rs)) (λ v f. reached-sort k a (nodes.whole rs) v h sure f ∙ q) ∙ ap (lift1 values.Int) (sym (at-is k a rs gs h fit sure w)))
           where
@@ -224,10 +224,10 @@ module _ (sets : List (ℤ × ℤ)) (arrays : List Cells) (item : ℕ) (ns : Lis
         node-worth at n k a rs gs g (named d) q h fit w e =
             let sure : element_sort sets a.leaves ≢ other = λ o. absurd (named-other (sym q ∙ o)) in
             let node = E.At k (map ranked gs) in
-            let p = sized-made sets arrays item at (size sets arrays node) (making.counted item n (measures.depth node) (measures.nodes node) (name d node)) g e in
+            let p = sized-made at (size sets arrays node) (making.counted item n (measures.depth node) (measures.nodes node) (name d node)) g e in
             let b = names-of d (bind1 (reached a) (nodes.whole rs)) (λ v f. reached-sort k a (nodes.whole rs) v h sure f ∙ q) in
             let is = at-is k a rs gs h fit sure w in
-            subst (Worth arrays ns (bind1 (reached a) (nodes.whole rs))) (counted-made sets arrays item n (measures.depth node) (measures.nodes node) (name d node) g p.1)
+            subst (Worth arrays ns (bind1 (reached a) (nodes.whole rs))) (counted-made item n (measures.depth node) (measures.nodes node) (name d node) g p.1)
             (b.0 ∙ ap (lift1 (λ n. values.Enum d (position_of n))) (sym is), λ n f. b.1 n (sym is ∙ f))
           where
             named-other : named d ≡ other → ⊥
@@ -237,8 +237,8 @@ module _ (sets : List (ℤ × ℤ)) (arrays : List Cells) (item : ℕ) (ns : Lis
         -- the element at a place is worth the leaf there
         element-worth : (at n : ℕ) (ls : Leaves) (p : ℕ) (g : Form) → element_at sets arrays item at n ls p ≡ Ok g → Worth arrays ns (Some (leaf_of ls p)) g
         element-worth at n (listed vs) p g e =
-            let q = sized-made sets arrays item at (unsigned_abs (rank (value_at vs p))) (making.known_node item n (value_at vs p)) g e in
-            subst (Worth arrays ns (Some (value_at vs p))) (counted-made sets arrays item n 1 1 (known (value_at vs p)) g q.1) refl
+            let q = sized-made at (unsigned_abs (rank (value_at vs p))) (making.known_node item n (value_at vs p)) g e in
+            subst (Worth arrays ns (Some (value_at vs p))) (counted-made item n 1 1 (known (value_at vs p)) g q.1) refl
         element-worth at n (numbered kind x count) p g e = by (nat_lt p count) refl e
           where
             below : (p n : ℕ) → nat_lt p n ≡ true → p < n
@@ -255,9 +255,9 @@ module _ (sets : List (ℤ × ℤ)) (arrays : List Cells) (item : ℕ) (ns : Lis
         past-indices (d ∷ ds) [] gs r g e = e
         past-indices (d ∷ ds) (at ∷ ats) [] r g e = e
         past-indices (d ∷ ds) (at ∷ ats) (h ∷ gs) r g e =
-            past-indices ds ats gs r g (sized-made sets arrays item at (size sets arrays (ranked h) + greatest_abs (map rank d)) (with_indices sets arrays item ds ats gs r) g e).1
+            past-indices ds ats gs r g (sized-made at (size sets arrays (ranked h) + greatest_abs (map rank d)) (with_indices sets arrays item ds ats gs r) g e).1
 
-        pub indexed-worth : (at n : ℕ) (k : Option ℕ) (ats : List ℕ) (rs : List (Option Value)) (gs : List Form) (g : Form) → AreWorth sets arrays item ns value-small rs gs → indexed sets arrays item at n k (array_of arrays k) ats gs ≡ Ok g →
+        pub indexed-worth : (at n : ℕ) (k : Option ℕ) (ats : List ℕ) (rs : List (Option Value)) (gs : List Form) (g : Form) → AreWorth arrays ns rs gs → indexed sets arrays item at n k (array_of arrays k) ats gs ≡ Ok g →
             Worth arrays ns (bind1 (λ key. some_of (chosen arrays ns at (array_at arrays ns k) key)) (nodes.whole rs)) g
         indexed-worth at n None ats rs gs g w e = absurd (cc)
         indexed-worth at n (Some k) ats rs gs g w e = by (slice_get arrays k) refl e
@@ -268,7 +268,7 @@ module _ (sets : List (ℤ × ℤ)) (arrays : List Cells) (item : ℕ) (ns : Lis
 
             when : (a : Cells) (o : Option (List Value)) → slice_get arrays k ≡ Some a → all_known gs ≡ o → looked_up sets arrays item at n o k a ats gs ≡ Ok g → Worth arrays ns (bind1 (reached a) (nodes.whole rs)) g
             when a (Some key) h q f =
-                subst (λ o. Worth arrays ns (bind1 (reached a) o) g) (sym (nodes.all-known sets arrays item ns value-small rs gs key w q)) (at-key a (place_of a.dims key) f)
+                subst (λ o. Worth arrays ns (bind1 (reached a) o) g) (sym (nodes.all-known arrays ns rs gs key w q)) (at-key a (place_of a.dims key) f)
             when a None h q f = fits (are_indices a.dims gs) (subscripts_fit a.dims gs) refl f
               where
                 fits : (b c : Bool) → subscripts_fit a.dims gs ≡ c → cond (b && c) (with_indices sets arrays item a.dims ats gs (element_node sets arrays item (element_sort sets a.leaves) at n (E.At k (map ranked gs)))) (Err (making.Fault.eval (OutOfIndex at))) ≡ Ok g →

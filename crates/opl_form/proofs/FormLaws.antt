@@ -97,7 +97,7 @@ abbrev KeepsMeasures : Form → Type 0
 KeepsMeasures g = (nodes_of (as_condition g) ≡ part_nodes g) × (depth_of (as_condition g) ≡ part_depth g)
 
 tested-keeps : (sets : List (ℤ × ℤ)) (arrays : List Cells) (item n : ℕ) (c : Cons) (h : Form) → condition_node item n c ≡ Ok h → KeepsMeasures h
-tested-keeps sets arrays item n c h e = subst KeepsMeasures (counted-made sets arrays item n (depth_of c) (nodes_of c) (condition c) h e) (refl, refl)
+tested-keeps sets arrays item n c h e = subst KeepsMeasures (counted-made item n (depth_of c) (nodes_of c) (condition c) h e) (refl, refl)
 
 truth-keeps : (sets : List (ℤ × ℤ)) (arrays : List Cells) (item n : ℕ) (g h : Form) → truth_part item n g ≡ Ok h → KeepsMeasures h
 truth-keeps sets arrays item n (known v) h e =

@@ -133,8 +133,8 @@ module _ (sets : List (ℤ × ℤ)) (arrays : List Cells) (item : ℕ) (ns : Lis
     pub negated-worth : (at n : ℕ) (r : Option Value) (g h : Form) → Worth arrays ns r g → negated sets arrays item at n g ≡ Ok h → Worth arrays ns (with_one (negative_of at) r) h
     negated-worth at n r g h w e =
         subst (λ o. Worth arrays ns o h) (one-whole (negative_of at) r)
-        (folded-worth sets arrays item ns value-small n (r ∷ []) (g ∷ []) (λ vs. integer (arithmetic.negative at (compare.number (value_at vs 0)))) (number_node sets arrays item at n (E.Neg (as_number g))) h (w, tt) e
-        (λ k. let p = number-node sets arrays item ns value-small at n (E.Neg (as_number g)) h k in
+        (folded-worth arrays ns item n (r ∷ []) (g ∷ []) (λ vs. integer (arithmetic.negative at (compare.number (value_at vs 0)))) (number_node sets arrays item at n (E.Neg (as_number g))) h (w, tt) e
+        (λ k. let p = number-node sets arrays item at n (E.Neg (as_number g)) h k in
         subst (Worth arrays ns (bind1 (λ vs. negative_of at (value_at vs 0)) (nodes.whole (r ∷ [])))) p.0
         (one-whole (negative_of at) r
         ∙ neg-found at (as_number g) r (as_number-worth arrays ns r g w) (subst (λ t. nat_lt (term_magnitude sets t) (2 ^ 127) ≡ true) (term_Neg (tables arrays) [] (as_number g)) p.1)
@@ -206,9 +206,9 @@ module _ (sets : List (ℤ × ℤ)) (arrays : List Cells) (item : ℕ) (ns : Lis
     -- ---- connectives
 
     pub condition-node : (n : ℕ) (c : Cons) (g : Form) → condition_node item n c ≡ Ok g → condition c ≡ g
-    condition-node n c g h = counted-made sets arrays item n (measures.depth_of c) (measures.nodes_of c) (condition c) g h
+    condition-node n c g h = counted-made item n (measures.depth_of c) (measures.nodes_of c) (condition c) g h
 
-    truths-worth : (rs : List (Option Value)) (gs : List Form) → AreWorth sets arrays item ns value-small rs gs → map (lift1 is_true) rs ≡ map (hold arrays ns) (map as_condition gs)
+    truths-worth : (rs : List (Option Value)) (gs : List Form) → AreWorth arrays ns rs gs → map (lift1 is_true) rs ≡ map (hold arrays ns) (map as_condition gs)
     truths-worth [] [] w = refl
     truths-worth [] (g ∷ gs) w = absurd w
     truths-worth (r ∷ rs) [] w = absurd w
@@ -226,18 +226,18 @@ module _ (sets : List (ℤ × ℤ)) (arrays : List Cells) (item : ℕ) (ns : Lis
     bool-found test rest h None = refl
     bool-found test rest h (Some vs) = ap (λ b. Some (values.Bool b)) (h vs)
 
-    pub one_holds-worth : (n : ℕ) (rs : List (Option Value)) (gs : List Form) (g : Form) → AreWorth sets arrays item ns value-small rs gs → making.one_holds item n gs ≡ Ok g →
+    pub one_holds-worth : (n : ℕ) (rs : List (Option Value)) (gs : List Form) (g : Form) → AreWorth arrays ns rs gs → making.one_holds item n gs ≡ Ok g →
         Worth arrays ns (bind1 (λ vs. Some (values.Bool (list_any is_true vs))) (nodes.whole rs)) g
     one_holds-worth n rs gs g w h =
-        folded-worth sets arrays item ns value-small n rs gs (λ vs. Ok (values.Bool (list_any is_true vs))) (condition_node item n (C.Or (map as_condition gs))) g w h
+        folded-worth arrays ns item n rs gs (λ vs. Ok (values.Bool (list_any is_true vs))) (condition_node item n (C.Or (map as_condition gs))) g w h
         (λ k. subst (Worth arrays ns (bind1 (λ vs. Some (values.Bool (list_any is_true vs))) (nodes.whole rs))) (condition-node n (C.Or (map as_condition gs)) g k)
         (bool-found (list_any is_true) (λ vs. nodes.from_right (λ b c. b || c) false (map is_true vs)) any-right (nodes.whole rs)
         ∙ ap (lift1 values.Bool) (sym (lift-whole (λ b c. b || c) false is_true rs) ∙ ap (lift_all (λ b c. b || c) false) (truths-worth rs gs w) ∙ sym (hold-Or (map as_condition gs)))))
 
-    pub all_hold-worth : (n : ℕ) (rs : List (Option Value)) (gs : List Form) (g : Form) → AreWorth sets arrays item ns value-small rs gs → making.all_hold item n gs ≡ Ok g →
+    pub all_hold-worth : (n : ℕ) (rs : List (Option Value)) (gs : List Form) (g : Form) → AreWorth arrays ns rs gs → making.all_hold item n gs ≡ Ok g →
         Worth arrays ns (bind1 (λ vs. Some (values.Bool (list_all is_true vs))) (nodes.whole rs)) g
     all_hold-worth n rs gs g w h =
-        folded-worth sets arrays item ns value-small n rs gs (λ vs. Ok (values.Bool (list_all is_true vs))) (condition_node item n (C.And (map as_condition gs))) g w h
+        folded-worth arrays ns item n rs gs (λ vs. Ok (values.Bool (list_all is_true vs))) (condition_node item n (C.And (map as_condition gs))) g w h
         (λ k. subst (Worth arrays ns (bind1 (λ vs. Some (values.Bool (list_all is_true vs))) (nodes.whole rs))) (condition-node n (C.And (map as_condition gs)) g k)
         (bool-found (list_all is_true) (λ vs. nodes.from_right (λ b c. b && c) true (map is_true vs)) all-right (nodes.whole rs)
         ∙ ap (lift1 values.Bool) (sym (lift-whole (λ b c. b && c) true is_true rs) ∙ ap (lift_all (λ b c. b && c) true) (truths-worth rs gs w) ∙ sym (hold-And (map as_condition gs)))))
@@ -252,7 +252,7 @@ module _ (sets : List (ℤ × ℤ)) (arrays : List Cells) (item : ℕ) (ns : Lis
     pub opposite-worth : (n : ℕ) (r : Option Value) (g h : Form) → Worth arrays ns r g → making.opposite item n g ≡ Ok h → Worth arrays ns (with_one opposite_of r) h
     opposite-worth n r g h w e =
         subst (λ o. Worth arrays ns o h) (one-whole opposite_of r)
-        (folded-worth sets arrays item ns value-small n (r ∷ []) (g ∷ []) (λ vs. Ok (values.Bool (not (is_true (value_at vs 0))))) (condition_node item n (C.Not (as_condition g))) h (w, tt) e
+        (folded-worth arrays ns item n (r ∷ []) (g ∷ []) (λ vs. Ok (values.Bool (not (is_true (value_at vs 0))))) (condition_node item n (C.Not (as_condition g))) h (w, tt) e
         (λ k. subst (Worth arrays ns (bind1 (λ vs. opposite_of (value_at vs 0)) (nodes.whole (r ∷ [])))) (condition-node n (C.Not (as_condition g)) h k)
         (one-whole opposite_of r ∙ not-found r ∙ ap (λ o. lift1 values.Bool (lift1 not o)) (truth-worth arrays ns r g w)
         ∙ ap (lift1 values.Bool) (sym (ap (holds ns) (fact_Not (tables arrays) [] (as_condition g)))))))
@@ -273,7 +273,7 @@ module _ (sets : List (ℤ × ℤ)) (arrays : List Cells) (item : ℕ) (ns : Lis
     pub implied-worth : (n : ℕ) (r s : Option Value) (g h k : Form) → Worth arrays ns r g → Worth arrays ns s h → making.implied item n g h ≡ Ok k → Worth arrays ns (with_two implied_by r s) k
     implied-worth n r s g h k w x e =
         subst (λ o. Worth arrays ns o k) (two-whole implied_by r s)
-        (folded-worth sets arrays item ns value-small n (r ∷ s ∷ []) (g ∷ h ∷ []) (λ vs. Ok (values.Bool (not (is_true (value_at vs 0)) || is_true (value_at vs 1)))) (condition_node item n (C.Imp (as_condition g) (as_condition h))) k (w, (x, tt)) e
+        (folded-worth arrays ns item n (r ∷ s ∷ []) (g ∷ h ∷ []) (λ vs. Ok (values.Bool (not (is_true (value_at vs 0)) || is_true (value_at vs 1)))) (condition_node item n (C.Imp (as_condition g) (as_condition h))) k (w, (x, tt)) e
         (λ m. subst (Worth arrays ns (bind1 (λ vs. implied_by (value_at vs 0) (value_at vs 1)) (nodes.whole (r ∷ s ∷ [])))) (condition-node n (C.Imp (as_condition g) (as_condition h)) k m)
         (two-whole implied_by r s ∙ implies-found r s ∙ (λ i. lift1 values.Bool (lift_all (λ b c. b || c) false (lift1 not (truth-worth arrays ns r g w i) ∷ truth-worth arrays ns s h x i ∷ [])))
         ∙ ap (lift1 values.Bool) (sym (ap (holds ns) (fact_Imp (tables arrays) [] (as_condition g) (as_condition h)))))))
@@ -284,7 +284,7 @@ module _ (sets : List (ℤ × ℤ)) (arrays : List Cells) (item : ℕ) (ns : Lis
     pub same-worth : (n : ℕ) (r s : Option Value) (g h k : Form) → Worth arrays ns r g → Worth arrays ns s h → making.same item n g h ≡ Ok k → Worth arrays ns (with_two same_as r s) k
     same-worth n r s g h k w x e =
         subst (λ o. Worth arrays ns o k) (two-whole same_as r s)
-        (folded-worth sets arrays item ns value-small n (r ∷ s ∷ []) (g ∷ h ∷ []) (λ vs. Ok (values.Bool (evaluation.same (is_true (value_at vs 0)) (is_true (value_at vs 1))))) (condition_node item n (C.Iff (as_condition g) (as_condition h))) k (w, (x, tt)) e
+        (folded-worth arrays ns item n (r ∷ s ∷ []) (g ∷ h ∷ []) (λ vs. Ok (values.Bool (evaluation.same (is_true (value_at vs 0)) (is_true (value_at vs 1))))) (condition_node item n (C.Iff (as_condition g) (as_condition h))) k (w, (x, tt)) e
         (λ m. subst (Worth arrays ns (bind1 (λ vs. same_as (value_at vs 0) (value_at vs 1)) (nodes.whole (r ∷ s ∷ [])))) (condition-node n (C.Iff (as_condition g) (as_condition h)) k m)
         (two-whole same_as r s ∙ sym (two-after values.Bool (λ v w. evaluation.same (is_true v) (is_true w)) r s)
         ∙ ap (lift1 values.Bool) (sym (lift-two is_true is_true evaluation.same r s) ∙ (λ i. lift evaluation.same (truth-worth arrays ns r g w i) (truth-worth arrays ns s h x i))
@@ -385,7 +385,7 @@ module _ (sets : List (ℤ × ℤ)) (arrays : List Cells) (item : ℕ) (ns : Lis
         let c : Cons = by_kind (alike (sort_of g) (sort_of h)) (op_of rel) (ranked g) (ranked h) in
         let m : ℕ = size sets arrays (ranked g) + size sets arrays (ranked h) in
         subst (λ o. Worth arrays ns o k) (two-whole (related_as rel) r s)
-        (folded-live sets arrays item ns value-small n (r ∷ s ∷ []) (g ∷ h ∷ []) (λ vs. Ok (values.Bool (relates rel (value_at vs 0) (value_at vs 1)))) (sized at m (condition_node item n c)) k (w, (x, tt)) e
-        (λ none j. let p = sized-made sets arrays item at m (condition_node item n c) k j in
+        (folded-live arrays ns item n (r ∷ s ∷ []) (g ∷ h ∷ []) (λ vs. Ok (values.Bool (relates rel (value_at vs 0) (value_at vs 1)))) (sized at m (condition_node item n c)) k (w, (x, tt)) e
+        (λ none j. let p = sized-made at m (condition_node item n c) k j in
         subst (Worth arrays ns (bind1 (λ vs. related_as rel (value_at vs 0) (value_at vs 1)) (nodes.whole (r ∷ s ∷ [])))) (condition-node n c k p.1)
         (two-whole (related_as rel) r s ∙ kind-found (alike (sort_of g) (sort_of h)) rel g h r s w x refl (live-plain g h none))))

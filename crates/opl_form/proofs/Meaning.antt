@@ -139,7 +139,7 @@ module _ (sets : List (ℤ × ℤ)) (arrays : List Cells) (item : ℕ) (ns : Lis
     chain-is at d ss = chain-found at (draft_value arrays ns d) (step_values arrays ns ss)
 
     -- the first part of a product is small, since it is sound
-    first-small : (rs : List (Option Value)) (gs : List Form) → AreWorth sets arrays item ns value-small rs gs → AreSound sets arrays gs → FirstSmall sets arrays item ns value-small rs
+    first-small : (rs : List (Option Value)) (gs : List Form) → AreWorth arrays ns rs gs → AreSound sets arrays gs → FirstSmall rs
     first-small [] gs w s = tt
     first-small (r ∷ rs) [] w s = absurd w
     first-small (r ∷ rs) (g ∷ gs) w s = λ v e. within-less (unsigned_abs (compare.number v)) (term_magnitude sets (plain arrays (as_number g)))
@@ -148,7 +148,7 @@ module _ (sets : List (ℤ × ℤ)) (arrays : List Cells) (item : ℕ) (ns : Lis
         within-less : (a m : ℕ) → a ≤ m → m < 2 ^ 127 → a < 2 ^ 127
         within-less a m h k = omega (arith, h, k)
 
-    by-op : (op : AggregateOp) (at n : ℕ) (rs : List (Option Value)) (gs : List Form) (g : Form) → AreSound sets arrays gs → AreWorth sets arrays item ns value-small rs gs → aggregated sets arrays item op at n gs ≡ Ok g →
+    by-op : (op : AggregateOp) (at n : ℕ) (rs : List (Option Value)) (gs : List Form) (g : Form) → AreSound sets arrays gs → AreWorth arrays ns rs gs → aggregated sets arrays item op at n gs ≡ Ok g →
         Worth arrays ns (bind1 (λ vs. some_of (integer (aggregate op at (map compare.number vs)))) (nodes.whole rs)) g
     by-op Sum at n rs gs g s w e = summed-worth sets arrays item ns value-small at n rs gs g w e
     by-op Product at n rs gs g s w e = product-worth sets arrays item ns value-small at n rs gs g (first-small rs gs w s) w e
@@ -161,8 +161,8 @@ module _ (sets : List (ℤ × ℤ)) (arrays : List Cells) (item : ℕ) (ns : Lis
     operand-worth at n r (name d f) h w e = subst (Worth arrays ns r) (nodes.ok-same (name d f) h e) w
     operand-worth at n r (truth_of c) h w e = subst (Worth arrays ns r) (nodes.ok-same (truth_of c) h e) w
     operand-worth at n r (condition c) h w e =
-        let p = sized-made sets arrays item at 1 (making.counted item n (suc (measures.depth_of c)) (suc (measures.nodes_of c)) (truth_of c)) h e in
-        subst (Worth arrays ns r) (counted-made sets arrays item n (suc (measures.depth_of c)) (suc (measures.nodes_of c)) (truth_of c) h p.1) w
+        let p = sized-made at 1 (making.counted item n (suc (measures.depth_of c)) (suc (measures.nodes_of c)) (truth_of c)) h e in
+        subst (Worth arrays ns r) (counted-made item n (suc (measures.depth_of c)) (suc (measures.nodes_of c)) (truth_of c) h p.1) w
 
     operand-made : (at n : ℕ) (r : Option Value) (q : Made Form) (g : Form) → ((h : Form) → q ≡ Ok h → Worth arrays ns r h) → as_operand item at n q ≡ Ok g → Worth arrays ns r g
     operand-made at n r q g f e =
@@ -171,7 +171,7 @@ module _ (sets : List (ℤ × ℤ)) (arrays : List Cells) (item : ℕ) (ns : Lis
 
     mutual
       pub made-worth : (d : Draft) (n : ℕ) (g : Form) → whole_drafts.made sets arrays item n d ≡ Ok g → Worth arrays ns (comes d) g
-      made-worth (Draft.known at v) n g e = let p = sized-made sets arrays item at (unsigned_abs (rank v)) (known_node item n v) g e in subst (Worth arrays ns (Some v)) (counted-made sets arrays item n 1 1 (known v) g p.1) refl
+      made-worth (Draft.known at v) n g e = let p = sized-made at (unsigned_abs (rank v)) (known_node item n v) g e in subst (Worth arrays ns (Some v)) (counted-made item n 1 1 (known v) g p.1) refl
       made-worth (Draft.broken fault) n g e = absurd (cc)
       made-worth (Draft.variable at x kind) n g e = variable-worth sets arrays item ns value-small fair at n x kind g (past-test (nat_lt x (length sets)) (element_node sets arrays item (variable_sort sets kind x) at n (E.Var x)) g e)
         where
@@ -224,22 +224,22 @@ module _ (sets : List (ℤ × ℤ)) (arrays : List Cells) (item : ℕ) (ns : Lis
           subst (λ o. Worth arrays ns o g) (sym (some-then (draft_values arrays ns ds) (chosen arrays ns at (array_at arrays ns k)) ∙ ap (bind1 (λ key. some_of (chosen arrays ns at (array_at arrays ns k) key))) (values-options ds)))
           (indexed-worth sets arrays item ns value-small fair sound at n k (places ds) (options ds) p.0 g (all-worth ds n p.0 p.1) p.2)
 
-      all-worth : (ds : Drafts) (n : ℕ) (gs : List Form) → made_all sets arrays item n ds ≡ Ok gs → AreWorth sets arrays item ns value-small (options ds) gs
-      all-worth no_drafts n gs e = subst (AreWorth sets arrays item ns value-small []) (nodes.ok-same [] gs e) tt
+      all-worth : (ds : Drafts) (n : ℕ) (gs : List Form) → made_all sets arrays item n ds ≡ Ok gs → AreWorth arrays ns (options ds) gs
+      all-worth no_drafts n gs e = subst (AreWorth arrays ns []) (nodes.ok-same [] gs e) tt
       all-worth (more_drafts d ds) n gs e =
           let p = next-made (whole_drafts.made sets arrays item n d) (λ g. next (made_all sets arrays item (n + part_nodes g) ds) (λ gs. Ok (g ∷ gs))) gs e in
           let q = next-made (made_all sets arrays item (n + part_nodes p.0) ds) (λ gs. Ok (p.0 ∷ gs)) gs p.2 in
-          subst (AreWorth sets arrays item ns value-small (comes d ∷ options ds)) (nodes.ok-same (p.0 ∷ q.0) gs q.2) (made-worth d n p.0 p.1, all-worth ds (n + part_nodes p.0) q.0 q.1)
+          subst (AreWorth arrays ns (comes d ∷ options ds)) (nodes.ok-same (p.0 ∷ q.0) gs q.2) (made-worth d n p.0 p.1, all-worth ds (n + part_nodes p.0) q.0 q.1)
 
-      operands-worth : (ds : Drafts) (n : ℕ) (gs : List Form) → made_operands sets arrays item n ds ≡ Ok gs → AreWorth sets arrays item ns value-small (options ds) gs
-      operands-worth no_drafts n gs e = subst (AreWorth sets arrays item ns value-small []) (nodes.ok-same [] gs e) tt
+      operands-worth : (ds : Drafts) (n : ℕ) (gs : List Form) → made_operands sets arrays item n ds ≡ Ok gs → AreWorth arrays ns (options ds) gs
+      operands-worth no_drafts n gs e = subst (AreWorth arrays ns []) (nodes.ok-same [] gs e) tt
       operands-worth (more_drafts d ds) n gs e =
           let p = next-made (as_operand item (place d) n (whole_drafts.made sets arrays item n d)) (λ g. next (made_operands sets arrays item (n + part_nodes g) ds) (λ gs. Ok (g ∷ gs))) gs e in
           let q = next-made (made_operands sets arrays item (n + part_nodes p.0) ds) (λ gs. Ok (p.0 ∷ gs)) gs p.2 in
-          subst (AreWorth sets arrays item ns value-small (comes d ∷ options ds)) (nodes.ok-same (p.0 ∷ q.0) gs q.2) (operand-made (place d) n (comes d) (whole_drafts.made sets arrays item n d) p.0 (λ h f. made-worth d n h f) p.1, operands-worth ds (n + part_nodes p.0) q.0 q.1)
+          subst (AreWorth arrays ns (comes d ∷ options ds)) (nodes.ok-same (p.0 ∷ q.0) gs q.2) (operand-made (place d) n (comes d) (whole_drafts.made sets arrays item n d) p.0 (λ h f. made-worth d n h f) p.1, operands-worth ds (n + part_nodes p.0) q.0 q.1)
 
       first-worth : (ds : Drafts) (n : ℕ) (g : Form) → made_first sets arrays item n ds ≡ Ok g → Worth arrays ns (bind1 (λ vs. Some (values.Bool (equivalent vs))) (nodes.whole (options ds))) g
-      first-worth no_drafts n g e = subst (Worth arrays ns (Some (values.Bool true))) (counted-made sets arrays item n 1 1 (known (values.Bool true)) g e) refl
+      first-worth no_drafts n g e = subst (Worth arrays ns (Some (values.Bool true))) (counted-made item n 1 1 (known (values.Bool true)) g e) refl
       first-worth (more_drafts d ds) n g e =
           let p = next-made (whole_drafts.made sets arrays item n d) (λ g. next (truth_part item n g) (λ h. made_same sets arrays item n h ds)) g e in
           let q = next-made (truth_part item n p.0) (λ h. made_same sets arrays item n h ds) g p.2 in
@@ -254,9 +254,9 @@ module _ (sets : List (ℤ × ℤ)) (arrays : List Cells) (item : ℕ) (ns : Lis
           same-rest ds n (with_two (same_as sets arrays item ns value-small) r (comes d)) q.0 k
           (same-worth sets arrays item ns value-small n r (comes d) g p.0 q.0 w (made-worth d (n + part_nodes g) p.0 p.1) q.1) q.2
 
-      steps-worth : (ss : Steps) (at n : ℕ) (r : Option Value) (rs : List (Option Value)) (ps qs : Form × List Form) (k : Form) → Parts-worth sets arrays item ns value-small r rs ps → made_steps sets arrays item at n ps ss ≡ Ok qs → chained sets arrays item at n qs.0 qs.1 ≡ Ok k →
+      steps-worth : (ss : Steps) (at n : ℕ) (r : Option Value) (rs : List (Option Value)) (ps qs : Form × List Form) (k : Form) → Parts-worth arrays ns r rs ps → made_steps sets arrays item at n ps ss ≡ Ok qs → chained sets arrays item at n qs.0 qs.1 ≡ Ok k →
           Worth arrays ns (chain_value at r rs (some_of (step_values arrays ns ss))) k
-      steps-worth no_steps at n r rs ps qs k w e h = chained-worth sets arrays item ns value-small at n r rs qs k (subst (Parts-worth sets arrays item ns value-small r rs) (nodes.ok-same ps qs e) w) h
+      steps-worth no_steps at n r rs ps qs k w e h = chained-worth sets arrays item ns value-small at n r rs qs k (subst (Parts-worth arrays ns r rs) (nodes.ok-same ps qs e) w) h
       steps-worth (more_steps sign d ss) at n r rs ps qs k w e h =
           let m : ℕ = n + parts_nodes ps in
           let p = next-made (as_operand item (place d) m (whole_drafts.made sets arrays item m d)) (λ g. next (stepped sets arrays item sign at (place d) n ps g) (λ qs. made_steps sets arrays item at n qs ss)) qs e in

@@ -1,14 +1,13 @@
 -- The solutions of a model are the assignments on which its constraints hold.
-use Rattle.std.proofs.Common.{◌≡◌, ℕ, zero, suc, ◌+◌, ◌<◌, ℤ, pos, ◌+ℤ◌, ◌-ℤ◌, ◌≤ℤ◌, Bool, true, false, cond, ◌&&◌, length, unsigned_abs, List, [], ◌∷◌, map, Ok, refl, ap, ◌∙◌, arith}
+use Rattle.std.proofs.Common.{◌≡◌, ℕ, zero, suc, ◌+◌, ℤ, pos, ◌+ℤ◌, ◌-ℤ◌, ◌≤ℤ◌, Bool, true, false, cond, ◌&&◌, unsigned_abs, List, [], ◌∷◌, map, refl, ◌∙◌, arith}
 use Rattle.std.specs.Prelude.{filter, int_lt}
 use Rattle.std.specs.List.{All, flat_map, list_all}
 use Rattle.std.proofs.lemmas.Int.{ints}
 use Rattle.std.proofs.lemmas.List.Elements.{All-append, All-cons, All-head, All-map, All-nil, All-tail, All-weaker}
-use Rattle.opl_domain.specs.Span.{IsWithin, Span, values}
+use Rattle.opl_domain.specs.Span.{IsWithin, values}
 use Rattle.opl_domain.specs.Family.{member}
 use Rattle.opl_domain.proofs.Members.{in_values}
 use Rattle.opl_meaning.specs.declared.variable.DeclaredSet.{DeclaredSet}
-use Rattle.opl_meaning.specs.declared.variable.VariableItem.{VariableItem}
 use Rattle.opl_meaning.specs.Solutions.{declared_sets, numbers_of, product, size_between, whole_numbers}
 use Rattle.opl_draft.specs.Instances.{condition_of}
 use Rattle.opl_draft.specs.Laws.{SolutionsUnrolled, arrays, is_met}
@@ -61,7 +60,7 @@ one-more : (set : DeclaredSet) (sets : List DeclaredSet) (v : ℤ) (found : List
 one-more set sets v found m h =
     All-map (IsAssignment (map ends (set ∷ sets))) (λ ns. v ∷ ns) found
     (All-weaker (IsAssignment (map ends sets)) (λ ns. IsAssignment (map ends (set ∷ sets)) (v ∷ ns))
-      (λ ns e. both (member v (values (record { low = set.low; high = set.high }))) (is_among ns (families (map ends sets))) m e) found h)
+    (λ ns e. both (member v (values (record { low = set.low; high = set.high }))) (is_among ns (families (map ends sets))) m e) found h)
 
 each-more : (set : DeclaredSet) (sets : List DeclaredSet) (vs : List ℤ) (found : List (List ℤ)) → All (λ v. member v (values (record { low = set.low; high = set.high })) ≡ true) vs → All (IsAssignment (map ends sets)) found →
     All (IsAssignment (map ends (set ∷ sets))) (flat_map (λ v. map (λ ns. v ∷ ns) found) vs)
@@ -91,5 +90,5 @@ solutions_mean unrolled m names cs declares clean sound e =
     let conditions = map (condition_of m.variables names m.environment) m.conditions in
     unrolled m names declares clean
     ∙ filter-same (λ ns. list_all (is_met cells ns) conditions) (λ ns. list_all (is_held cells ns) cs) (product (declared_sets m.variables))
-      (All-weaker (IsAssignment sets) (λ ns. list_all (is_met cells ns) conditions ≡ list_all (is_held cells ns) cs) (λ ns a. forms_mean sets cells 0 conditions cs sound e ns a)
-        (product (declared_sets m.variables)) (product-assigned (flat_map (λ v. v.sets) m.variables)))
+    (All-weaker (IsAssignment sets) (λ ns. list_all (is_met cells ns) conditions ≡ list_all (is_held cells ns) cs) (λ ns a. forms_mean sets cells 0 conditions cs sound e ns a)
+    (product (declared_sets m.variables)) (product-assigned (flat_map (λ v. v.sets) m.variables)))

@@ -87,7 +87,7 @@ module _ (sets : List (ℤ × ℤ)) (arrays : List Cells) (item : ℕ) where
 
   number-fine : (at n : ℕ) (e : Expr) (g : Form) → number_node sets arrays item at n e ≡ Ok g → (IsSmall (size sets arrays e) → IsSoundTerm sets (plain arrays e)) → IsFine n g
   number-fine at n e g h k =
-      let p = sized-made sets arrays item at (size sets arrays e) (counted item n (depth e) (nodes e) (number e)) g h in
+      let p = sized-made at (size sets arrays e) (counted item n (depth e) (nodes e) (number e)) g h in
       let q = counted-within item n (depth e) (nodes e) (number e) g p.1 in
       subst (IsFine n) q.0 (k (lt-out (size sets arrays e) (2 ^ 127) p.0), (q.1, q.2))
 
@@ -148,13 +148,13 @@ module _ (sets : List (ℤ × ℤ)) (arrays : List Cells) (item : ℕ) where
   operand-fine at n (name d x) k f e = subst (IsFine n) (ok-same (name d x) k e) f
   operand-fine at n (truth c) k f e = subst (IsFine n) (ok-same (truth c) k e) f
   operand-fine at n (condition c) k f e =
-      let p = sized-made sets arrays item at 1 (counted item n (suc (depth_of c)) (suc (nodes_of c)) (truth c)) k e in
+      let p = sized-made at 1 (counted item n (suc (depth_of c)) (suc (nodes_of c)) (truth c)) k e in
       let q = counted-within item n (suc (depth_of c)) (suc (nodes_of c)) (truth c) k p.1 in
       subst (IsFine n) q.0 (f.0, (q.1, q.2))
 
   value-fine : (at n : ℕ) (v : Value) (g : Form) → value_node item at n v ≡ Ok g → IsFine n g
   value-fine at n v g e =
-      let p = sized-made sets arrays item at (unsigned_abs (rank v)) (known_node item n v) g e in
+      let p = sized-made at (unsigned_abs (rank v)) (known_node item n v) g e in
       known-fine n v g (small-rank v (lt-out (unsigned_abs (rank v)) (2 ^ 127) p.0)) p.1
 
   -- ---- numbers
@@ -329,7 +329,7 @@ module _ (sets : List (ℤ × ℤ)) (arrays : List Cells) (item : ℕ) where
       let c : Cons = by_kind (parts.alike (parts.sort_of g) (parts.sort_of h)) (op_of r) (ranked g) (ranked h) in
       let test : List Value → Bool = λ vs. compare.relates r (value_at vs 0) (value_at vs 1) in
       folded-fine n (g ∷ h ∷ []) (λ vs. Ok (values.Bool (test vs))) (sized at m (condition_node item n c)) k (a, (b, tt)) e (bools-small test)
-      (λ j. let p = sized-made sets arrays item at m (condition_node item n c) k j in
+      (λ j. let p = sized-made at m (condition_node item n c) k j in
       condition-fine n c k p.1 (by_kind-sound (parts.alike (parts.sort_of g) (parts.sort_of h)) (op_of r) (ranked g) (ranked h) (lt-out m (2 ^ 127) p.0) (ranked-sound sets arrays g a) (ranked-sound sets arrays h b)))
 
   -- ---- variables
@@ -337,7 +337,7 @@ module _ (sets : List (ℤ × ℤ)) (arrays : List Cells) (item : ℕ) where
   element-fine : (s : Sort) (at n : ℕ) (e : Expr) (g : Form) → element_node sets arrays item s at n e ≡ Ok g → (IsSmall (size sets arrays e) → IsSoundTerm sets (plain arrays e)) → IsFine n g
   element-fine whole at n e g h k = number-fine at n e g h k
   element-fine (named d) at n e g h k =
-      let p = sized-made sets arrays item at (size sets arrays e) (counted item n (depth e) (nodes e) (name d e)) g h in
+      let p = sized-made at (size sets arrays e) (counted item n (depth e) (nodes e) (name d e)) g h in
       let q = counted-within item n (depth e) (nodes e) (name d e) g p.1 in
       subst (IsFine n) q.0 (k (lt-out (size sets arrays e) (2 ^ 127) p.0), (q.1, q.2))
   element-fine other at n e g h k = absurd (cc)
@@ -384,7 +384,7 @@ module _ (sets : List (ℤ × ℤ)) (arrays : List Cells) (item : ℕ) where
       folded item n o (λ vs. Ok (values.Bool (compare.all_different vs))) (sized at (two_greatest (sizes gs)) (condition_node item n (C.AllDifferent (map ranked gs)))) ≡ Ok k → IsFine n k
   differ-fine at n gs (Some vs) k s e = known-fine n (values.Bool (compare.all_different vs)) k (small-Bool (compare.all_different vs)) e
   differ-fine at n gs None k s e =
-      let p = sized-made sets arrays item at (two_greatest (sizes gs)) (condition_node item n (C.AllDifferent (map ranked gs))) k e in
+      let p = sized-made at (two_greatest (sizes gs)) (condition_node item n (C.AllDifferent (map ranked gs))) k e in
       let l : two_greatest (sizes gs) < 2 ^ 127 = lt-out (two_greatest (sizes gs)) (2 ^ 127) p.0 in
       let ts : List Term = map (plain arrays) (map ranked gs) in
       condition-fine n (C.AllDifferent (map ranked gs)) k p.1
@@ -418,7 +418,7 @@ module _ (sets : List (ℤ × ℤ)) (arrays : List Cells) (item : ℕ) where
   indices-fit (d ∷ ds) [] (b ∷ gs) r g l h e = absurd (omega (arith, l))
   indices-fit (d ∷ ds) (at ∷ ats) (b ∷ gs) r g l h e =
       let m : ℕ = size sets arrays (ranked b) + greatest_abs (map rank d) in
-      let p = sized-made sets arrays item at m (with_indices sets arrays item ds ats gs r) g e in
+      let p = sized-made at m (with_indices sets arrays item ds ats gs r) g e in
       let q = indices-fit ds ats gs r g (omega (arith, l)) (and_parts (parts.all_alike (parts.key_sort b) d) (subscripts_fit ds gs) h).1 p.1 in
       ((lt-out m (2 ^ 127) p.0, q.0), q.1)
 

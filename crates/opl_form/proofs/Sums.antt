@@ -53,12 +53,13 @@ sized-out at z y h = by (nat_lt (unsigned_abs z) (2 ^ 127)) refl h
     by true t h = lt-out (unsigned_abs z) (2 ^ 127) t
     by false t h = absurd (cc)
 
+-- the first part of a sum and the others are worth these
+abbrev pub Parts-worth : List Cells → List ℤ → Option Value → List (Option Value) → Form × List Form → Type 0
+Parts-worth arrays ns r rs ps = Worth arrays ns r ps.0 × AreWorth arrays ns rs ps.1
+
 module _ (sets : List (ℤ × ℤ)) (arrays : List Cells) (item : ℕ) (ns : List ℤ)
     (value-small : (t : Term) (v : ℤ) → value ns t ≡ Some v → unsigned_abs v ≤ term_magnitude sets t)
   where
-    abbrev pub Parts-worth : Option Value → List (Option Value) → Form × List Form → Type 0
-    Parts-worth r rs ps = Worth arrays ns r ps.0 × AreWorth sets arrays item ns value-small rs ps.1
-
     -- ---- chains
 
     whole-number : (r : Option Value) (g : Form) → Worth arrays ns r g → lift1 (λ v. values.Int (compare.number v)) r ≡ lift1 values.Int (val arrays ns (as_number g))
@@ -67,9 +68,9 @@ module _ (sets : List (ℤ × ℤ)) (arrays : List Cells) (item : ℕ) (ns : Lis
     pub number_part-worth : (at n : ℕ) (r : Option Value) (g k : Form) → Worth arrays ns r g → number_part sets arrays item at n g ≡ Ok k → Worth arrays ns (lift1 (λ v. values.Int (compare.number v)) r) k
     number_part-worth at n r (known v) k w e = subst (Worth arrays ns (lift1 (λ v. values.Int (compare.number v)) r)) (nodes.ok-same (known (values.Int (compare.number v))) k e) (ap (lift1 (λ v. values.Int (compare.number v))) w)
     number_part-worth at n r (number f) k w e = subst (Worth arrays ns (lift1 (λ v. values.Int (compare.number v)) r)) (nodes.ok-same (number f) k e) (whole-number r (number f) w)
-    number_part-worth at n r (name d f) k w e = subst (Worth arrays ns (lift1 (λ v. values.Int (compare.number v)) r)) (number-node sets arrays item ns value-small at n (as_number (name d f)) k e).0 (whole-number r (name d f) w)
-    number_part-worth at n r (condition c) k w e = subst (Worth arrays ns (lift1 (λ v. values.Int (compare.number v)) r)) (number-node sets arrays item ns value-small at n (as_number (condition c)) k e).0 (whole-number r (condition c) w)
-    number_part-worth at n r (truth_of c) k w e = subst (Worth arrays ns (lift1 (λ v. values.Int (compare.number v)) r)) (number-node sets arrays item ns value-small at n (as_number (truth_of c)) k e).0 (whole-number r (truth_of c) w)
+    number_part-worth at n r (name d f) k w e = subst (Worth arrays ns (lift1 (λ v. values.Int (compare.number v)) r)) (number-node sets arrays item at n (as_number (name d f)) k e).0 (whole-number r (name d f) w)
+    number_part-worth at n r (condition c) k w e = subst (Worth arrays ns (lift1 (λ v. values.Int (compare.number v)) r)) (number-node sets arrays item at n (as_number (condition c)) k e).0 (whole-number r (condition c) w)
+    number_part-worth at n r (truth_of c) k w e = subst (Worth arrays ns (lift1 (λ v. values.Int (compare.number v)) r)) (number-node sets arrays item at n (as_number (truth_of c)) k e).0 (whole-number r (truth_of c) w)
 
     whole-truth : (r : Option Value) (g : Form) → Worth arrays ns r g → lift1 (λ v. values.Bool (is_true v)) r ≡ lift1 values.Bool (hold arrays ns (as_condition g))
     whole-truth r g w = sym (lift-twice is_true values.Bool (λ v. values.Bool (is_true v)) (λ v. refl) r) ∙ ap (lift1 values.Bool) (truth-worth arrays ns r g w)
@@ -77,7 +78,7 @@ module _ (sets : List (ℤ × ℤ)) (arrays : List Cells) (item : ℕ) (ns : Lis
     tested-truth : (n : ℕ) (r : Option Value) (g k : Form) → Worth arrays ns r g → making.condition_node item n (as_condition g) ≡ Ok k → Worth arrays ns (lift1 (λ v. values.Bool (is_true v)) r) k
     tested-truth n r g k w e =
         let c : Cons = as_condition g in
-        subst (Worth arrays ns (lift1 (λ v. values.Bool (is_true v)) r)) (counted-made sets arrays item n (measures.depth_of c) (measures.nodes_of c) (condition c) k e) (whole-truth r g w)
+        subst (Worth arrays ns (lift1 (λ v. values.Bool (is_true v)) r)) (counted-made item n (measures.depth_of c) (measures.nodes_of c) (condition c) k e) (whole-truth r g w)
 
     pub truth_part-worth : (n : ℕ) (r : Option Value) (g k : Form) → Worth arrays ns r g → truth_part item n g ≡ Ok k → Worth arrays ns (lift1 (λ v. values.Bool (is_true v)) r) k
     truth_part-worth n r (known v) k w e = subst (Worth arrays ns (lift1 (λ v. values.Bool (is_true v)) r)) (nodes.ok-same (known (values.Bool (is_true v))) k e) (ap (lift1 (λ v. values.Bool (is_true v))) w)
@@ -101,7 +102,7 @@ module _ (sets : List (ℤ × ℤ)) (arrays : List Cells) (item : ℕ) (ns : Lis
         by None = refl
         by (Some vs) = ap (λ xs. some_of (integer (run at (compare.number v) xs))) (sym (append-nothing (map Plus (map compare.number vs))))
 
-    pub chained-worth : (at n : ℕ) (r : Option Value) (rs : List (Option Value)) (ps : Form × List Form) (k : Form) → Parts-worth r rs ps → chained sets arrays item at n ps.0 ps.1 ≡ Ok k → Worth arrays ns (chain_value at r rs (Some [])) k
+    pub chained-worth : (at n : ℕ) (r : Option Value) (rs : List (Option Value)) (ps : Form × List Form) (k : Form) → Parts-worth arrays ns r rs ps → chained sets arrays item at n ps.0 ps.1 ≡ Ok k → Worth arrays ns (chain_value at r rs (Some [])) k
     chained-worth at n r [] (g, []) k w e = subst (λ o. Worth arrays ns o k) (alone r) (number_part-worth at n r g k w.0 e)
       where
         alone : (r : Option Value) → lift1 (λ v. values.Int (compare.number v)) r ≡ chain_value at r [] (Some [])
@@ -112,16 +113,16 @@ module _ (sets : List (ℤ × ℤ)) (arrays : List Cells) (item : ℕ) (ns : Lis
     chained-worth at n r (s ∷ rs) (g, h ∷ hs) k w e =
         let gs : List Form = g ∷ h ∷ hs in
         let os : List (Option Value) = r ∷ s ∷ rs in
-        let all : AreWorth sets arrays item ns value-small os gs = (w.0, w.1) in
+        let all : AreWorth arrays ns os gs = (w.0, w.1) in
         subst (λ o. Worth arrays ns o k) (as-chain at r (s ∷ rs))
-        (folded-worth sets arrays item ns value-small n os gs (chain_of at) (number_node sets arrays item at n (E.Sum (map as_number gs))) k all e
-        (λ m. let p = number-node sets arrays item ns value-small at n (E.Sum (map as_number gs)) k m in
+        (folded-worth arrays ns item n os gs (chain_of at) (number_node sets arrays item at n (E.Sum (map as_number gs))) k all e
+        (λ m. let p = number-node sets arrays item at n (E.Sum (map as_number gs)) k m in
         subst (Worth arrays ns (bind1 (λ vs. some_of (chain_of at vs)) (nodes.whole os))) p.0
         (sum-found at (nodes.whole os) (λ vs e. nodes.below (size sets arrays (E.Sum (map as_number gs))) (term_magnitude sets (plain arrays (E.Sum (map as_number gs)))) (abs_total (map compare.number vs)) p.1 refl
         (subst (λ m. abs_total (map compare.number vs) ≤ m) (sym (size-sum sets arrays item ns value-small (map as_number gs))) (sum-small sets arrays item ns value-small os gs vs all e)))
-        ∙ ap (lift1 values.Int) (sym (sum-value sets arrays item ns value-small os gs all)))))
+        ∙ ap (lift1 values.Int) (sym (sum-value arrays ns os gs all)))))
 
-    are-worth-last : (rs : List (Option Value)) (gs : List Form) (r : Option Value) (g : Form) → AreWorth sets arrays item ns value-small rs gs → Worth arrays ns r g → AreWorth sets arrays item ns value-small (rs ++ r ∷ []) (gs ++ g ∷ [])
+    are-worth-last : (rs : List (Option Value)) (gs : List Form) (r : Option Value) (g : Form) → AreWorth arrays ns rs gs → Worth arrays ns r g → AreWorth arrays ns (rs ++ r ∷ []) (gs ++ g ∷ [])
     are-worth-last [] [] r g w x = (x, tt)
     are-worth-last [] (h ∷ gs) r g w x = absurd w
     are-worth-last (s ∷ rs) [] r g w x = absurd w
@@ -129,7 +130,7 @@ module _ (sets : List (ℤ × ℤ)) (arrays : List Cells) (item : ℕ) (ns : Lis
 
     live-small : (at n : ℕ) (r : Option Value) (g h : Form) → Worth arrays ns r g → number_node sets arrays item at n (E.Neg (as_number g)) ≡ Ok h → (v : Value) → r ≡ Some v → unsigned_abs (compare.number v) < 2 ^ 127
     live-small at n r g h w e v f =
-        let p = number-node sets arrays item ns value-small at n (E.Neg (as_number g)) h e in
+        let p = number-node sets arrays item at n (E.Neg (as_number g)) h e in
         let t : Term = plain arrays (as_number g) in
         nodes.below (term_magnitude sets t) (term_magnitude sets t) (unsigned_abs (compare.number v)) (subst (λ t. nat_lt (term_magnitude sets t) (2 ^ 127) ≡ true) (term_Neg (tables arrays) [] (as_number g)) p.1) refl
         (value-small t (compare.number v) (sym (as_number-worth arrays ns r g w) ∙ ap (lift1 compare.number) f))
@@ -150,7 +151,7 @@ module _ (sets : List (ℤ × ℤ)) (arrays : List Cells) (item : ℕ) (ns : Lis
 
     -- what a step leaves: parts that are worth something, to which the chain with its operation comes
     abbrev Steps-to : ℕ → Sign → Option Value → List (Option Value) → Option Value → Form × List Form → Type 0
-    Steps-to at sign r rs s qs = (t : Option Value) × (ts : List (Option Value)) × Parts-worth t ts qs × ((os : Option (List Operation)) → chain_value at r rs (with_operand sign s os) ≡ chain_value at t ts os)
+    Steps-to at sign r rs s qs = (t : Option Value) × (ts : List (Option Value)) × Parts-worth arrays ns t ts qs × ((os : Option (List Operation)) → chain_value at r rs (with_operand sign s os) ≡ chain_value at t ts os)
 
     abbrev Together : ℕ → Sign → Option Value → Option Value → Option Value
     Together at sign r s = with_two (λ v w. some_of (integer (applied at (compare.number v) (operation sign (compare.number w))))) r s
@@ -158,7 +159,7 @@ module _ (sets : List (ℤ × ℤ)) (arrays : List Cells) (item : ℕ) (ns : Lis
     turned : (at : ℕ) (sign : Sign) (r s : Option Value) → Together at sign r s ≡ bind1 (λ v. bind1 (λ w. some_of (integer (applied at (compare.number v) (operation sign (compare.number w))))) s) r
     turned at sign r s = refl
 
-    other-step : (at own n : ℕ) (sign : Sign) (r : Option Value) (rs : List (Option Value)) (s : Option Value) (ps qs : Form × List Form) (g : Form) → Parts-worth r rs ps → Worth arrays ns s g →
+    other-step : (at own n : ℕ) (sign : Sign) (r : Option Value) (rs : List (Option Value)) (s : Option Value) (ps qs : Form × List Form) (g : Form) → Parts-worth arrays ns r rs ps → Worth arrays ns s g →
         ((a b : Option Value) (h i k : Form) → Worth arrays ns a h → Worth arrays ns b i → by_sign sets arrays item sign at n h i ≡ Ok k → Worth arrays ns (Together at sign a b) k) →
         next (chained sets arrays item at n ps.0 ps.1) (λ a. next (by_sign sets arrays item sign at n a g) (λ h. Ok (h, []))) ≡ Ok qs → Steps-to at sign r rs s qs
     other-step at own n sign r rs s ps qs g w x node e =
@@ -166,18 +167,18 @@ module _ (sets : List (ℤ × ℤ)) (arrays : List Cells) (item : ℕ) (ns : Lis
         let d = next-made (by_sign sets arrays item sign at n c.0 g) (λ h. Ok (h, [])) qs c.2 in
         let a : Option Value = chain_value at r rs (Some []) in
         let worth : Worth arrays ns (Together at sign a s) d.0 = node a s c.0 g d.0 (chained-worth at n r rs ps c.0 w c.1) x d.1 in
-        (Together at sign a s, [], subst (Parts-worth (Together at sign a s) []) (nodes.ok-same (d.0, []) qs d.2) (worth, tt), λ os. other-part at sign r rs s (Together at sign a s) os refl)
+        (Together at sign a s, [], subst (Parts-worth arrays ns (Together at sign a s) []) (nodes.ok-same (d.0, []) qs d.2) (worth, tt), λ os. other-part at sign r rs s (Together at sign a s) os refl)
 
-    pub stepped-worth : (at own n : ℕ) (sign : Sign) (r : Option Value) (rs : List (Option Value)) (s : Option Value) (ps qs : Form × List Form) (g : Form) → Parts-worth r rs ps → Worth arrays ns s g → stepped sets arrays item sign at own n ps g ≡ Ok qs → Steps-to at sign r rs s qs
+    pub stepped-worth : (at own n : ℕ) (sign : Sign) (r : Option Value) (rs : List (Option Value)) (s : Option Value) (ps qs : Form × List Form) (g : Form) → Parts-worth arrays ns r rs ps → Worth arrays ns s g → stepped sets arrays item sign at own n ps g ≡ Ok qs → Steps-to at sign r rs s qs
     stepped-worth at own n plus r rs s ps qs g w x e =
-        (r, rs ++ s ∷ [], subst (Parts-worth r (rs ++ s ∷ [])) (nodes.ok-same (ps.0, ps.1 ++ g ∷ []) qs e) (w.0, are-worth-last rs ps.1 s g w.1 x), λ os. plus-part at r rs s os)
+        (r, rs ++ s ∷ [], subst (Parts-worth arrays ns r (rs ++ s ∷ [])) (nodes.ok-same (ps.0, ps.1 ++ g ∷ []) qs e) (w.0, are-worth-last rs ps.1 s g w.1 x), λ os. plus-part at r rs s os)
     stepped-worth at own n minus r rs s ps qs g w x e =
         let m : ℕ = n + parts_nodes ps in
         let c = next-made (negated sets arrays item own m g) (λ h. Ok (ps.0, ps.1 ++ h ∷ [])) qs e in
         let y = negated-worth sets arrays item ns value-small own m s g c.0 x c.1 in (
           r,
           rs ++ with_one (negative_of sets arrays item ns value-small own) s ∷ [],
-          subst (Parts-worth r (rs ++ with_one (negative_of sets arrays item ns value-small own) s ∷ [])) (nodes.ok-same (ps.0, ps.1 ++ c.0 ∷ []) qs c.2) (w.0, are-worth-last rs ps.1 (with_one (negative_of sets arrays item ns value-small own) s) c.0 w.1 y),
+          subst (Parts-worth arrays ns r (rs ++ with_one (negative_of sets arrays item ns value-small own) s ∷ [])) (nodes.ok-same (ps.0, ps.1 ++ c.0 ∷ []) qs c.2) (w.0, are-worth-last rs ps.1 (with_one (negative_of sets arrays item ns value-small own) s) c.0 w.1 y),
           λ os. minus-part at own r rs s os (negated-small own m s g c.0 x c.1),
         )
     stepped-worth at own n times r rs s ps qs g w x e = other-step at own n times r rs s ps qs g w x (λ a b h i k. multiplied-worth sets arrays item ns value-small at n a b h i k) e

@@ -44,14 +44,14 @@ module _ (sets : List (ℤ × ℤ)) (arrays : List Cells) (item : ℕ) (ns : Lis
 
     pub variable-worth : (at n x : ℕ) (kind : Kind) (g : Form) → element_node sets arrays item (variable_sort sets kind x) at n (E.Var x) ≡ Ok g → Worth arrays ns (Some (value_of kind (slice_index_or ns x (pos 0)))) g
     variable-worth at n x Number g e =
-        let p = number-node sets arrays item ns value-small at n (E.Var x) g e in
+        let p = number-node sets arrays item at n (E.Var x) g e in
         subst (Worth arrays ns (Some (values.Int (slice_index_or ns x (pos 0))))) p.0 (ap (lift1 values.Int) (sym (val-Var x)))
     variable-worth at n x (Enumeration d) g e = by (has_positions (slice_index_or sets x (pos 0, pos 0))) refl e
       where
         by : (b : Bool) → has_positions (slice_index_or sets x (pos 0, pos 0)) ≡ b → element_node sets arrays item (cond b (named d) other) at n (E.Var x) ≡ Ok g → Worth arrays ns (Some (values.Enum d (position_of (slice_index_or ns x (pos 0))))) g
         by true t h =
-            let p = sized-made sets arrays item at (size sets arrays (E.Var x)) (making.counted item n (measures.depth (E.Var x)) (measures.nodes (E.Var x)) (name d (E.Var x))) g h in
-            subst (Worth arrays ns (Some (values.Enum d (position_of (slice_index_or ns x (pos 0)))))) (counted-made sets arrays item n (measures.depth (E.Var x)) (measures.nodes (E.Var x)) (name d (E.Var x)) g p.1) (
+            let p = sized-made at (size sets arrays (E.Var x)) (making.counted item n (measures.depth (E.Var x)) (measures.nodes (E.Var x)) (name d (E.Var x))) g h in
+            subst (Worth arrays ns (Some (values.Enum d (position_of (slice_index_or ns x (pos 0)))))) (counted-made item n (measures.depth (E.Var x)) (measures.nodes (E.Var x)) (name d (E.Var x)) g p.1) (
               ap (lift1 (λ n. values.Enum d (position_of n))) (sym (val-Var x)),
               λ m f. let same : slice_index_or ns x (pos 0) ≡ m = nodes.some-same (slice_index_or ns x (pos 0)) m (sym (val-Var x) ∙ f) in subst (λ m. m ≡ pos (position_of m)) same (fair x t),
             )
