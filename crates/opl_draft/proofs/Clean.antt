@@ -4,7 +4,6 @@ use Rattle.std.specs.List.{flat_map, list_all}
 use Rattle.std.proofs.lemmas.Bool.{and_parts}
 use Rattle.std.proofs.lemmas.List.Folds.{list_all-append}
 use Rattle.opl_tree.specs.declared.instruction.BlockTree.{BlockTree}
-use Rattle.opl_tree.specs.declared.instruction.InstrTree.{InstrTree}
 use Rattle.opl_tree.specs.declared.instruction.InstrTree.TheVariants as instrs
 use Rattle.opl_tree.specs.declared.instruction.ItemTree.{ItemTree}
 use Rattle.opl_tree.specs.declared.instruction.ItemTree.TheFolds.{fold-ItemTree, fold-ItemsTree, fold-roll-ItemTree, fold-roll-ItemsTree, fold-roll-BlockTree, ind-BlockTree, map-ItemTree, map-ItemsTree, map-BlockTree}
@@ -17,7 +16,7 @@ use Rattle.opl_term.specs.Terms.{expr_term, params_term}
 use Rattle.opl_eval.specs.Evaluation.{Environment, Found, Group, choices, declaration_of, elements, eval, group_meaning, is_true, with_parameters}
 use Rattle.opl_meaning.specs.declared.variable.VariableItem.{VariableItem}
 use Rattle.opl_meaning.specs.Runs.{Names}
-use Rattle.opl_draft.specs.Choices.{branched, or_stop, under, under_groups, where_true}
+use Rattle.opl_draft.specs.Choices.{branched, or_stop, under_groups, where_true}
 use Rattle.opl_draft.specs.Clean as cleaning
 use Rattle.opl_draft.specs.Clean.{all_clean, are_data, is_clean_block, is_clean_instr, or_clean}
 use Rattle.opl_draft.specs.Instances as instancing

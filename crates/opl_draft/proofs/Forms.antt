@@ -1,5 +1,5 @@
 -- Each form of terms is unrolled by its parts.
-use Rattle.std.proofs.Common.{◌≡◌, ◌&&◌, ℕ, ℤ, Bool, true, false, cond, not, List, [], ◌∷◌, map, Option, None, Some, refl, sym, ap, ◌∙◌}
+use Rattle.std.proofs.Common.{◌≡◌, ◌&&◌, true, cond, not, List, [], ◌∷◌, map, Option, None, Some, refl, ap, ◌∙◌}
 use Rattle.std.specs.List.{list_all}
 use Rattle.std.specs.Option.{option_map}
 use Rattle.opl_term.specs.declared.term.GroupTerm.{GroupTerm}
@@ -8,15 +8,15 @@ use Rattle.opl_term.specs.declared.term.GroupTerm.TheViews.{roll-Step, roll-Term
 use Rattle.opl_term.specs.declared.term.SetTerm.{SetTerm}
 use Rattle.opl_term.specs.declared.term.Step.{Step}
 use Rattle.opl_term.specs.declared.term.Term.{Term}
-use Rattle.opl_eval.specs.Evaluation.{Environment, Group, eval, group_meaning}
+use Rattle.opl_eval.specs.Evaluation.{Environment, eval, group_meaning}
 use Rattle.opl_meaning.specs.declared.variable.VariableItem.{VariableItem}
 use Rattle.opl_meaning.specs.Runs.{Names, group_use}
 use Rattle.opl_draft.specs.Choices.{under}
-use Rattle.opl_draft.specs.Drafts.{Draft, DraftStep, drafts_of, steps_of}
+use Rattle.opl_draft.specs.Drafts.{drafts_of, steps_of}
 use Rattle.opl_draft.specs.Drafts.Draft.{broken, chain, equivalent, one_of, all_of, aggregate, element}
-use Rattle.opl_draft.specs.Forms.{HasForm, IsByForm, array_in, bodies_in, cells_in, form_array, form_cells, form_clean, form_draft, form_name, form_place, form_step, is_clean_step, is_name, step_in}
+use Rattle.opl_draft.specs.Forms.{HasForm, array_in, form_array, form_cells, form_clean, form_draft, form_name, form_place, form_step, is_clean_step, is_name, step_in}
 use Rattle.opl_draft.specs.Laws.{StepByForm, UnrolledByForm}
-use Rattle.opl_draft.specs.Unrolled.{Part, StepPart, clean_layer, data_draft, is_clean, is_mentioned, layer_array, layer_cells, live_layer, name_layer, operand_layer, part_of, place_layer, step_part, unrolled}
+use Rattle.opl_draft.specs.Unrolled.{clean_layer, data_draft, is_clean, is_mentioned, layer_array, layer_cells, live_layer, name_layer, operand_layer, part_of, place_layer, step_part, unrolled}
 use Rattle.opl_draft.proofs.Parts.{part-form, part_group, part_group_is, part_term, parts_of, step-roll, step_parts}
 
 module _ (items : List VariableItem) (names : Names) where

@@ -5,4 +5,5 @@ mod Forms
 mod Instances
 mod Names
 mod Parts
+mod Settled
 mod Unrolls

@@ -8,7 +8,6 @@ use Rattle.opl_tree.specs.declared.instruction.InstrTree.TheVariants as instr
 use Rattle.opl_tree.specs.declared.instruction.ItemTree.TheOpen.{ItemTree-F, ItemsTree-F, BlockTree-F}
 use Rattle.opl_tree.specs.declared.instruction.ItemTree.TheFolds.{fold-BlockTree}
 use Rattle.opl_term.specs.declared.term.ParamsTerm.{ParamsTerm}
-use Rattle.opl_term.specs.declared.term.Term.{Term}
 use Rattle.opl_term.specs.Terms.{expr_term, params_term}
 use Rattle.opl_meaning.specs.declared.variable.VariableItem.{VariableItem}
 use Rattle.opl_meaning.specs.Runs.{Names, group_use}

@@ -1,12 +1,12 @@
 -- What an unrolled expression is, form by form, by what its parts are.
-use Rattle.std.specs.Prelude.{◌≡◌, ℕ, pos, Bool, true, false, not, ◌&&◌, cond, List, [], ◌∷◌, map, Option, Some, None}
+use Rattle.std.specs.Prelude.{◌≡◌, ℕ, pos, Bool, true, false, not, ◌&&◌, cond, List, [], ◌∷◌, map, Option, None}
 use Rattle.std.specs.List.{list_all}
 use Rattle.opl_term.specs.declared.term.GroupTerm.{GroupTerm}
 use Rattle.opl_term.specs.declared.term.SetTerm.{SetTerm}
 use Rattle.opl_term.specs.declared.term.Step.{Step}
 use Rattle.opl_term.specs.declared.term.Term.{Term}
 use Rattle.opl_term.specs.declared.term.GroupTerm.TheOpen.{Step-F, Term-F}
-use Rattle.opl_term.specs.declared.term.GroupTerm.TheViews.{roll-Step, roll-Term}
+use Rattle.opl_term.specs.declared.term.GroupTerm.TheViews.{roll-Term}
 use Rattle.opl_value.specs.declared.value.Value.TheVariants as values
 use Rattle.opl_eval.specs.Evaluation.{Environment, eval, group_meaning, parameter_or}
 use Rattle.opl_meaning.specs.declared.variable.VariableItem.{VariableItem}

@@ -1,5 +1,5 @@
 -- Laws of unrolling.
-use Rattle.std.specs.Prelude.{◌≡◌, ℤ, Bool, true, filter, List, length, map}
+use Rattle.std.specs.Prelude.{◌≡◌, ◌≢◌, ℤ, Bool, true, false, filter, List, length, map, Some, Ok, Err}
 use Rattle.std.specs.List.{All, flat_map, list_all}
 use Rattle.opl_tree.specs.declared.instruction.InstrTree.{InstrTree}
 use Rattle.opl_term.specs.declared.term.GroupTerm.{GroupTerm}
@@ -8,6 +8,8 @@ use Rattle.opl_term.specs.declared.term.GroupTerm.TheViews.{roll-Step}
 use Rattle.opl_term.specs.declared.term.SetTerm.{SetTerm}
 use Rattle.opl_term.specs.declared.term.Step.{Step}
 use Rattle.opl_term.specs.declared.term.Term.{Term}
+use Rattle.opl_value.specs.declared.value.Value.{Value}
+use Rattle.opl_eval.specs.declared.fault.EvalFault.{EvalFault}
 use Rattle.opl_eval.specs.Evaluation.{Environment, eval}
 use Rattle.opl_meaning.specs.declared.variable.VariableItem.{VariableItem}
 use Rattle.opl_meaning.specs.Assigned.{with_variables}
@@ -15,10 +17,11 @@ use Rattle.opl_meaning.specs.Laws.{HasOneSet}
 use Rattle.opl_meaning.specs.Runs.{Names}
 use Rattle.opl_meaning.specs.Solutions.{declared_sets, product, truth}
 use Rattle.opl_draft.specs.Clean.{is_clean_instr}
-use Rattle.opl_draft.specs.Drafts.{Cells, draft_value}
+use Rattle.opl_draft.specs.Drafts.{Cells, Draft, draft_value}
 use Rattle.opl_draft.specs.Forms.{HasForm, form_step, step_in}
 use Rattle.opl_draft.specs.Instances.{Condition, Instance, condition_of, instances, is_clean_instance}
 use Rattle.opl_draft.specs.Numbers.{arrays_of, entries}
+use Rattle.opl_draft.specs.Settled.{settled}
 use Rattle.opl_draft.specs.Solutions.{Model, holds, solutions}
 use Rattle.opl_draft.specs.Unrolled.{is_clean, unrolled}
 
@@ -65,3 +68,16 @@ UnrolledByForm = (items : List VariableItem) (names : Names) (x : Term-F GroupTe
 
 abbrev pub StepByForm : Type 0
 StepByForm = (items : List VariableItem) (names : Names) (x : Step-F GroupTerm SetTerm Step Term) (env : Environment) → step_in items names (roll-Step x) env ≡ form_step items names x env
+
+-- a draft whose fault is settled comes to no value under any assignment
+abbrev pub SettledFaults : Type 0
+SettledFaults = (cells : List Cells) (ns : List ℤ) (d : Draft) (fault : EvalFault) (v : Value) → settled cells d ≡ Err fault → draft_value cells ns d ≢ Ok v
+
+-- a draft whose value is settled comes to no other value under any assignment
+abbrev pub SettledValues : Type 0
+SettledValues = (cells : List Cells) (ns : List ℤ) (d : Draft) (v w : Value) → settled cells d ≡ Ok (Some v) → draft_value cells ns d ≡ Ok w → v ≡ w
+
+-- an instance whose fault is settled holds under no assignment
+abbrev pub SettledInstances : Type 0
+SettledInstances = (items : List VariableItem) (names : Names) (ns : List ℤ) (env : Environment) (i : Instance) (fault : EvalFault) → AreDeclared items names → Fits items ns →
+    is_clean_instance items names i ≡ true → settled (arrays env items) (condition_of items names env i).draft ≡ Err fault → holds env items ns i ≡ false

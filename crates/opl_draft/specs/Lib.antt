@@ -5,5 +5,6 @@ pub mod Unrolled
 pub mod Forms
 pub mod Instances
 pub mod Clean
+pub mod Settled
 pub mod Solutions
 pub mod Laws

@@ -1,5 +1,5 @@
 //! Laws of unrolling, as contracts of functions without effect.
-ghost use Rattle.opl_draft.specs.Laws.{InstanceMeans, InstancesClean, SolutionsUnrolled, StepByForm, UnrolledByForm, UnrolledMeans};
+ghost use Rattle.opl_draft.specs.Laws.{InstanceMeans, InstancesClean, SettledFaults, SettledInstances, SettledValues, SolutionsUnrolled, StepByForm, UnrolledByForm, UnrolledMeans};
 
 /// Under an assignment an unrolled expression comes to what the expression does where the decision variables have its values, be it a
 /// value or a fault with its place. The variables stand only where typing lets them.
@@ -32,4 +32,19 @@ pub fn unrolled_by_form()
 /// Each form of steps is unrolled by its operand.
 pub fn step_by_form()
     ensures { StepByForm }
+{}
+
+/// A draft in which a fault depends on no decision variable comes to no value under any assignment.
+pub fn settled_faults()
+    ensures { SettledFaults }
+{}
+
+/// A draft in which no decision variable is left comes to its one value under every assignment, or to none.
+pub fn settled_values()
+    ensures { SettledValues }
+{}
+
+/// An instance in which a fault depends on no decision variable holds under no assignment.
+pub fn settled_instances()
+    ensures { SettledInstances }
 {}
