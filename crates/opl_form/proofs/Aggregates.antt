@@ -21,13 +21,12 @@ use Rattle.opl_expr.specs.Sound.{term_magnitude}
 use Rattle.opl_expr.proofs.Plain.{term_Abs, term_Max, term_Min}
 use Rattle.opl_form.specs.Parts.{Form, all_known, as_number, tables}
 use Rattle.opl_form.specs.Nodes.{absolute, folded, greatest_of, least, multiplied, number_node, product, product_from, size}
+use Rattle.opl_form.specs.Worth.{some_of, Worth, plain, val}
 use Rattle.opl_form.proofs.Binary.{by_numbers, multiplied-worth}
 use Rattle.opl_form.proofs.Forms.{one-whole, with_one, with_two}
 use Rattle.opl_form.proofs.Sums.{number_part-worth}
 use Rattle.opl_form.proofs.Nodes.{AreWorth, folded-worth, next-made, number-node, numbers-worth, values-list, whole, whole-map}
-use Rattle.opl_form.specs.Worth.{some_of}
 use Rattle.opl_form.proofs.Nodes as nodes
-use Rattle.opl_form.specs.Worth.{Worth, plain, val}
 use Rattle.opl_form.proofs.Views.{as_number-worth, number-Int}
 
 -- ---- the least and the greatest, from the right
@@ -164,9 +163,6 @@ module _ (sets : List (ℤ × ℤ)) (arrays : List Cells) (item : ℕ) (ns : Lis
     -- a first value times others
     abbrev times_all : ℕ → Option Value → List (Option Value) → Option Value
     times_all at r rs = bind1 (λ v. bind1 (λ vs. some_of (integer (run at (compare.number v) (map Times (map compare.number vs))))) (whole rs)) r
-
-    times-none : (at : ℕ) (rs : List (Option Value)) → times_all at None rs ≡ None
-    times-none at rs = refl
 
     times-more : (at : ℕ) (r s : Option Value) (rs : List (Option Value)) → times_all at (with_two (by_numbers (arithmetic.times at)) r s) rs ≡ times_all at r (s ∷ rs)
     times-more at None s rs = refl

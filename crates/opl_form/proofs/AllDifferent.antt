@@ -30,11 +30,11 @@ use Rattle.opl_form.specs.Parts.Form.{known, condition}
 use Rattle.opl_form.specs.Measures as measures
 use Rattle.opl_form.specs.Nodes as making
 use Rattle.opl_form.specs.Nodes.{Made, all_differ, are_alike, condition_node, different, has_positions, known_node, size, two_greatest, variable_sort, variable_sorts}
+use Rattle.opl_form.specs.Worth.{Worth, hold, plain, val}
 use Rattle.opl_form.proofs.Nodes.{counted-made, sized-made}
 use Rattle.opl_form.proofs.Nodes as nodes
 use Rattle.opl_form.proofs.Values.{eq-ranks}
 use Rattle.opl_form.proofs.Variables.{val-Var, variable-rank}
-use Rattle.opl_form.specs.Worth.{Worth, hold, plain, val}
 
 -- ---- numbers that differ
 

@@ -18,13 +18,12 @@ use Rattle.opl_expr.specs.Holds as holding
 use Rattle.opl_expr.specs.Holds.{value}
 use Rattle.opl_expr.specs.Options.{lift1, bind1, lift, bind}
 use Rattle.opl_expr.specs.Sound.{term_magnitude}
+use Rattle.opl_expr.proofs.Plain.{term_Mul, term_Div, term_Rem}
 use Rattle.opl_form.specs.Parts.{Form, all_known, as_number, tables}
 use Rattle.opl_form.specs.Nodes.{Fault, Made, divided, folded, is_zero, left_over, multiplied, number_node, size, unless_zero}
-use Rattle.opl_expr.proofs.Plain.{term_Mul, term_Div, term_Rem}
-use Rattle.opl_form.specs.Worth.{Worth, plain, val}
+use Rattle.opl_form.specs.Worth.{Worth, plain, val, some_of}
 use Rattle.opl_form.proofs.Views.{as_number-worth}
 use Rattle.opl_form.proofs.Nodes.{AreWorth, abs_total, folded-live, folded-worth, from_right, next-made, number-node, run-total, sum-small, sum-value, size-sum}
-use Rattle.opl_form.specs.Worth.{some_of}
 use Rattle.opl_form.proofs.Nodes as nodes
 use Rattle.opl_form.proofs.Forms.{with_two, two-whole}
 use Rattle.opl_form.proofs.Chains.{product-value}

@@ -16,9 +16,9 @@ use Rattle.opl_draft.specs.Drafts.Sign.{plus, minus}
 use Rattle.opl_expr.specs.Forms.{Term, constant_value, product, product_by}
 use Rattle.opl_expr.specs.Holds.{value}
 use Rattle.opl_expr.specs.Options.{lift1, bind1, lift}
+use Rattle.opl_form.specs.Worth.{some_of}
 use Rattle.opl_form.proofs.Views.{number-Int}
 use Rattle.opl_form.proofs.Nodes.{AreWorth, abs_total, folded-live, folded-worth, from_right, next-made, number-node, run-total, sum-small, sum-value, size-sum}
-use Rattle.opl_form.specs.Worth.{some_of}
 use Rattle.opl_form.proofs.Nodes as nodes
 use Rattle.opl_form.proofs.Forms.{with_one}
 

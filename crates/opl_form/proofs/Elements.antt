@@ -2,48 +2,42 @@
 use Rattle.std.proofs.Common.{◌≡◌, ◌≢◌, ℕ, zero, suc, ◌+◌, ◌*◌, ◌<◌, ◌≤◌, ℤ, pos, Bool, true, false, cond, ◌&&◌, nat_lt, unsigned_abs, length, slice_get, List, [], ◌∷◌, map, Option, None, Some, Ok, Err, refl, sym, ap, subst, ◌∙◌, arith}
 use Rattle.std.specs.Option.{option_map}
 use Rattle.std.specs.Prelude.{slice_index_or}
-use Rattle.opl_eval.specs.declared.fault.EvalFault.TheVariants.{OutOfIndex}
-use Rattle.opl_value.proofs.PlaceLaws.{places_below}
-use Rattle.opl_expr.specs.Forms.{terms_of}
-use Rattle.opl_expr.specs.Holds.{all_values}
-use Rattle.opl_expr.specs.Sound.{IsSoundTable, greatest_abs}
-use Rattle.opl_expr.proofs.Cells.{reached as reached_in}
-use Rattle.opl_expr.proofs.Plain.{term_At}
-use Rattle.opl_form.specs.Parts.{are_indices, table_of, tables}
-use Rattle.opl_form.specs.Made.{array_of}
-use Rattle.opl_form.proofs.Nodes.{whole-map}
-use Rattle.opl_form.proofs.Tables.{cell_at, get-map, ints_place, reached-cell}
-use Rattle.opl_form.proofs.Values.{alike-same, eq-ranks, int-back, name-back}
-use Rattle.opl_form.proofs.Variables.{variable-at, variable-worth, variables-rank}
-use Rattle.opl_form.specs.Worth.{plain}
 use Rattle.std.specs.Ordering.{int_eq}
 use Rattle.std.proofs.lemmas.Bool.{and_parts}
+use Rattle.opl_value.proofs.PlaceLaws.{places_below}
 use Rattle.opl_value.specs.declared.value.Value.{Value}
 use Rattle.opl_value.specs.declared.value.Value.TheVariants as values
 use Rattle.opl_value.specs.declared.value.Dimension.TheViews.{out-Value}
 use Rattle.opl_value.specs.Places as places
 use Rattle.opl_value.specs.Places.{elements, joint, place_of, value_at}
+use Rattle.opl_eval.specs.declared.fault.EvalFault.TheVariants.{OutOfIndex}
 use Rattle.opl_eval.specs.Compare.{rank}
 use Rattle.opl_eval.specs.Evaluation.{at_place}
 use Rattle.opl_meaning.specs.Assigned.{position_of}
 use Rattle.opl_meaning.specs.declared.variable.Kind.{Kind}
 use Rattle.opl_draft.specs.Drafts.{Cells, Leaves, array_at, chosen, leaf_values, variable_values}
 use Rattle.opl_draft.specs.Drafts.Leaves.{listed, numbered}
+use Rattle.opl_expr.specs.Forms.{terms_of, Term}
+use Rattle.opl_expr.specs.Holds.{all_values, value, place_in}
+use Rattle.opl_expr.specs.Sound.{IsSoundTable, greatest_abs, keys, term_magnitude}
+use Rattle.opl_expr.proofs.Cells.{reached as reached_in}
+use Rattle.opl_expr.proofs.Plain.{term_At}
 use Rattle.opl_expr.specs.declared.tables.Cell.TheVariants as cell
 use Rattle.opl_expr.specs.declared.forms.Expr.TheVariants as E
-use Rattle.opl_expr.specs.Forms.{Term}
-use Rattle.opl_expr.specs.Holds.{value, place_in}
 use Rattle.opl_expr.specs.Options.{lift1, bind1, lift}
-use Rattle.opl_expr.specs.Sound.{keys, term_magnitude}
-use Rattle.opl_form.specs.Parts.{Form, Sort, alike, all_alike, all_known, cells_of, first_sort, key_layer, key_sort, number_cells, ranked, subscripts_fit}
+use Rattle.opl_form.specs.Parts.{are_indices, table_of, tables, Form, Sort, alike, all_alike, all_known, cells_of, first_sort, key_layer, key_sort, number_cells, ranked, subscripts_fit}
+use Rattle.opl_form.specs.Made.{array_of}
+use Rattle.opl_form.specs.Worth.{plain, Worth, hold, some_of, val}
 use Rattle.opl_form.specs.Measures as measures
 use Rattle.opl_form.specs.Nodes as making
 use Rattle.opl_form.specs.Nodes.{Made, element_at, element_node, element_sort, has_positions, indexed, known_node, looked_up, number_node, placed, size, variable_sort, variable_sorts, with_indices}
 use Rattle.opl_form.specs.Parts.Form.{known, number, name, condition, truth}
 use Rattle.opl_form.specs.Parts.Sort.{whole, named, other}
-use Rattle.opl_form.specs.Worth.{Worth, hold, some_of, val}
+use Rattle.opl_form.proofs.Nodes.{whole-map, AreWorth, counted-made, number-node, sized-made}
+use Rattle.opl_form.proofs.Tables.{cell_at, get-map, ints_place, reached-cell}
+use Rattle.opl_form.proofs.Values.{alike-same, eq-ranks, int-back, name-back}
+use Rattle.opl_form.proofs.Variables.{variable-at, variable-worth, variables-rank}
 use Rattle.opl_form.proofs.Views.{rank-worth}
-use Rattle.opl_form.proofs.Nodes.{AreWorth, counted-made, number-node, sized-made}
 use Rattle.opl_form.proofs.Nodes as nodes
 
 length-map : {A B : Type 0} (f : A → B) (xs : List A) → length (map f xs) ≡ length xs

@@ -29,18 +29,17 @@ use Rattle.opl_expr.specs.Holds as holding
 use Rattle.opl_expr.specs.Holds.{value, all_values, holds, all_hold, op_relates}
 use Rattle.opl_expr.specs.Options.{lift1, bind1, lift, lift_all}
 use Rattle.opl_expr.specs.Sound.{term_magnitude}
+use Rattle.opl_expr.proofs.Plain.{term_Neg, fact_And, fact_Or, fact_Not, fact_Imp, fact_Iff, fact_Cmp}
 use Rattle.opl_form.specs.Parts.{Form, Sort, alike, all_known, as_condition, as_number, nothing, ranked, sort_of, tables, value_sort}
 use Rattle.opl_form.specs.Measures as measures
 use Rattle.opl_form.specs.Nodes as making
 use Rattle.opl_form.specs.Nodes.{Fault, Made, by_kind, compared, condition_node, counted, folded, negated, number_node, op_of, size, sized}
 use Rattle.opl_form.specs.Parts.Form.{known, number, name, condition, truth}
 use Rattle.opl_form.specs.Parts.Sort.{whole, named}
-use Rattle.opl_expr.proofs.Plain.{term_Neg, fact_And, fact_Or, fact_Not, fact_Imp, fact_Iff, fact_Cmp}
+use Rattle.opl_form.specs.Worth.{Worth, hold, plain, val, some_of}
 use Rattle.opl_form.proofs.Values.{equal-alike, equal-unlike, is_plain}
-use Rattle.opl_form.specs.Worth.{Worth, hold, plain, val}
 use Rattle.opl_form.proofs.Views.{as_number-worth, rank-worth, truth-worth, val-nothing}
 use Rattle.opl_form.proofs.Nodes.{AreWorth, counted-made, folded-live, folded-worth, lift-whole, number-node, sized-made}
-use Rattle.opl_form.specs.Worth.{some_of}
 use Rattle.opl_form.proofs.Nodes as nodes
 
 -- one value, and two

@@ -21,8 +21,9 @@ use Rattle.opl_expr.specs.declared.forms.Expr.TheVariants as E
 use Rattle.opl_expr.specs.Forms.{Term}
 use Rattle.opl_expr.specs.Holds.{value}
 use Rattle.opl_expr.specs.Options.{lift1, bind1, lift}
-use Rattle.opl_expr.specs.Sound.{term_magnitude}
-use Rattle.opl_form.specs.Parts.{Form, as_number}
+use Rattle.opl_expr.specs.Sound.{term_magnitude, IsSoundTable}
+use Rattle.opl_expr.proofs.Bounds.{sound_small}
+use Rattle.opl_form.specs.Parts.{Form, as_number, table_of}
 use Rattle.opl_form.specs.Measures as measures
 use Rattle.opl_form.specs.Measures.{all_nodes, part_nodes}
 use Rattle.opl_form.specs.Nodes as making
@@ -30,17 +31,13 @@ use Rattle.opl_form.specs.Nodes.{Fault, Made, Parts, aggregated, by_sign, chain_
 use Rattle.opl_form.specs.Made as whole_drafts
 use Rattle.opl_form.specs.Made.{array_of, made_all, made_operands, made_first, made_same, made_steps, place, places}
 use Rattle.opl_form.specs.Parts.Form.{known, number, name, condition, truth as truth_of}
-use Rattle.opl_form.specs.Worth.{Worth, plain}
+use Rattle.opl_form.specs.Worth.{Worth, plain, some_of}
 use Rattle.opl_form.proofs.Views.{as_number-worth, true-Bool}
 use Rattle.opl_form.proofs.Nodes.{AreWorth, abs_total, counted-made, folded-live, folded-worth, from_right, next-made, number-node, run-total, sized-made, sum-small, sum-value, summed-worth, size-sum}
-use Rattle.opl_form.specs.Worth.{some_of}
 use Rattle.opl_form.proofs.Nodes as nodes
 use Rattle.opl_form.proofs.Forms.{all_hold-worth, compared-worth, implied-worth, negated-worth, one_holds-worth, opposite-worth, same-worth, same_as, with_one, with_two}
 use Rattle.opl_form.proofs.Chains.{chain_value}
 use Rattle.opl_form.proofs.Variables.{variable-worth}
-use Rattle.opl_expr.specs.Sound.{IsSoundTable}
-use Rattle.opl_expr.proofs.Bounds.{sound_small}
-use Rattle.opl_form.specs.Parts.{table_of}
 use Rattle.opl_form.proofs.Aggregates.{FirstSmall, absolute-worth, greatest-worth, least-worth, product-worth}
 use Rattle.opl_form.proofs.AllDifferent.{different-worth}
 use Rattle.opl_form.proofs.Elements.{indexed-worth}
@@ -51,14 +48,6 @@ use Rattle.opl_form.proofs.Sums.{Parts-worth, chained-worth, stepped-worth, trut
 some-then : {A B : Type 0} (r : Found A) (f : A → Found B) → some_of (then r f) ≡ bind1 (λ x. some_of (f x)) (some_of r)
 some-then (Ok x) f = refl
 some-then (Err e) f = refl
-
-some-found : {A B : Type 0} (f : A → B) (r : Found A) → some_of (found f r) ≡ lift1 f (some_of r)
-some-found f (Ok x) = refl
-some-found f (Err e) = refl
-
-bind-like : {A B : Type 0} (f g : A → Option B) (r : Option A) → ((x : A) → f x ≡ g x) → bind1 f r ≡ bind1 g r
-bind-like f g None h = refl
-bind-like f g (Some x) h = h x
 
 some-more : {A B : Type 0} (r : Found A) (f : A → B) (s : Found (List B)) → some_of (then (found f r) (λ x. found (λ xs. x ∷ xs) s)) ≡ lift (λ x xs. x ∷ xs) (lift1 f (some_of r)) (some_of s)
 some-more (Ok x) f (Ok xs) = refl

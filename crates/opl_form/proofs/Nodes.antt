@@ -15,12 +15,12 @@ use Rattle.opl_expr.specs.Forms.{Term, terms_of}
 use Rattle.opl_expr.specs.Holds.{value, all_values}
 use Rattle.opl_expr.specs.Options.{lift1, bind1, lift, lift_all}
 use Rattle.opl_expr.specs.Sound.{term_magnitude, sum_magnitude}
+use Rattle.opl_expr.proofs.Plain.{term_Sum}
 use Rattle.opl_form.specs.Parts.{Form, all_known, as_number, tables, with_value}
 use Rattle.opl_form.specs.Measures as measures
 use Rattle.opl_form.specs.Nodes as making
 use Rattle.opl_form.specs.Nodes.{Fault, Made, counted, folded, known_node, next, number_node, condition_node, size, sized, summed}
 use Rattle.opl_form.specs.Parts.Form.{known, number, name, condition, truth}
-use Rattle.opl_expr.proofs.Plain.{term_Sum}
 use Rattle.opl_form.specs.Worth.{some_of, Worth, plain, val}
 use Rattle.opl_form.proofs.Views.{as_number-worth}
 
@@ -56,10 +56,6 @@ whole-map h (Some v ∷ rs) = ap (lift (λ x xs. x ∷ xs) (Some (h v))) (whole-
     more : (o : Option (List _)) → lift (λ x xs. x ∷ xs) (Some (h v)) (lift1 (map h) o) ≡ lift1 (map h) (lift (λ x xs. x ∷ xs) (Some v) o)
     more None = refl
     more (Some vs) = refl
-
-whole-some : {A : Type 0} (vs : List A) → whole (map (λ v. Some v) vs) ≡ Some vs
-whole-some [] = refl
-whole-some (v ∷ vs) = ap (lift (λ x xs. x ∷ xs) (Some v)) (whole-some vs)
 
 -- ---- tests that passed
 

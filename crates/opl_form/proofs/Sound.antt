@@ -43,10 +43,10 @@ use Rattle.opl_form.specs.Measures.{depth, depth_of, greatest, nodes, nodes_of, 
 use Rattle.opl_form.specs.Nodes as making
 use Rattle.opl_form.specs.Nodes.{Made, Parts, absolute, aggregated, all_differ, are_alike, as_operand, by_kind, by_sign, chain_of, chained, compared, condition_node, counted, different, divided, element_at, element_node, element_sort, evaluated, folded, greatest_of, implied, indexed, is_zero, known_node, least, left_over, looked_up, multiplied, negated, next, number_node, number_part, op_of, operand, opposite, parts_nodes, placed, product, product_from, size, sized, stepped, summed, truth_part, two_greatest, unless_zero, value_node, variable_sort, variable_sorts, with_indices}
 use Rattle.opl_form.specs.Made.{array_of, made, made_all, made_first, made_operands, made_same, made_steps, place, places}
+use Rattle.opl_form.specs.Worth.{plain, plain_fact}
 use Rattle.opl_form.proofs.Nodes.{next-made, ok-same, sized-made}
 use Rattle.opl_form.proofs.Nodes as proved
 use Rattle.opl_form.proofs.SoundParts.{AreSound, IsSoundPart, all-sound, as_condition-sound, as_number-sound, cmp-sound, conditions-sound, differ-sound, known-small, nothing-cmp, numbers-sound, ranked-sound, ranks-sound}
-use Rattle.opl_form.specs.Worth.{plain, plain_fact}
 use Rattle.opl_form.proofs.SoundValues.{AreSmallValues, IsSmallValue, SmallFound, bool-small, chain-result, divided-result, greatest-result, integer-small, le-out, least-result, lt-out, max-small, one-small, sized-result, small-Bool, small-Int, small-rank, sum-result}
 use Rattle.opl_form.proofs.Tables.{get-map}
 

@@ -20,9 +20,9 @@ use Rattle.opl_form.specs.Parts.{Form, all_known, as_condition, as_number, nothi
 use Rattle.opl_form.specs.Parts.Form.{known, number, name, condition, truth}
 use Rattle.opl_form.specs.Measures.{greatest}
 use Rattle.opl_form.specs.Nodes.{size, two_greatest}
+use Rattle.opl_form.specs.Worth.{plain, plain_fact}
 use Rattle.opl_form.proofs.Nodes.{next-made, ok-same, sized-made}
 use Rattle.opl_form.proofs.Nodes as proved
-use Rattle.opl_form.specs.Worth.{plain, plain_fact}
 use Rattle.opl_form.proofs.SoundValues.{IsSmallValue, AreSmallValues, nothing-times, zero-small}
 
 -- facts one after another

@@ -19,17 +19,16 @@ use Rattle.opl_expr.specs.Forms.{Term}
 use Rattle.opl_expr.specs.Holds.{value}
 use Rattle.opl_expr.specs.Options.{lift1, bind1, lift}
 use Rattle.opl_expr.specs.Sound.{term_magnitude}
+use Rattle.opl_expr.proofs.Plain.{term_Neg}
 use Rattle.opl_form.specs.Parts.{as_condition, Form, as_number, tables}
 use Rattle.opl_form.specs.Measures as measures
 use Rattle.opl_form.specs.Measures.{all_nodes, part_nodes}
 use Rattle.opl_form.specs.Nodes as making
 use Rattle.opl_form.specs.Nodes.{Fault, Made, Parts, aggregated, by_sign, chain_of, chained, different, divided, folded, indexed, known_node, as_operand, multiplied, negated, next, number_node, number_part, operand, parts_nodes, size, stepped, truth_part, has_positions, variable_sort, element_node}
 use Rattle.opl_form.specs.Parts.Form.{known, number, name, condition, truth as truth_of}
-use Rattle.opl_expr.proofs.Plain.{term_Neg}
-use Rattle.opl_form.specs.Worth.{Worth, hold, plain, val}
+use Rattle.opl_form.specs.Worth.{Worth, hold, plain, val, some_of}
 use Rattle.opl_form.proofs.Views.{as_number-worth, lift-twice, truth-worth}
 use Rattle.opl_form.proofs.Nodes.{AreWorth, abs_total, counted-made, folded-live, folded-worth, from_right, next-made, number-node, run-total, sized-made, sum-small, sum-value, summed-worth, size-sum}
-use Rattle.opl_form.specs.Worth.{some_of}
 use Rattle.opl_form.proofs.Nodes as nodes
 use Rattle.opl_form.proofs.Forms.{negated-worth, negative_of, with_one, with_two}
 use Rattle.opl_form.proofs.Chains.{after_parts, chain_value, minus-part, other-part, plus-part, with_operand}

@@ -30,9 +30,6 @@ is_plain other = false
 whole-other : whole ≡ other → ⊥
 whole-other e = cc
 
-whole-named : (d : ℕ) → whole ≡ named d → ⊥
-whole-named d e = cc
-
 named-same : (c d : ℕ) → named c ≡ named d → c ≡ d
 named-same c d e = cc
 
@@ -56,11 +53,6 @@ pub alike-plain : (s t : Sort) → alike s t ≡ true → is_plain s ≡ true
 alike-plain whole t h = refl
 alike-plain (named c) t h = refl
 alike-plain other t h = absurd (cc)
-
-pub plain-alike : (s : Sort) → is_plain s ≡ true → alike s s ≡ true
-plain-alike whole h = refl
-plain-alike (named c) h = nat-self c
-plain-alike other h = absurd (cc)
 
 -- ---- one layer of a value
 

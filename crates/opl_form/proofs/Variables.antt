@@ -23,10 +23,10 @@ use Rattle.opl_form.specs.Parts.Sort.{whole, named, other}
 use Rattle.opl_form.specs.Measures as measures
 use Rattle.opl_form.specs.Nodes as making
 use Rattle.opl_form.specs.Nodes.{element_node, has_positions, size, variable_sort, variable_sorts}
+use Rattle.opl_form.specs.Worth.{Worth, val}
 use Rattle.opl_form.proofs.Nodes.{counted-made, number-node, sized-made}
 use Rattle.opl_form.proofs.Nodes as nodes
 use Rattle.opl_form.proofs.Values.{alike-same}
-use Rattle.opl_form.specs.Worth.{Worth, val}
 use Rattle.opl_form.proofs.Views.{rank-Enum, rank-Int}
 
 -- nothing is like what is no number and no name

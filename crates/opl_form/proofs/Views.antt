@@ -18,10 +18,10 @@ use Rattle.opl_expr.specs.declared.forms.Op.TheVariants.{Ne}
 use Rattle.opl_expr.specs.Forms.{Term, Fact, term, fact, product}
 use Rattle.opl_expr.specs.Holds.{bit, value, holds, relates}
 use Rattle.opl_expr.specs.Options.{lift1, lift}
+use Rattle.opl_expr.proofs.Plain.{term_Const, term_Mul, term_Truth, fact_Cmp, fact_Fixed}
 use Rattle.opl_form.specs.Worth.{Worth, hold, plain, val}
 use Rattle.opl_form.specs.Parts.{Form, as_condition, as_number, nothing, ranked, tables}
 use Rattle.opl_form.specs.Parts.Form.{known, number, name, condition, truth}
-use Rattle.opl_expr.proofs.Plain.{term_Const, term_Mul, term_Truth, fact_Cmp, fact_Fixed}
 
 -- ---- values
 
@@ -61,10 +61,6 @@ lift-twice f g h is (Some x) = ap (λ y. Some y) (is x)
 pub lift-same : {A : Type 0} (f : A → A) → ((x : A) → f x ≡ x) → (r : Option A) → lift1 f r ≡ r
 lift-same f is None = refl
 lift-same f is (Some x) = ap (λ y. Some y) (is x)
-
-pub lift-like : {A B : Type 0} (f g : A → B) → ((x : A) → f x ≡ g x) → (r : Option A) → lift1 f r ≡ lift1 g r
-lift-like f g is None = refl
-lift-like f g is (Some x) = ap (λ y. Some y) (is x)
 
 zero-times : (v : ℤ) → (pos 0) *ℤ v ≡ pos 0
 zero-times (pos n) = omega (arith, ints)

@@ -1,15 +1,15 @@
--- Laws of ground forms.
+-- Laws of forms.
 use Rattle.std.specs.Prelude.{◌≡◌, ℕ, ◌+◌, ◌≤◌, ℤ, unsigned_abs, Bool, true, filter, List, map, Some, Ok}
 use Rattle.std.specs.List.{All, flat_map, list_all}
-use Rattle.opl_draft.specs.Drafts.{Cells, Draft, draft_value}
+use Rattle.opl_domain.specs.Family.{Family}
+use Rattle.opl_domain.specs.Span.{values}
 use Rattle.opl_meaning.specs.declared.variable.VariableItem.{VariableItem}
 use Rattle.opl_meaning.specs.Runs.{Names}
 use Rattle.opl_meaning.specs.Solutions.{declared_sets, product}
+use Rattle.opl_draft.specs.Drafts.{Cells, Draft, draft_value}
 use Rattle.opl_draft.specs.Instances.{Condition, condition_of, is_clean_instance}
 use Rattle.opl_draft.specs.Laws.{AreDeclared, arrays as arrays_in, is_met}
 use Rattle.opl_draft.specs.Solutions.{Model, solutions}
-use Rattle.opl_domain.specs.Family.{Family}
-use Rattle.opl_domain.specs.Span.{values}
 use Rattle.opl_expr.specs.declared.forms.Cons.{Cons}
 use Rattle.opl_expr.specs.Forms.{Term}
 use Rattle.opl_expr.specs.Holds.{value}
@@ -37,7 +37,7 @@ AreSoundArrays sets arrays = All (λ a. IsSoundTable sets (Some (table_of a))) a
 abbrev pub ValuesAreSmall : Type 0
 ValuesAreSmall = (sets : List (ℤ × ℤ)) (ns : List ℤ) (t : Term) (v : ℤ) → IsAssignment sets ns → value ns t ≡ Some v → unsigned_abs v ≤ term_magnitude sets t
 
--- A ground form is worth what its draft comes to, under each assignment of the declared sets: the same value, or none where the draft has a fault.
+-- A form is worth what its draft comes to, under each assignment of the declared sets: the same value, or none where the draft has a fault.
 abbrev pub MadeIsWorth : Type 0
 MadeIsWorth = (sets : List (ℤ × ℤ)) (arrays : List Cells) (item n : ℕ) (d : Draft) (g : Form) → AreSoundArrays sets arrays → made sets arrays item n d ≡ Ok g →
     (ns : List ℤ) → IsAssignment sets ns → Worth arrays ns (some_of (draft_value arrays ns d)) g
@@ -50,7 +50,7 @@ pub record IsSoundForm (sets : List (ℤ × ℤ)) (arrays : List Cells) (n : ℕ
   pub depth : part_depth g ≤ 2048
   pub nodes : n + part_nodes g ≤ 4194304
 
--- Each ground form is sound, and within the limits.
+-- Each form that is made is sound, and within the limits.
 abbrev pub MadeIsSound : Type 0
 MadeIsSound = (sets : List (ℤ × ℤ)) (arrays : List Cells) (item n : ℕ) (d : Draft) (g : Form) → AreSoundArrays sets arrays → made sets arrays item n d ≡ Ok g → IsSoundForm sets arrays n g
 

@@ -1,4 +1,4 @@
--- The nodes of ground forms, each with its tests: at a node its magnitude first, then the depth, then the number of nodes. A node whose parts are
+-- The nodes of forms, each with its tests: at a node its magnitude first, then the depth, then the number of nodes. A node whose parts are
 -- all values is evaluated, and what is undefined there is a fault.
 use Rattle.std.specs.Prelude.{unsigned_abs, int_le, slice_index_or, ℕ, zero, suc, ◌+◌, ◌^◌, ℤ, pos, max, nat_le, nat_lt, Bool, true, false, cond, not, ◌||◌, ◌&&◌, List, [], ◌∷◌, ◌++◌, length, map, Option, Some, None, Result, Ok, Err}
 use Rattle.std.specs.List.{list_any, list_all}
@@ -36,7 +36,7 @@ use Rattle.opl_form.specs.Parts.Form.{known, number, name, condition, truth}
 use Rattle.opl_form.specs.Parts.Sort.{whole, named, other}
 use Rattle.opl_form.specs.Measures.{all_nodes, depth, depth_of, greatest, nodes, nodes_of}
 
--- Why a ground form is not made: a fault of data, a magnitude of 2^127 and more at this place, or in the item at this place a form that nests too
+-- Why no form is made: a fault of data, a magnitude of 2^127 and more at this place, or in the item at this place a form that nests too
 -- deep, or too many nodes.
 pub data Fault : Type 0 where
   eval : EvalFault → Fault

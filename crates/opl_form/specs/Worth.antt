@@ -1,4 +1,4 @@
--- What ground forms are worth under an assignment.
+-- What forms are worth under an assignment.
 use Rattle.std.specs.Prelude.{◌≡◌, ℤ, pos, Bool, List, [], Option, Some, None, Ok, Err}
 use Rattle.opl_value.specs.declared.value.Value.{Value}
 use Rattle.opl_value.specs.declared.value.Value.TheVariants as values
