@@ -1,0 +1,9 @@
+mod Arrays
+mod Clean
+mod Comes
+mod Forms
+mod Instances
+mod Names
+mod Parts
+mod Settled
+mod Unrolls

@@ -1,0 +1,10 @@
+pub mod Drafts
+pub mod Numbers
+pub mod Choices
+pub mod Unrolled
+pub mod Forms
+pub mod Instances
+pub mod Clean
+pub mod Settled
+pub mod Solutions
+pub mod Laws
