@@ -1,0 +1,3 @@
+mod Freshness
+pub mod Turns
+pub mod Waking

@@ -1,0 +1,10 @@
+//! Propagation: what is left of a store once no member of a list of constraints can remove more.
+#![tactic(auto)]
+
+mod propagation;
+mod waiting;
+mod watched;
+
+pub use propagation::propagate;
+pub use waiting::Waiting;
+pub use watched::Watched;
