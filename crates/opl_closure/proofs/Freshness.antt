@@ -1,9 +1,9 @@
 -- Filters that are woken for each of their variables are fresh for every family.
-use Rattle.std.proofs.Common.{◌≡◌, ◌≢◌, ◌∙◌, ℕ, zero, suc, ◌+◌, ◌<◌, ◌≤◌, Bool, true, false, ◌||◌, ◌&&◌, refl, List, [], ◌∷◌, length, get_or, set, take, ℤ, ap, sym, subst, arith, inl, inr, length-set}
-use Rattle.std.specs.Prelude.{not, nat_eq, nat_lt}
+use Rattle.std.proofs.Common.{◌≡◌, ◌≢◌, ◌∙◌, ℕ, ◌+◌, ◌<◌, Bool, true, false, ◌||◌, ◌&&◌, refl, List, [], length, get_or, set, take, ap, sym, subst, arith, inl, inr, length-set}
+use Rattle.std.specs.Prelude.{not, nat_eq}
 use Rattle.std.proofs.lemmas.Bool.{cases_eq, cases_lt}
 use Rattle.std.proofs.lemmas.Bool.Decides.{nat_tests}
-use Rattle.std.proofs.lemmas.List.{take_more, take_all}
+use Rattle.std.proofs.lemmas.List.{take_more}
 use Rattle.opl_domain.specs.Family.{Family, member, set_of, Full}
 use Rattle.opl_domain.proofs.Sets.{set_of-past, set_of-here, set_of-there}
 use Rattle.opl_filter.specs.Fresh.{DifferAt, AgreeOn}
@@ -16,7 +16,7 @@ but passes vs y = passes y && not (lists vs y)
 pub agree_first : (p : ℕ → Bool) (G H : Family) → AgreeOn (but p []) G H → AgreeOn p G H
 agree_first p G H a = record { same = a.same; first = a.first; second = a.second; sets = λ y h. a.sets y (rw h refl) }
 
-with_set : (G H : Family) (x : ℕ) → Family
+abbrev pub with_set : Family → Family → ℕ → Family
 with_set G H x = set H x (set_of G x)
 
 here : (G H : Family) (x : ℕ) → length G ≡ length H → set_of (with_set G H x) x ≡ set_of G x

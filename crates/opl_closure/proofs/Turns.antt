@@ -1,26 +1,26 @@
 -- Propagation over members that wait.
-use Rattle.std.proofs.Common.{◌≡◌, ◌∙◌, ℕ, zero, suc, ◌+◌, ◌*◌, ◌<◌, ◌≤◌, ◌⊎◌, Bool, true, false, ◌||◌, cond, refl, List, [], ◌∷◌, length, get_or, set, map, ℤ, ap, sym, subst, arith, inl, inr}
-use Rattle.std.specs.Prelude.{slice_get, slice_set, Option, Some, None, ◌≢◌}
+use Rattle.std.proofs.Common.{◌≡◌, ◌∙◌, ℕ, zero, suc, ◌+◌, ◌*◌, ◌<◌, ◌≤◌, ◌⊎◌, Bool, true, false, ◌||◌, cond, refl, List, [], ◌∷◌, length, get_or, set, map, ap, sym, subst, arith, inl, inr}
+use Rattle.std.specs.Prelude.{slice_get, Some, ◌≢◌}
 use Rattle.std.proofs.lemmas.Bool.{cases_eq}
 use Rattle.std.proofs.Math.Nat.{mul-le-mul_right}
 use Rattle.std.proofs.Math.Seq.{map-set_same}
 use Rattle.std.proofs.lemmas.Option.{slice_get-map, slice_get-get_or}
 use Rattle.std.specs.Option.{option_map}
-use Rattle.std.proofs.lemmas.List.{get_or-set_same, get_or-set_other, length-set}
-use Rattle.opl_domain.specs.Family.{Family, set_of, has, only, Below, Full, IsFamily}
+use Rattle.std.proofs.lemmas.List.{get_or-set_same, get_or-set_other, length-set, get_or_default}
+use Rattle.opl_domain.specs.Family.{Family, set_of, only, Below, Full, IsFamily}
 use Rattle.opl_domain.proofs.Sets.{only_here, only_there, length-only}
 use Rattle.opl_expr.specs.Forms.{Fact}
 use Rattle.opl_expr.specs.Range.{is_possible}
-use Rattle.opl_trace.specs.Stable.{IsMonotone, IsStable, IsStableWithin, IsGreatestStable, HasFailed}
+use Rattle.opl_trace.specs.Stable.{IsMonotone, IsStable, IsGreatestStable, HasFailed}
 use Rattle.opl_trace.specs.Sweeps.{size}
-use Rattle.opl_trace.proofs.Families.{only_full, below_join}
-use Rattle.opl_filter.specs.Filtering.{refutes, IsLeftOf, IsBetween, Filters}
-use Rattle.opl_filter.specs.Mentions.{mentions}
-use Rattle.opl_filter.proofs.Removals.{left_self, left_join, left_sets, left_below, lose_none, left_wider}
+use Rattle.opl_trace.proofs.Families.{only_full}
+use Rattle.opl_filter.specs.Filtering.{refutes, IsLeftOf, IsBetween}
+use Rattle.opl_filter.specs.Mentions.{mentions, lists}
+use Rattle.opl_filter.proofs.Removals.{left_join, left_sets, left_below, lose_none, left_wider}
 use Rattle.opl_filter.proofs.Agreeing.{agreeing_same}
 use Rattle.opl_filter.proofs.Refuting.{refutes_falls}
-use Rattle.opl_closure.specs.Waits.{waits, watches, Wakes, Takes, count_waits}
-use Rattle.opl_closure.specs.Members.{refutes_one, Each, AreWatched, WaitOrAreStable}
+use Rattle.opl_closure.specs.Waits.{waits, watches, Wakes, count_waits}
+use Rattle.opl_closure.specs.Members.{refutes_one, Each, AreNamed, AreWatched, WaitOrAreStable}
 
 the_same : {A : Type 0} (m d : A) → Some m ≡ Some d → m ≡ d
 the_same m d h = cc
@@ -193,3 +193,6 @@ each_set good (x ∷ xs) (suc i) y h k (suc j) a e = each_set (λ j. good (suc j
 
 pub each_at : {A : Type 0} (good : ℕ → A → Type 0) (xs : List A) (i : ℕ) (d : A) → Each good xs → i < length xs → good i (get_or xs i d)
 each_at good xs i d h l = h i (get_or xs i d) (slice_get-get_or xs i d l)
+
+pub named_at : (variables : List (List ℕ)) (ms : List Fact) (i : ℕ) (c : Fact) (js : List ℕ) → AreNamed variables ms → slice_get ms i ≡ Some c → i < length variables → js ≡ get_or variables i js → (x : ℕ) → mentions c x ≡ true → lists js x ≡ true
+named_at variables ms i c js n h l e x m = ap (λ ks. lists ks x) (e ∙ get_or_default variables i js [] l) ∙ n i c h x m

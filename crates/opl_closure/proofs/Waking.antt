@@ -1,20 +1,19 @@
 -- Who is woken.
 use Rattle.std.proofs.Common.{◌≡◌, ◌∙◌, ℕ, zero, suc, ◌+◌, ◌<◌, ◌≤◌, ◌⊎◌, Bool, true, false, ◌||◌, cond, refl, List, [], ◌∷◌, ◌++◌, length, get_or, set, take, ℤ, ◌≤ℤ◌, ◌<ℤ◌, ap, sym, subst, arith, inl, inr}
-use Rattle.std.specs.Prelude.{nat_eq, slice_set, slice_index_or, int_lt, int_le, Option, Some, None, ◌≢◌}
+use Rattle.std.specs.Prelude.{nat_eq, int_lt, int_le}
 use Rattle.std.specs.List.{filter}
 use Rattle.std.proofs.lemmas.Int.{ints}
 use Rattle.std.proofs.lemmas.Bool.{cases_eq}
 use Rattle.std.proofs.lemmas.Bool.Decides.{nat_tests}
 use Rattle.std.proofs.lemmas.List.{get_or-set_same, get_or-set_other, take_more}
-use Rattle.opl_domain.specs.Family.{Family, member, is_outside, outside, set_of, has, cut_of, Below, IsNext, IsLeastAbove}
-use Rattle.opl_domain.proofs.Members.{member_cases, member_first, member_later, from_filter}
-use Rattle.opl_domain.proofs.Sets.{cut_here, cut_there, length-cut}
+use Rattle.opl_domain.specs.Family.{Family, member, is_outside, outside, set_of, cut_of, IsLeastAbove}
+use Rattle.opl_domain.proofs.Members.{member_cases, member_first, member_later}
+use Rattle.opl_domain.proofs.Sets.{cut_here, cut_there}
 use Rattle.opl_trace.specs.Sweeps.{size}
 use Rattle.opl_trace.proofs.Removals.{lt_or_eq}
-use Rattle.opl_trace.proofs.Families.{has_at}
 use Rattle.opl_filter.specs.Mentions.{lists}
 use Rattle.opl_filter.proofs.Removals.{cut_below}
-use Rattle.opl_closure.specs.Waits.{waits, watches, Between, Wakes, AreMembers}
+use Rattle.opl_closure.specs.Waits.{waits, watches, Between, Wakes}
 
 pub listed_at : (js : List ℕ) (k : ℕ) → k < length js → lists js (get_or js k 0) ≡ true
 listed_at [] k l = absurd (omega arith)

@@ -1,5 +1,5 @@
 -- Who waits, and who is woken.
-use Rattle.std.specs.Prelude.{◌≡◌, ℕ, ◌<◌, ◌≤◌, ◌⊎◌, Bool, true, false, cond, zero, suc, ◌+◌, nat_eq, ◌||◌, List, [], ◌∷◌, ℤ, length, slice_index_or, slice_set, Option, Some, None}
+use Rattle.std.specs.Prelude.{◌≡◌, ℕ, ◌<◌, ◌≤◌, ◌⊎◌, Bool, true, false, cond, zero, ◌+◌, List, [], ◌∷◌, ℤ, length, slice_index_or, slice_set, Option, Some, None}
 use Rattle.std.proofs.Common.{refl, ◌∙◌, subst, sym, arith, inl, inr}
 use Rattle.opl_domain.specs.Family.{Family, member, is_outside, set_of, Below}
 use Rattle.opl_trace.specs.Sweeps.{size}

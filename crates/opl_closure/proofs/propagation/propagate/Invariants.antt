@@ -1,4 +1,4 @@
-use Rattle.std.proofs.Common.{◌≡◌, ◌<◌, ◌+◌, ◌*◌, suc, ℕ, map, length}
+use Rattle.std.proofs.Common.{◌≡◌, ◌+◌, ◌*◌, suc, map, length}
 use Rattle.opl_trace.specs.Sweeps.{size}
 use Rattle.opl_filter.specs.Filtering.{IsLeftOf}
 use Rattle.opl_closure.specs.Waits.{count_waits}

@@ -1,6 +1,6 @@
-use Rattle.std.proofs.Common.{◌≡◌, ◌&&◌, ℕ, length, take}
+use Rattle.std.proofs.Common.{◌≡◌, ◌&&◌, take}
 use Rattle.std.specs.Prelude.{not}
-use Rattle.opl_domain.specs.Family.{Family, Full}
+use Rattle.opl_domain.specs.Family.{Family}
 use Rattle.opl_expr.specs.declared.model.Core.{Core}
 use Rattle.opl_filter.specs.Fresh.{AgreeOn}
 use Rattle.opl_filter.specs.Mentions.{mentions, lists}

@@ -1,8 +1,8 @@
-use Rattle.std.proofs.Common.{◌≡◌, ◌||◌, ◌∙◌, ◌<◌, ℕ, List, [], length, get_or, subst, sym, true, ap, arith}
+use Rattle.std.proofs.Common.{◌≡◌, ◌||◌, ◌∙◌, ◌<◌, [], length, subst, true, ap, arith}
 use Rattle.std.proofs.lemmas.Bool.Decides.{nat_tests}
 use Rattle.std.proofs.lemmas.List.{get_or_default}
 use Rattle.opl_filter.specs.Mentions.{lists}
-use Rattle.opl_closure.specs.Waits.{waits, watches}
+use Rattle.opl_closure.specs.Waits.{waits}
 use Rattle.opl_closure.proofs.watched.wake_by.Goals as goal
 
 pub wake_all-requires : goal.wake_all-requires

@@ -1,6 +1,4 @@
-use Rattle.std.proofs.Common.{◌≡◌, ◌∙◌, ◌||◌, ◌+◌, ◌<◌, ℕ, length, take, get_or, sym, subst, ap, arith, length-set, true, refl}
-use Rattle.opl_filter.specs.Mentions.{lists}
-use Rattle.opl_closure.specs.Waits.{waits}
+use Rattle.std.proofs.Common.{◌∙◌, length, get_or, ap, arith, length-set, true}
 use Rattle.opl_closure.proofs.Waking.{listed_at, wake_more}
 use Rattle.opl_closure.proofs.waiting.Waiting.wake_all.Goals as goal
 

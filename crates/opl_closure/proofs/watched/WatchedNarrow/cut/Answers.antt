@@ -1,10 +1,7 @@
-use Rattle.std.proofs.Common.{◌≡◌, ◌∙◌, ◌<◌, ℕ, length, subst, sym, ap, true, false, refl, rules}
+use Rattle.std.proofs.Common.{refl}
 use Rattle.std.specs.Prelude.{FitsSigned}
 use mir.Syntax.{w64}
 use Rattle.std.proofs.lemmas.Int.{to_z-of_z}
-use Rattle.opl_domain.specs.Family.{set_of}
-use Rattle.opl_filter.specs.Mentions.{lists}
-use Rattle.opl_closure.specs.Waits.{watches, Wakes, Between}
 use Rattle.opl_closure.proofs.Waking.{wakes_cut, wakes_none}
 use Rattle.opl_closure.proofs.watched.WatchedNarrow.cut.Goals as goal
 
