@@ -1,3 +1,4 @@
+pub mod Closing
 mod Freshness
 pub mod Turns
 pub mod Waking

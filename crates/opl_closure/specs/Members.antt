@@ -1,10 +1,13 @@
 -- Lists of constraints, the members, and which of them wait.
-use Rattle.std.specs.Prelude.{◌≡◌, ℕ, Bool, true, false, ◌||◌, List, [], ◌∷◌, length, slice_get, slice_index_or, Some}
+use Rattle.std.specs.Prelude.{◌≡◌, ℕ, Bool, true, false, List, [], length, slice_get, slice_index_or, Some, None}
+use Rattle.std.specs.List.{list_any}
 use Rattle.opl_domain.specs.Family.{Family, Full}
 use Rattle.opl_expr.specs.declared.model.Core.{Core}
 use Rattle.opl_expr.specs.Forms.{Fact}
 use Rattle.opl_expr.specs.Sound.{IsSoundFact}
+use Rattle.opl_expr.specs.Range.{is_refuted}
 use Rattle.opl_trace.specs.Stable.{IsStable}
+use Rattle.opl_trace.specs.Closure.{closure}
 use Rattle.opl_filter.specs.declared.outcome.Outcome.{Outcome}
 use Rattle.opl_filter.specs.declared.outcome.Outcome.TheVariants as outcome
 use Rattle.opl_filter.specs.Filtering.{refutes}
@@ -13,8 +16,7 @@ use Rattle.opl_closure.specs.Waits.{waits, watches}
 
 -- the family refutes one of the constraints
 abbrev pub refutes_one : List Fact → Family → Bool
-refutes_one [] F = false
-refutes_one (c ∷ others) F = refutes c F || refutes_one others F
+refutes_one members F = list_any (is_refuted F) members
 
 -- each of a list is as it should be at its place
 abbrev pub Each : {A : Type 0} → (ℕ → A → Type 0) → List A → Type 0
@@ -40,6 +42,11 @@ WaitOrAreStable members w F = Each (λ i c. waits w i ≡ false → IsStable (re
 abbrev pub Rest : List Bool → Outcome → Type 0
 Rest w outcome.Stable = (i : ℕ) → waits w i ≡ false
 Rest w outcome.Failed = Unit {0}
+
+-- what propagation tells of the sets D where it began to narrow them: F is their closure, or they have none
+abbrev pub Closes : (Family → Bool) → Family → Family → Outcome → Type 0
+Closes dead D F outcome.Stable = closure dead D ≡ Some F
+Closes dead D F outcome.Failed = closure dead D ≡ None
 
 -- a filter was fresh for some family of n sets, none of them empty
 pub record WasFresh (is_fresh : Family → Type 0) (n : ℕ) : Type 0 where

@@ -1,6 +1,7 @@
 //! Propagation: what is left of a store once no member of a list of constraints can remove more.
 #![tactic(auto)]
 
+pub mod laws;
 mod propagation;
 mod waiting;
 mod watched;

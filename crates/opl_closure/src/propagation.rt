@@ -4,10 +4,11 @@ ghost use Rattle.opl_domain.specs.Family.{Family, Full, Below};
 ghost use Rattle.opl_expr.specs.declared.model.Core.{Core};
 ghost use Rattle.opl_expr.specs.Sound.{IsSoundFact};
 ghost use Rattle.opl_expr.specs.Solutions.{declared};
+ghost use Rattle.opl_trace.specs.Removals.{Kept};
 ghost use Rattle.opl_filter.specs.Mentions.{mentions, lists};
 ghost use Rattle.opl_filter.specs.Filtering.{refutes, IsBetween, Filters};
 ghost use Rattle.opl_closure.specs.Waits.{watches, Wakes, AreMembers};
-ghost use Rattle.opl_closure.specs.Members.{refutes_one, Each, AreSoundIn, AreNamed, AreWatched, WaitOrAreStable, WasFresh, Rest};
+ghost use Rattle.opl_closure.specs.Members.{refutes_one, Each, AreSoundIn, AreNamed, AreWatched, WaitOrAreStable, WasFresh, Rest, Closes};
 
 use crate::waiting::Waiting;
 use crate::watched::Watched;
@@ -56,7 +57,8 @@ fn run<F: Filter, N: Narrow>(
 
 /// Removes values that a member refutes alone, until no member can, or until one fails. `variables` lists for each member the
 /// variables that it mentions, `watchers` for each variable the members that mention it. A member that doesn't wait is one for
-/// which the family is stable, before and afterwards; at `Stable` nobody waits. It takes no memory.
+/// which the family is stable, before and afterwards; at `Stable` nobody waits. So the sets that narrowing began with are closed
+/// at `Stable`, and have no closure at `Failed`. It takes no memory.
 pub fn propagate<F: Filter, N: Narrow>(
     core: &Core,
     filters: &mut [F],
@@ -77,6 +79,8 @@ pub fn propagate<F: Filter, N: Narrow>(
     requires wait { WaitOrAreStable (map (λ f. F.constraint f core.now) filters.old) waiting.old (N.family n.old) }
     ensures between { IsBetween (refutes_one (map (λ f. F.constraint f core.now) filters.old)) (N.family n.old) (N.family n.new) }
     ensures outcome { Filters (refutes_one (map (λ f. F.constraint f core.now) filters.old)) (N.family n.old) (N.family n.new) result }
+    ensures closes { (D : Family) → Kept (refutes_one (map (λ f. F.constraint f core.now) filters.old)) D (N.family n.old) → Closes (refutes_one (map (λ f. F.constraint f core.now) filters.old)) D (N.family n.new) result }
+    ensures kept { (D : Family) → Kept (refutes_one (map (λ f. F.constraint f core.now) filters.old)) D (N.family n.old) → Kept (refutes_one (map (λ f. F.constraint f core.now) filters.old)) D (N.family n.new) }
     ensures leads_to { N.leads_to n.old n.new }
     ensures same { map (λ f. F.constraint f core.now) filters.new ≡ map (λ f. F.constraint f core.now) filters.old }
     ensures made { Each (λ i f. F.is_made_with f core.now) filters.new }

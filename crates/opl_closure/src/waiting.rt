@@ -11,7 +11,6 @@ use std::marker::Model;
 #[derive(Debug, Drop)]
 pub struct Waiting {
     flags: Vec<bool>,
-    cursor: usize,
 }
 
 impl Model for Waiting {
@@ -23,6 +22,15 @@ impl Model for Waiting {
 }
 
 impl Waiting {
+    /// So many members, all of whom wait.
+    pub fn new(alloc: Global, members: u32) -> Result<Waiting, OutOfMemory>
+        ensures { IfOk result (λ w. w ≡ replicate members true) }
+    {
+        Ok(Waiting {
+            flags: vec![in alloc; true; members as usize]?,
+        })
+    }
+
     /// Lets member `i` wait.
     pub fn wake(&mut self, i: u32)
         requires { i < length self.old }

@@ -5,6 +5,7 @@ use Rattle.opl_filter.specs.Mentions.{lists}
 use Rattle.opl_filter.proofs.Removals.{left_sets, left_below}
 use Rattle.opl_closure.specs.Waits.{waits, watches}
 use Rattle.opl_closure.specs.Members.{refutes_one, WasFresh}
+use Rattle.opl_closure.proofs.Closing.{closes_stable, closes_failed, kept_left}
 use Rattle.opl_closure.proofs.Turns.{turn_ends, wait_next, wait_failed, left_next, member_fails, rounds_done, between_now, here_is, same_after, each_set, each_at, named_at}
 use Rattle.opl_closure.proofs.propagation.propagate.Goals as goal
 
@@ -120,6 +121,35 @@ returns-in-Failed-clause-wait g c =
     let sets = left_sets (refutes_one ms) _ _ c.vars-vars.ensures.sets (left_next ms _ _ _ _ i h c.loop-i.invariant.left c.run.ensures.between) in
     let long = c.run.ensures.wakes.same ∙ ap length c.in-Some.ensures.2 ∙ length-set c.loop-i.waiting i false in
     rw c.wake.ensures (wait_failed c.args.watchers.now ms c.loop-i.waiting c.take.new.self c.run.new.waiting (g.N.View.family c.loop-i.n) (g.N.View.family c.run.new.n) i c.requires.watched sets.full (omega (arith, long, c.in-Some.ensures.0)) c.in-Some.ensures.2 c.loop-i.invariant.wait c.run.ensures.wakes)
+
+pub returns-in-None-clause-closes : goal.returns-in-None-clause-closes
+returns-in-None-clause-closes g c =
+    let ms = map (λ f. g.F.Filter.constraint f c.args.core.now) c.args.filters.now in
+    let f = left_sets (refutes_one ms) _ _ c.vars-vars.ensures.sets c.loop-i.invariant.left in
+    let s = rounds_done ms c.loop-i.waiting (g.N.View.family c.args.n.now) _ f c.loop-i.invariant.left c.loop-i.invariant.wait c.in-None.ensures.1 in
+    λ D k. closes_stable ms D _ _ k c.loop-i.invariant.left s.is_stable.stable
+
+pub returns-in-None-clause-kept : goal.returns-in-None-clause-kept
+returns-in-None-clause-kept g c =
+    λ D k. kept_left (map (λ f. g.F.Filter.constraint f c.args.core.now) c.args.filters.now) D _ _ k c.loop-i.invariant.left
+
+pub returns-in-Failed-clause-closes : goal.returns-in-Failed-clause-closes
+returns-in-Failed-clause-closes g c =
+    let ms = map (λ f. g.F.Filter.constraint f c.args.core.now) c.args.filters.now in
+    let i = c.in-Some.i in
+    let l : i < length c.loop-i.filters = omega (arith, c.in-Some.ensures.0, c.loop-i.invariant.waits, c.requires.many.0, c.loop-i.invariant.long) in
+    let first = here_is (λ f. g.F.Filter.constraint f c.args.core.now) c.loop-i.filters ms i c.index-filters-i.result c.loop-i.invariant.same l in
+    let h = first ∙ ap (λ d. Some d) (sym (c.refresh.ensures.constraint c.args.core.now)) in
+    λ D k. closes_failed ms D _ k (member_fails ms _ (g.N.View.family c.args.n.now) (g.N.View.family c.loop-i.n) i h c.loop-i.invariant.left c.in-Failed.ensures.outcome)
+
+pub returns-in-Failed-clause-kept : goal.returns-in-Failed-clause-kept
+returns-in-Failed-clause-kept g c =
+    let ms = map (λ f. g.F.Filter.constraint f c.args.core.now) c.args.filters.now in
+    let i = c.in-Some.i in
+    let l : i < length c.loop-i.filters = omega (arith, c.in-Some.ensures.0, c.loop-i.invariant.waits, c.requires.many.0, c.loop-i.invariant.long) in
+    let first = here_is (λ f. g.F.Filter.constraint f c.args.core.now) c.loop-i.filters ms i c.index-filters-i.result c.loop-i.invariant.same l in
+    let h = first ∙ ap (λ d. Some d) (sym (c.refresh.ensures.constraint c.args.core.now)) in
+    λ D k. kept_left ms D _ _ k (left_next ms _ _ _ _ i h c.loop-i.invariant.left c.run.ensures.between)
 
 pub loop-i-smaller : goal.loop-i-smaller
 loop-i-smaller g c =
