@@ -86,18 +86,18 @@ stable_moves c F G s g b same = record {
   spared = looks c G F g s.full b.same same ∙ s.spared;
   each = λ x v l h. elim (mentions c x) as (λ q. mentions c x ≡ q → refutes c (only G x v) ≡ false) [
     | true ↦ λ e.
-      let k : x < length F = omega (arith, b.same, l) in
-      looks c (only G x v) (only F x v) (only_full G x v g) (only_full F x v s.full) (length-only G x v ∙ b.same ∙ sym (length-only F x v))
-      (λ y w. elim (cases_eq y x) [
-        | inl j ↦ subst (λ z. set_of (only G x v) z ≡ set_of (only F x v) z) (sym j) (only_here G x v l ∙ sym (only_here F x v k))
-        | inr n ↦ only_there G x y v n ∙ same y w ∙ sym (only_there F x y v n)
-      ]) ∙ s.each x v k (b.sub x v h)
+        let k : x < length F = omega (arith, b.same, l) in
+        looks c (only G x v) (only F x v) (only_full G x v g) (only_full F x v s.full) (length-only G x v ∙ b.same ∙ sym (length-only F x v))
+        (λ y w. elim (cases_eq y x) [
+          | inl j ↦ subst (λ z. set_of (only G x v) z ≡ set_of (only F x v) z) (sym j) (only_here G x v l ∙ sym (only_here F x v k))
+          | inr n ↦ only_there G x y v n ∙ same y w ∙ sym (only_there F x y v n)
+        ]) ∙ s.each x v k (b.sub x v h)
     | false ↦ λ e.
-      looks c (only G x v) G (only_full G x v g) g (length-only G x v)
-      (λ y w. elim (cases_eq y x) [
-        | inl j ↦ absurd (let r = subst (λ z. mentions c z ≡ true) j w in cc)
-        | inr n ↦ only_there G x y v n
-      ]) ∙ looks c G F g s.full b.same same ∙ s.spared
+        looks c (only G x v) G (only_full G x v g) g (length-only G x v)
+        (λ y w. elim (cases_eq y x) [
+          | inl j ↦ absurd (let r = subst (λ z. mentions c z ≡ true) j w in cc)
+          | inr n ↦ only_there G x y v n
+        ]) ∙ looks c G F g s.full b.same same ∙ s.spared
   ] refl;
 }
 
@@ -143,10 +143,10 @@ wait_next watchers ms c w u v F G i look full here e fits k s j d h q =
     elim (cases_eq j i) [
       | inl a ↦ let b : Some c ≡ Some d = sym here ∙ ap (slice_get ms) (sym a) ∙ h in subst (λ f. IsStable (refutes f) G) (the_same c d b) s
       | inr n ↦
-        let p : waits v j ≡ false = sym (get_or-set_other v i j false false n) ∙ q in
-        let r = k.woken j p in
-        let o : waits w j ≡ false = sym (get_or-set_other w i j false false n) ∙ sym (ap (λ z. waits z j) e) ∙ r.0 in
-        stable_moves d F G (fits j d h o) full k.below (λ x m. r.1 x (look j d h x m))
+          let p : waits v j ≡ false = sym (get_or-set_other v i j false false n) ∙ q in
+          let r = k.woken j p in
+          let o : waits w j ≡ false = sym (get_or-set_other w i j false false n) ∙ sym (ap (λ z. waits z j) e) ∙ r.0 in
+          stable_moves d F G (fits j d h o) full k.below (λ x m. r.1 x (look j d h x m))
     ]
 
 -- a member that fails waits again
@@ -155,10 +155,10 @@ wait_failed watchers ms w u v F G i look full l e fits k j d h q =
     elim (cases_eq j i) [
       | inl a ↦ absurd (let p : waits (set v i true) i ≡ true = get_or-set_same v i true false l in let r = subst (λ z. waits (set v i true) z ≡ false) a q in cc)
       | inr n ↦
-        let p : waits v j ≡ false = sym (get_or-set_other v i j true false n) ∙ q in
-        let r = k.woken j p in
-        let o : waits w j ≡ false = sym (get_or-set_other w i j false false n) ∙ sym (ap (λ z. waits z j) e) ∙ r.0 in
-        stable_moves d F G (fits j d h o) full k.below (λ x m. r.1 x (look j d h x m))
+          let p : waits v j ≡ false = sym (get_or-set_other v i j true false n) ∙ q in
+          let r = k.woken j p in
+          let o : waits w j ≡ false = sym (get_or-set_other w i j false false n) ∙ sym (ap (λ z. waits z j) e) ∙ r.0 in
+          stable_moves d F G (fits j d h o) full k.below (λ x m. r.1 x (look j d h x m))
     ]
 
 pub left_next : (ms : List Fact) (c : Fact) (D F G : Family) (i : ℕ) → slice_get ms i ≡ Some c → IsLeftOf (refutes_one ms) D F → IsBetween (refutes c) F G → IsLeftOf (refutes_one ms) D G

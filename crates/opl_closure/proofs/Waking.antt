@@ -135,7 +135,7 @@ wakes_cut watchers old new F x lo hi l b s w =
       below = cut_below F x lo hi;
       smaller = omega (arith, k, m);
       woken = λ i h. let e : (waits old i || watches watchers i x) ≡ false = sym (w i) ∙ h in let p = or_parts (waits old i) (watches watchers i x) e in
-      (p.0, λ y q. elim (cases_eq y x) [ inl j ↦ absurd (let r = subst (λ z. watches watchers i z ≡ true) j q in cc) | inr n ↦ cut_there F x y lo hi n ]);
+          (p.0, λ y q. elim (cases_eq y x) [ inl j ↦ absurd (let r = subst (λ z. watches watchers i z ≡ true) j q in cc) | inr n ↦ cut_there F x y lo hi n ]);
       ends = inl (omega (arith, k, m));
     }
 

@@ -8,7 +8,7 @@ loop-x-preserved g c =
     let x = get_or c.args.variables.now c.loop-x.x-index 0 in
     record {
       fresh = λ G H a f. c.wake.ensures.fresh (with_set G H x) H (differ G H x a.same a.first a.second)
-        (c.loop-x.invariant.fresh G (with_set G H x) (agree_with (mentions (g.F.Filter.constraint c.args.filter.now c.args.core.now)) c.args.variables.now c.loop-x.x-index G H c.loop-x-test.true a) f);
+          (c.loop-x.invariant.fresh G (with_set G H x) (agree_with (mentions (g.F.Filter.constraint c.args.filter.now c.args.core.now)) c.args.variables.now c.loop-x.x-index G H c.loop-x-test.true a) f);
       constraint = λ d. c.wake.ensures.constraint d ∙ c.loop-x.invariant.constraint d;
       core = λ d h. c.wake.ensures.core d (c.loop-x.invariant.core d h);
     }
