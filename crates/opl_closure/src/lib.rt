@@ -3,9 +3,11 @@
 
 pub mod laws;
 mod propagation;
+mod value;
 mod waiting;
 mod watched;
 
 pub use propagation::propagate;
+pub use value::keep_value;
 pub use waiting::Waiting;
 pub use watched::Watched;
