@@ -90,8 +90,8 @@ single_stable G x v g l m one = record {
   spared = spared_has G x v g l m;
   each = λ y w k h. spared_has (only G y w) x v (only_full G y w g) (omega (arith, l, length-only G y w)) (elim (cases_eq x y) [
     | inl e ↦
-      let i = one w (subst (λ z. has G z w ≡ true) (sym e) h) in
-      subst (λ z. has (only G y w) z v ≡ true) (sym e) (subst (λ u. has (only G y w) y u ≡ true) i (only_has G y w k))
+        let i = one w (subst (λ z. has G z w ≡ true) (sym e) h) in
+        subst (λ z. has (only G y w) z v ≡ true) (sym e) (subst (λ u. has (only G y w) y u ≡ true) i (only_has G y w k))
     | inr n ↦ only_has_other G y x w v n m
   ]);
 }
