@@ -5,5 +5,5 @@ mod Adding
 mod Mentioned
 mod Trying
 mod Outcomes
-mod Refuting
+pub mod Refuting
 pub mod Agreeing

@@ -65,7 +65,7 @@ pub left_below : (dead : Family → Bool) (D F : Family) → IsLeftOf dead D F �
 left_below dead D F h = subst (λ G. Below G D) (sym h.left) (without_below D h.gone)
 
 -- each stable family stays below
-each_kept : (dead : Family → Bool) (D F : Family) (ps : List (ℕ × ℤ)) → IsMonotone dead → Kept dead D F → EachCanGo dead F ps → Kept dead D (without F ps)
+pub each_kept : (dead : Family → Bool) (D F : Family) (ps : List (ℕ × ℤ)) → IsMonotone dead → Kept dead D F → EachCanGo dead F ps → Kept dead D (without F ps)
 each_kept dead D F [] m k h = k
 each_kept dead D F (p ∷ ps) m k h = each_kept dead D (cut_of F p.0 p.1 p.1) ps m (kept_cut dead D F p.0 p.1 m k h.0.dead_value) h.1
 

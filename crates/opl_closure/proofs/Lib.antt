@@ -1,0 +1,5 @@
+pub mod Closing
+mod Freshness
+pub mod Turns
+mod Values
+pub mod Waking

@@ -1,0 +1,21 @@
+use Rattle.std.proofs.Common.{◌≡◌, ◌+◌, ◌*◌, suc, map, length}
+use Rattle.opl_trace.specs.Sweeps.{size}
+use Rattle.opl_filter.specs.Filtering.{IsLeftOf}
+use Rattle.opl_closure.specs.Waits.{count_waits}
+use Rattle.opl_closure.specs.Members.{refutes_one, Each, WaitOrAreStable, WasFresh}
+use Rattle.opl_closure.proofs.propagation.propagate.Given as goal
+
+abbrev pub invariant-loop-i : goal.invariant-loop-i
+invariant-loop-i g l = record {
+  left : IsLeftOf (refutes_one (map (λ f. g.F.Filter.constraint f l.fn.core) l.fn.filters)) (g.N.View.family l.fn.n) (g.N.View.family l.n);
+  same : map (λ f. g.F.Filter.constraint f l.fn.core) l.filters ≡ map (λ f. g.F.Filter.constraint f l.fn.core) l.fn.filters;
+  made : Each (λ i f. g.F.Filter.is_made_with f l.fn.core) l.filters;
+  fresh : Each (λ i f. WasFresh (g.F.Filter.fresh f) (length (g.N.View.family l.n))) l.filters;
+  long : length l.filters ≡ length l.fn.filters;
+  waits : length l.waiting ≡ length l.fn.waiting;
+  wait : WaitOrAreStable (map (λ f. g.F.Filter.constraint f l.fn.core) l.fn.filters) l.waiting (g.N.View.family l.n);
+  leads : g.N.Narrow.leads_to l.fn.n l.n;
+}
+
+abbrev pub decreases-loop-i : goal.decreases-loop-i
+decreases-loop-i g l = size (g.N.View.family l.n) * suc (length l.waiting) + count_waits l.waiting

@@ -1,0 +1,23 @@
+use Rattle.std.proofs.Common.{rules, subst, sym}
+use Rattle.std.specs.Prelude.{FitsSigned}
+use mir.Syntax.{w64}
+use Rattle.std.proofs.lemmas.Int.{to_z-of_z}
+use Rattle.opl_closure.proofs.Values.{cuts_above}
+use Rattle.opl_closure.proofs.value.remove_above.Goals as goal
+
+pub cut-requires-clause-stays : goal.cut-requires-clause-stays
+cut-requires-clause-stays g c =
+    let lo : FitsSigned w64 c.one_more-first.result = search rules in
+    let hi : FitsSigned w64 c.max-greatest.result = search rules in
+    let fits : FitsSigned w64 c.args.v = c.ranges.v in
+    let q = rw (to_z-of_z w64 c.args.v fits) at c.one_more-first.ensures in
+    rw (to_z-of_z w64 c.one_more-first.result lo, to_z-of_z w64 c.max-greatest.result hi) (cuts_above (g.N.View.family c.args.n.now) c.args.x c.args.v c.one_more-first.result c.max-greatest.result c.requires.sets c.requires.variable c.requires.value c.max-greatest.ensures q).stays
+
+pub returns-clause-keeps : goal.returns-clause-keeps
+returns-clause-keeps g c =
+    let lo : FitsSigned w64 c.one_more-first.result = search rules in
+    let hi : FitsSigned w64 c.max-greatest.result = search rules in
+    let fits : FitsSigned w64 c.args.v = c.ranges.v in
+    let q = rw (to_z-of_z w64 c.args.v fits) at c.one_more-first.ensures in
+    let e = rw (to_z-of_z w64 c.one_more-first.result lo, to_z-of_z w64 c.max-greatest.result hi) at c.cut.ensures.cut in
+    rw e (cuts_above (g.N.View.family c.args.n.now) c.args.x c.args.v c.one_more-first.result c.max-greatest.result c.requires.sets c.requires.variable c.requires.value c.max-greatest.ensures q).keeps

@@ -1,0 +1,56 @@
+-- Lists of constraints, the members, and which of them wait.
+use Rattle.std.specs.Prelude.{◌≡◌, ℕ, Bool, true, false, List, [], length, slice_get, slice_index_or, Some, None}
+use Rattle.std.specs.List.{list_any}
+use Rattle.opl_domain.specs.Family.{Family, Full}
+use Rattle.opl_expr.specs.declared.model.Core.{Core}
+use Rattle.opl_expr.specs.Forms.{Fact}
+use Rattle.opl_expr.specs.Sound.{IsSoundFact}
+use Rattle.opl_expr.specs.Range.{is_refuted}
+use Rattle.opl_trace.specs.Stable.{IsStable}
+use Rattle.opl_trace.specs.Closure.{closure}
+use Rattle.opl_filter.specs.declared.outcome.Outcome.{Outcome}
+use Rattle.opl_filter.specs.declared.outcome.Outcome.TheVariants as outcome
+use Rattle.opl_filter.specs.Filtering.{refutes}
+use Rattle.opl_filter.specs.Mentions.{mentions, lists}
+use Rattle.opl_closure.specs.Waits.{waits, watches}
+
+-- the family refutes one of the constraints
+abbrev pub refutes_one : List Fact → Family → Bool
+refutes_one members F = list_any (is_refuted F) members
+
+-- each of a list is as it should be at its place
+abbrev pub Each : {A : Type 0} → (ℕ → A → Type 0) → List A → Type 0
+Each {A} good xs = (i : ℕ) (a : A) → slice_get xs i ≡ Some a → good i a
+
+-- each constraint is sound
+abbrev pub AreSoundIn : Core → List Fact → Type 0
+AreSoundIn core members = Each (λ i c. IsSoundFact core.sets c) members
+
+-- the variables that member i mentions are among those that are listed for it
+abbrev pub AreNamed : List (List ℕ) → List Fact → Type 0
+AreNamed variables members = Each (λ i c. (x : ℕ) → mentions c x ≡ true → lists (slice_index_or variables i []) x ≡ true) members
+
+-- each member watches the variables that it mentions
+abbrev pub AreWatched : List (List ℕ) → List Fact → Type 0
+AreWatched watchers members = Each (λ i c. (x : ℕ) → mentions c x ≡ true → watches watchers i x ≡ true) members
+
+-- each member waits, or the family is stable for it
+abbrev pub WaitOrAreStable : List Fact → List Bool → Family → Type 0
+WaitOrAreStable members w F = Each (λ i c. waits w i ≡ false → IsStable (refutes c) F) members
+
+-- once the family is stable, nobody waits
+abbrev pub Rest : List Bool → Outcome → Type 0
+Rest w outcome.Stable = (i : ℕ) → waits w i ≡ false
+Rest w outcome.Failed = Unit {0}
+
+-- what propagation tells of the sets D where it began to narrow them: F is their closure, or they have none
+abbrev pub Closes : (Family → Bool) → Family → Family → Outcome → Type 0
+Closes dead D F outcome.Stable = closure dead D ≡ Some F
+Closes dead D F outcome.Failed = closure dead D ≡ None
+
+-- a filter was fresh for some family of n sets, none of them empty
+pub record WasFresh (is_fresh : Family → Type 0) (n : ℕ) : Type 0 where
+  pub family : Family
+  pub full : Full family
+  pub same : length family ≡ n
+  pub fresh : is_fresh family

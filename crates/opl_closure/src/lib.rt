@@ -1,0 +1,13 @@
+//! Propagation: what is left of a store once no member of a list of constraints can remove more.
+#![tactic(auto)]
+
+pub mod laws;
+mod propagation;
+mod value;
+mod waiting;
+mod watched;
+
+pub use propagation::propagate;
+pub use value::keep_value;
+pub use waiting::Waiting;
+pub use watched::Watched;

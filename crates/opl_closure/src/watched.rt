@@ -1,0 +1,108 @@
+//! A store that wakes members as sets lose values.
+ghost use Rattle.std.specs.Prelude.{◌≡◌, ◌||◌, ℕ, ◌<◌, true, length};
+ghost use Rattle.std.proofs.Common.{refl, ◌∙◌};
+ghost use Rattle.opl_domain.specs.Family.{Family, has, set_of, cut_of};
+ghost use Rattle.opl_closure.specs.Waits.{waits, Wakes, AreMembers, watches, wakes_self, wakes_join, Between};
+
+use crate::waiting::Waiting;
+use opl_domain::{Narrow, View};
+use opl_list::Seq;
+
+/// A store, and those who wait. `watchers` lists for each variable the members that are woken by it.
+#[derive(Drop)]
+pub struct Watched<'a, N> {
+    inner: &'a mut N,
+    waiting: &'a mut Waiting,
+    watchers: &'a [Seq<u32>],
+    ghost listed: { AreMembers watchers.now (length waiting.now) },
+}
+
+impl<'a, N: Narrow> Watched<'a, N> {
+    /// The store `inner`, which wakes those who wait.
+    pub fn new(
+        inner: &'a mut N,
+        waiting: &'a mut Waiting,
+        watchers: &'a [Seq<u32>],
+    ) -> Watched<'a, N>
+        requires { AreMembers watchers.now (length waiting.old) }
+        ensures inner { (result.inner.ghost_name ≡ inner.entry.ghost_name) × (result.inner.now ≡ inner.old) }
+        ensures waiting { (result.waiting.ghost_name ≡ waiting.entry.ghost_name) × (result.waiting.now ≡ waiting.old) }
+        ensures watchers { result.watchers.now ≡ watchers.now }
+    {
+        Watched {
+            inner,
+            waiting,
+            watchers,
+        }
+    }
+}
+
+impl<'a, N: Narrow> View for Watched<'a, N> {
+    ghost family = { λ s. N.family s.inner.now };
+
+    fn vars(&self) -> u32 {
+        self.inner.vars()
+    }
+
+    fn min(&self, x: u32) -> i64 {
+        self.inner.min(x)
+    }
+
+    fn max(&self, x: u32) -> i64 {
+        self.inner.max(x)
+    }
+
+    fn size(&self, x: u32) -> u32 {
+        self.inner.size(x)
+    }
+
+    fn has(&self, x: u32, v: i64) -> bool {
+        self.inner.has(x, v)
+    }
+
+    fn next(&self, x: u32, after: i64) -> Option<i64> {
+        self.inner.next(x, after)
+    }
+}
+
+impl<'a, N: Narrow> Narrow for Watched<'a, N> {
+    ghost leads_to = { λ s t. (t.inner.ghost_name ≡ s.inner.ghost_name) × (t.waiting.ghost_name ≡ s.waiting.ghost_name) × (t.watchers.now ≡ s.watchers.now) × N.leads_to s.inner.now t.inner.now × Wakes (watches s.watchers.now) s.waiting.now (N.family s.inner.now) t.waiting.now (N.family t.inner.now) };
+
+    ghost leads_to_itself = { λ s. (refl, refl, refl, N.leads_to_itself s.inner.now, wakes_self (watches s.watchers.now) s.waiting.now (N.family s.inner.now)) };
+
+    ghost leads_on = { λ s t u h k. (k.0 ∙ h.0, k.1 ∙ h.1, k.2 ∙ h.2, N.leads_on s.inner.now t.inner.now u.inner.now h.3 k.3, wakes_join s.watchers.now t.watchers.now h.2 s.waiting.now (N.family s.inner.now) t.waiting.now (N.family t.inner.now) u.waiting.now (N.family u.inner.now) h.4 k.4) };
+
+    fn cut(&mut self, x: u32, lo: i64, hi: i64) {
+        if !has_between(&*self.inner, x, lo, hi) {
+            self.inner.cut(x, lo, hi);
+            return;
+        }
+        wake_by(&mut *self.waiting, self.watchers, x);
+        self.inner.cut(x, lo, hi);
+    }
+}
+
+/// Lets all members wait that watch `x`.
+fn wake_by(waiting: &mut Waiting, watchers: &[Seq<u32>], x: u32)
+    requires { AreMembers watchers.now (length waiting.old) }
+    ensures long { length waiting.new ≡ length waiting.old }
+    ensures woken { (i : ℕ) → waits waiting.new i ≡ (waits waiting.old i || watches watchers.now i x) }
+{
+    if let Some(members) = watchers.get(x as usize) {
+        waiting.wake_all(members.as_slice());
+    }
+}
+
+/// Whether `x` has a value from `lo` to `hi`.
+fn has_between<V: View>(view: &V, x: u32, lo: i64, hi: i64) -> bool
+    requires { x < length (V.family view.now) }
+    ensures { Between (set_of (V.family view.now) x) lo hi result }
+{
+    if view.has(x, lo) {
+        return lo <= hi;
+    }
+    match view.next(x, lo) {
+        None => false,
+        Some(v) => v <= hi,
+    }
+}
