@@ -35,8 +35,6 @@ use Rattle.opl_tree.specs.declared.expression.PrimTree.TheVariants as prims
 use Rattle.opl_tree.specs.declared.expression.CompareTree.TheOpen.{CompareTree-F, MulTree-F, NegTree-F, OpenTree-F, PrimTree-F, SignTree-F, SuffixTree-F, AddStep-F, AddTree-F, AndTree-F, ExprTree-F, GroupStep-F, GroupTree-F, ImpTree-F, KeyedTree-F, LastStep-F, MulStep-F, OrTree-F, ParamsTree-F, PostTree-F, SetTree-F, SubscriptsTree-F}
 use Rattle.opl_tree.specs.declared.expression.CompareTree.TheViews.{roll-CompareTree, roll-MulTree, roll-NegTree, roll-OpenTree, roll-PrimTree, roll-SignTree, roll-SuffixTree, roll-AddStep, roll-AddTree, roll-AndTree, roll-ExprTree, roll-GroupStep, roll-GroupTree, roll-ImpTree, roll-KeyedTree, roll-LastStep, roll-MulStep, roll-OrTree, roll-ParamsTree, roll-PostTree, roll-SetTree, roll-SubscriptsTree, out-roll-AddStep, out-roll-AddTree, out-roll-AndTree, out-roll-ExprTree, out-roll-GroupStep, out-roll-GroupTree, out-roll-ImpTree, out-roll-KeyedTree, out-roll-LastStep, out-roll-MulStep, out-roll-OrTree, out-roll-ParamsTree, out-roll-PostTree, out-roll-SetTree, out-roll-SubscriptsTree}
 use Rattle.opl_tree.specs.declared.expression.CompareTree.TheFolds.{map-CompareTree, map-MulTree, map-NegTree, map-OpenTree, map-PrimTree, map-SignTree, map-SuffixTree, map-AddStep, map-AddTree, map-AndTree, map-ExprTree, map-GroupStep, map-GroupTree, map-ImpTree, map-KeyedTree, map-LastStep, map-MulStep, map-OrTree, map-ParamsTree, map-PostTree, map-SetTree, map-SubscriptsTree, ind-AddTree, ind-ExprTree, ind-KeyedTree, ind-MulTree, ind-OpenTree, ind-ParamsTree, ind-PostTree, ind-PrimTree, ind-SetTree, ind-SignTree, ind-SubscriptsTree}
-use Rattle.opl_term.specs.declared.expression.Suffix.{Suffix}
-use Rattle.opl_term.specs.declared.expression.Suffix.TheVariants.{Subscripts, Field}
 use Rattle.opl_term.specs.declared.term.FieldName.{FieldName}
 use Rattle.opl_term.specs.declared.term.GroupTerm.{GroupTerm}
 use Rattle.opl_term.specs.declared.term.ParamsTerm.{ParamsTerm}
@@ -71,30 +69,25 @@ by-walk ds f g h e p sc n is = takes-by g h (kinds n) (form_fields ds sc f) e (p
 pub by-both : (ds : List DeclTree) (f f' : Form) (t t' : Term) → f ≡ f' → t ≡ t' → Follows ds f' (walk ds t') → Follows ds f (walk ds t)
 by-both ds f f' t t' e h p = subst (λ f. Follows ds f (walk ds t)) (sym e) (subst (λ t. Follows ds f' (walk ds t)) (sym h) p)
 
--- what fields and subscripts are behind, where a suffix is behind them, and the fields behind that
-abbrev pub base_behind : ℕ → Term → List FieldName → Suffix → Term
-base_behind at t names (Subscripts es) = terms.Element at (says.with_fields at t names) es
-base_behind at t names (Field f) = t
-
-abbrev pub fields_behind : List FieldName → Suffix → List FieldName
-fields_behind names (Subscripts es) = []
-fields_behind names (Field f) = names ++ f ∷ []
-
-suffix-behind : (at : ℕ) (t : Term) (names : List FieldName) (s : Suffix) (ss : List Suffix) → says.with_suffixes at t names (s ∷ ss) ≡ says.with_suffixes at (base_behind at t names s) (fields_behind names s) ss
-suffix-behind at t names (Subscripts es) ss = refl
-suffix-behind at t names (Field f) ss = refl
+-- an expression with fields that a suffix stands behind, once more as an expression with fields: more suffixes behind are behind that, and the walk
+-- follows its form
+pub record Behind (ds : List DeclTree) (s : SuffixTree) (at : ℕ) (f : Form) (t : Term) (names : List FieldName) : Type 0 where
+  pub base : Term
+  pub fields : List FieldName
+  pub goes_on : (ss : List SuffixTree) → says.with_suffixes at t names (suffix_of s ∷ map suffix_of ss) ≡ says.with_suffixes at base fields (map suffix_of ss)
+  pub follows : Follows ds (forms.with_suffix at f (form_suffix s)) (walk ds (says.with_fields at base fields))
 
 -- what stands behind a primary
 abbrev pub FollowsSuffix : List DeclTree → SuffixTree → Type 0
-FollowsSuffix ds s = (at : ℕ) (f : Form) (t : Term) (names : List FieldName) → Follows ds f (walk ds (says.with_fields at t names)) →
-    Follows ds (forms.with_suffix at f (form_suffix s)) (walk ds (says.with_fields at (base_behind at t names (suffix_of s)) (fields_behind names (suffix_of s))))
+FollowsSuffix ds s = (at : ℕ) (f : Form) (t : Term) (names : List FieldName) → Follows ds f (walk ds (says.with_fields at t names)) → Behind ds s at f t names
 
 follows-suffixes : (ds : List DeclTree) (at : ℕ) (f : Form) (t : Term) (names : List FieldName) (es : List ((s : SuffixTree) × FollowsSuffix ds s)) → Follows ds f (walk ds (says.with_fields at t names)) →
     Follows ds (forms.with_suffixes at f (map form_suffix (map (λ e. e.0) es))) (walk ds (says.with_suffixes at t names (map suffix_of (map (λ e. e.0) es))))
 follows-suffixes ds at f t names [] p = p
 follows-suffixes ds at f t names (e ∷ es) p =
-    subst (λ u. Follows ds (forms.with_suffixes at (forms.with_suffix at f (form_suffix e.0)) (map form_suffix (map (λ e. e.0) es))) (walk ds u)) (sym (suffix-behind at t names (suffix_of e.0) (map suffix_of (map (λ e. e.0) es))))
-    (follows-suffixes ds at (forms.with_suffix at f (form_suffix e.0)) (base_behind at t names (suffix_of e.0)) (fields_behind names (suffix_of e.0)) es (e.1 at f t names p))
+    let b : Behind ds e.0 at f t names = e.1 at f t names p in
+    subst (λ u. Follows ds (forms.with_suffixes at (forms.with_suffix at f (form_suffix e.0)) (map form_suffix (map (λ e. e.0) es))) (walk ds u)) (sym (b.goes_on (map (λ e. e.0) es)))
+    (follows-suffixes ds at (forms.with_suffix at f (form_suffix e.0)) b.base b.fields es b.follows)
 
 -- ---- lists of parts of which something is known
 
@@ -468,8 +461,18 @@ unfolding text_of
 text-is name = refl
 
 case_suffix : (ds : List DeclTree) (y : SuffixTree-F (In_compare ds) (In_mul ds) (In_neg ds) (In_open ds) (In_prim ds) (In_sign ds) (In_suffix ds) (In_add_step ds) (In_add ds) (In_and ds) (In_expr ds) (In_group_step ds) (In_group ds) (In_imp ds) (In_keyed ds) (In_last_step ds) (In_mul_step ds) (In_or ds) (In_params ds) (In_post ds) (In_set ds) (In_subscripts ds)) → FollowsSuffix ds (roll-SuffixTree (inner_suffix ds y))
-case_suffix ds (SuffixTree-F.Subscripts e) = subst (λ t. FollowsSuffix ds t) (sym (suffixes.rolls-Subscripts e.0)) (λ at f u names p. by-both ds _ (forms.with_suffix at f (subscripts (form_subscripts e.0))) _ (terms.Element at (says.with_fields at u names) (subscripts_terms e.0)) (ap (forms.with_suffix at f) (form_is.form_suffix-Subscripts e.0)) (ap (λ s. says.with_fields at (base_behind at u names s) (fields_behind names s)) (term_is.suffix_of-Subscripts e.0)) (follows-Element ds at f (form_subscripts e.0) (says.with_fields at u names) (subscripts_terms e.0) p e.1))
-case_suffix ds (SuffixTree-F.Field place name) = subst (λ t. FollowsSuffix ds t) (sym (suffixes.rolls-Field place name)) (λ at f u names p. by-both ds _ (forms.with_suffix at f (field_of name)) _ (says.with_fields at u (names ++ record { at = name.at; text = name.text } ∷ [])) (ap (forms.with_suffix at f) (form_is.form_suffix-Field place name)) (ap (λ s. says.with_fields at (base_behind at u names s) (fields_behind names s)) (term_is.suffix_of-Field place name) ∙ ap (λ l. says.with_fields at u (names ++ record { at = name.at; text = l } ∷ [])) (text-is name)) (follows-Field ds at f name u names p))
+case_suffix ds (SuffixTree-F.Subscripts e) = subst (λ t. FollowsSuffix ds t) (sym (suffixes.rolls-Subscripts e.0)) (λ at f u names p. record {
+  base = terms.Element at (says.with_fields at u names) (subscripts_terms e.0);
+  fields = [];
+  goes_on = λ ss. ap (λ x. says.with_suffixes at u names (x ∷ map suffix_of ss)) (term_is.suffix_of-Subscripts e.0);
+  follows = by-both ds _ (forms.with_suffix at f (subscripts (form_subscripts e.0))) (terms.Element at (says.with_fields at u names) (subscripts_terms e.0)) _ (ap (forms.with_suffix at f) (form_is.form_suffix-Subscripts e.0)) refl (follows-Element ds at f (form_subscripts e.0) (says.with_fields at u names) (subscripts_terms e.0) p e.1);
+})
+case_suffix ds (SuffixTree-F.Field place name) = subst (λ t. FollowsSuffix ds t) (sym (suffixes.rolls-Field place name)) (λ at f u names p. record {
+  base = u;
+  fields = names ++ says.field_name name ∷ [];
+  goes_on = λ ss. ap (λ x. says.with_suffixes at u names (x ∷ map suffix_of ss)) (term_is.suffix_of-Field place name);
+  follows = by-both ds _ (forms.with_suffix at f (field_of name)) (says.with_fields at u (names ++ says.field_name name ∷ [])) (says.with_fields at u (names ++ record { at = name.at; text = name.text } ∷ [])) (ap (forms.with_suffix at f) (form_is.form_suffix-Field place name)) (ap (λ l. says.with_fields at u (names ++ record { at = name.at; text = l } ∷ [])) (text-is name)) (follows-Field ds at f name u names p);
+})
 
 case_prim : (ds : List DeclTree) (y : PrimTree-F (In_compare ds) (In_mul ds) (In_neg ds) (In_open ds) (In_prim ds) (In_sign ds) (In_suffix ds) (In_add_step ds) (In_add ds) (In_and ds) (In_expr ds) (In_group_step ds) (In_group ds) (In_imp ds) (In_keyed ds) (In_last_step ds) (In_mul_step ds) (In_or ds) (In_params ds) (In_post ds) (In_set ds) (In_subscripts ds)) → Follows ds (form_prim (roll-PrimTree (inner_prim ds y))) (walk ds (prim_term (roll-PrimTree (inner_prim ds y))))
 case_prim ds (PrimTree-F.Number at n) = subst (λ t. Follows ds (form_prim t) (walk ds (prim_term t))) (sym (prims.rolls-Number at n)) (by-both ds (form_prim (prims.Number at n)) _ (prim_term (prims.Number at n)) _ (form_is.form_prim-Number at n) (term_is.prim_term-Number at n) (follows-Number ds at (terms.Number at n) (walk-Number ds at n)))
