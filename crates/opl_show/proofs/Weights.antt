@@ -78,3 +78,8 @@ pub weight-item : (vs : List Value) (i : ℕ) (d : Value) → i < length vs → 
 weight-item [] i d h = absurd (omega arith)
 weight-item (v ∷ vs) zero d h = omega arith
 weight-item (v ∷ vs) (suc i) d h = let l = weight-item vs i d (omega arith) in omega arith
+
+pub weight-dimension : (ds : List Dimension) (i : ℕ) (d : Dimension) → i < length ds → dimension_weight (get_or ds i d) ≤ total (map dimension_weight ds)
+weight-dimension [] i d h = absurd (omega arith)
+weight-dimension (e ∷ ds) zero d h = omega arith
+weight-dimension (e ∷ ds) (suc i) d h = let l = weight-dimension ds i d (omega arith) in omega arith
