@@ -14,7 +14,7 @@ returns-in-None-clause-distance c = λ goes. let p = distance-positive (all_brac
 pub returns-in_ok-self-in-Some-clause-text : goal.returns-in_ok-self-in-Some-clause-text
 returns-in_ok-self-in-Some-clause-text c = λ cells.
     part-begun c.args.text.now.items c.extend_from_slice.new.self.items [] (prefixes_left c.prefixes.result) (closing_of c.prefixes.result) (brackets_of c.in-Some.layer.now) (all_brackets c.args.layers.now) (all_brackets c.in-Some.behind.now)
-    (still at_end c.args.self.now.turns.items) cells (ap all_brackets c.in-Some.ensures.cases.0) (c.in_ok-extend_from_slice.ensures.items ∙ ap (λ o. c.args.text.now.items ++ o) c.opening.ensures) refl c.prefixes.ensures.prefixes c.prefixes.ensures.closing
+    (still at_end c.args.self.now.turns.items) cells (ap all_brackets c.in-Some.ensures.cases.0) (c.in_ok-extend_from_slice-in-Some.ensures.items ∙ ap (λ o. c.args.text.now.items ++ o) c.opening.ensures) refl c.prefixes.ensures.prefixes c.prefixes.ensures.closing
     ∙ c.in_ok-self-in-Some.ensures.text cells
 
 pub returns-in_ok-self-in-Some-clause-distance : goal.returns-in_ok-self-in-Some-clause-distance
