@@ -1,9 +1,8 @@
 -- What is still to be written of an array, part by part.
-use Rattle.std.proofs.Common.{◌≡◌, ◌<◌, ℕ, suc, ◌+◌, ◌*◌, List, [], ◌∷◌, ◌++◌, Bor, Some, codes, drop, length, map, refl, sym, ap, ◌∙◌, append_assoc, drop-drop, arith}
+use Rattle.std.proofs.Common.{◌≡◌, ◌<◌, ℕ, suc, ◌+◌, ◌*◌, List, [], ◌∷◌, ◌++◌, Some, codes, drop, length, refl, sym, ap, ◌∙◌, append_assoc, drop-drop, arith}
 use Rattle.std.proofs.lemmas.List.{append-nil, drop-map}
 use Rattle.opl_value.specs.declared.value.Value.{Value}
 use Rattle.opl_show.specs.declared.course.Turn.{Turn}
-use Rattle.opl_show.specs.declared.layers.Layer.{Layer}
 use Rattle.opl_show.specs.Courses.{Writing, all_brackets, at_end, closing_of, distance, distance_back, pending, prefixes_left, rest_text, separated, still, turn_text}
 use Rattle.opl_show.specs.Parts.{part_text, texts}
 use Rattle.opl_show.specs.Texts.{Brackets, Enumerations, behind, joined, nested, parts_with, size_of, value_text}

@@ -1,4 +1,3 @@
-use Rattle.std.proofs.Common.{rules}
 use Rattle.opl_show.specs.Courses.{closing_of, prefixes_left}
 use Rattle.opl_show.proofs.Courses.{farther, part-first}
 use Rattle.opl_show.proofs.course.go_on.Goals as goal

@@ -1,12 +1,16 @@
-use Rattle.std.proofs.Common.{◌≡◌, ℕ, ◌+◌, ◌<◌, ◌≤◌, List, [], ◌∷◌, ◌++◌, OnOk, drop, get_or, length, map, sym, ap, subst, ◌∙◌, arith, rules}
+use Rattle.std.proofs.Common.{◌≡◌, ℕ, ◌+◌, ◌<◌, ◌≤◌, List, [], ◌++◌, OnOk, codes, drop, get_or, length, map, sym, ap, subst, ◌∙◌, arith, rules}
+use Rattle.std.specs.Prelude.{FitsSigned}
+use mir.Syntax.{w128}
+use Rattle.std.proofs.lemmas.Int.{to_z-of_z}
 use Rattle.std.proofs.lemmas.List.{append-nil}
 use Rattle.opl_value.specs.declared.value.Dimension.{Dimension}
 use Rattle.opl_value.specs.declared.value.Value.{Value}
+use Rattle.opl_value.specs.Places.{numbers_between}
 use Rattle.opl_show.specs.Courses.{all_brackets}
 use Rattle.opl_show.specs.Parts.{texts}
 use Rattle.opl_show.specs.Readings.{names_of, values_of}
-use Rattle.opl_show.specs.Texts.{Enumerations, nested, value_text}
-use Rattle.opl_show.proofs.Texts.{text-Range, text-Names}
+use Rattle.opl_show.specs.Texts.{Enumerations, brackets, nested, value_text}
+use Rattle.opl_show.proofs.Texts.{brackets-Whole, text-Range, text-Names}
 use Rattle.opl_show.proofs.Weights.{dimension_weight, weight, total, total-drop, weight-dimension, weight-item}
 use Rattle.opl_show.proofs.value.+texts.Goals as goal
 
@@ -65,3 +69,11 @@ pub push_array-returns : goal.push_array-returns
 push_array-returns t c =
     subst (λ ds. OnOk c.push_nested.result (c.push_nested.new.text.items ≡ c.args.text.now.items ++ nested ds (texts (names_of c.args.enumerations.now) (values_of c.args.cells))))
     (ap all_brackets c.as_slice.ensures.value ∙ c.in_ok-layers.ensures) c.push_nested.ensures
+
+pub layer_of-returns-in-Whole : goal.layer_of-returns-in-Whole
+layer_of-returns-in-Whole t c =
+    let e = names_of c.args.enumerations.now in
+    let low : FitsSigned w128 c.in-Whole.low = search rules in
+    let high : FitsSigned w128 c.in-Whole.high = search rules in
+    (λ i. record { opening = codes "["; closing = codes "]"; prefixes = map (λ v. []) (numbers_between (to_z-of_z w128 c.in-Whole.low low i) (to_z-of_z w128 c.in-Whole.high high i)) })
+    ∙ sym (ap (brackets e) c.in-Whole.is ∙ brackets-Whole e c.in-Whole.low c.in-Whole.high)
