@@ -1,11 +1,9 @@
 -- What is still to be written of an array, part by part.
 use Rattle.std.proofs.Common.{◌≡◌, ◌<◌, ℕ, suc, ◌+◌, ◌*◌, List, [], ◌∷◌, ◌++◌, Some, codes, drop, length, refl, sym, ap, ◌∙◌, append_assoc, drop-drop, arith}
-use Rattle.std.proofs.lemmas.List.{append-nil, drop-map}
-use Rattle.opl_value.specs.declared.value.Value.{Value}
+use Rattle.std.proofs.lemmas.List.{append-nil}
 use Rattle.opl_show.specs.declared.course.Turn.{Turn}
 use Rattle.opl_show.specs.Courses.{Writing, all_brackets, at_end, closing_of, distance, distance_back, pending, prefixes_left, rest_text, separated, still, turn_text}
-use Rattle.opl_show.specs.Parts.{part_text, texts}
-use Rattle.opl_show.specs.Texts.{Brackets, Enumerations, behind, joined, nested, parts_with, size_of, value_text}
+use Rattle.opl_show.specs.Texts.{Brackets, behind, joined, nested, parts_with, size_of}
 
 behind-separated : (ts : List (List ℕ)) → behind ts ≡ separated (codes ",") ts
 behind-separated [] = refl
@@ -83,13 +81,6 @@ pub turn-back : (text separator : List ℕ) (old rest : List Turn) (t : Turn) (c
 turn-back text separator old rest t cells h s =
     ap (λ ts. text ++ still at_end ts cells) h ∙ ap (λ x. text ++ x) (still-last at_end rest t cells)
     ∙ ap (λ b. text ++ rest_text b (prefixes_left t.prefixes) (closing_of t.prefixes) (all_brackets t.behind.now) (still at_end rest) cells) (sym s)
-
--- a cell is written
-pub cell-written : (e : Enumerations) (all before after : List ℕ) (vs left : List Value) (rest : Writing) → all ≡ before ++ (nested [] (texts e vs) ++ rest (drop 1 (texts e vs))) → after ≡ before ++ part_text e [] vs → left ≡ drop 1 vs →
-    all ≡ after ++ rest (texts e left)
-cell-written e all before after vs left rest h a l =
-    h ∙ sym (append_assoc before (nested [] (texts e vs)) (rest (drop 1 (texts e vs))))
-    ∙ (λ i. sym a i ++ rest ((drop-map (value_text e) 1 vs ∙ ap (texts e) (sym l)) i))
 
 -- ---- how far it is
 

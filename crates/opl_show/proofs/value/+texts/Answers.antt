@@ -1,4 +1,4 @@
-use Rattle.std.proofs.Common.{◌≡◌, ℕ, ◌+◌, ◌<◌, ◌≤◌, List, [], ◌++◌, OnOk, codes, drop, get_or, length, map, sym, ap, subst, ◌∙◌, arith, rules}
+use Rattle.std.proofs.Common.{◌≡◌, ℕ, ◌+◌, ◌<◌, ◌≤◌, List, [], ◌++◌, OnOk, codes, get_or, length, map, sym, ap, subst, ◌∙◌, arith, rules}
 use Rattle.std.specs.Prelude.{FitsSigned}
 use mir.Syntax.{w128}
 use Rattle.std.proofs.lemmas.Int.{to_z-of_z}
@@ -11,7 +11,7 @@ use Rattle.opl_show.specs.Parts.{texts}
 use Rattle.opl_show.specs.Readings.{names_of, values_of}
 use Rattle.opl_show.specs.Texts.{Enumerations, brackets, nested, value_text}
 use Rattle.opl_show.proofs.Texts.{brackets-Whole, text-Range, text-Names}
-use Rattle.opl_show.proofs.Weights.{dimension_weight, weight, total, total-drop, weight-dimension, weight-item}
+use Rattle.opl_show.proofs.Weights.{dimension_weight, weight, total, weight-dimension, weight-item}
 use Rattle.opl_show.proofs.value.+texts.Goals as goal
 
 -- a value that has no text adds nothing
@@ -54,10 +54,6 @@ key_texts-key_text-requires t c =
     let h : c.loop-key.key-index < length c.args.keys.now = omega arith in
     let w = item_weighs c.args.keys.now c.loop-key.key-index c.key-item.result h c.key-item.is in
     first_of (search (rules, w), omega (arith, w))
-
--- what is left of cells weighs no more
-lighter : (n : ℕ) (cells left : List Value) → left ≡ drop n cells → total (map weight left) ≤ total (map weight cells)
-lighter n cells left l = subst (λ vs. total (map weight vs) ≤ total (map weight cells)) (sym l) (total-drop n cells)
 
 pub push_nested-loop-course-init : goal.push_nested-loop-course-init
 push_nested-loop-course-init t c = record {
