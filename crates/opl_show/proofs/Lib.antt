@@ -1,3 +1,4 @@
+pub mod Courses
 pub mod Examples
 pub mod Parts
 pub mod Texts

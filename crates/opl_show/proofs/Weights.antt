@@ -1,5 +1,5 @@
 -- How much there is to write in a value: what a recursion over values and lists of them takes less of.
-use Rattle.std.proofs.Common.{◌≡◌, ℕ, ◌+◌, ◌<◌, ◌≤◌, ℤ, List, [], ◌∷◌, drop, get_or, length, map, zero, suc, refl, ap, ◌∙◌, sym, arith}
+use Rattle.std.proofs.Common.{◌≡◌, ℕ, ◌+◌, ◌<◌, ◌≤◌, ℤ, List, [], ◌∷◌, get_or, length, map, zero, suc, refl, ap, ◌∙◌, sym, arith}
 use Rattle.opl_value.specs.declared.value.Value.{Value}
 use Rattle.opl_value.specs.declared.value.Value.TheVariants as values
 use Rattle.opl_value.specs.declared.value.IndexSpace.{IndexSpace}
@@ -65,16 +65,15 @@ pub weight-Listed : (listed : List Value) (rising : List ℕ) → dimension_weig
 unfolding dimension_weight weight
 weight-Listed listed rising = ap dimension_weight (sym (dims.rolls-Listed listed rising)) ∙ rw fold-roll-Dimension refl
 
--- what is left weighs no more
-pub total-drop : (n : ℕ) (vs : List Value) → total (map weight (drop n vs)) ≤ total (map weight vs)
-total-drop zero vs = omega arith
-total-drop (suc n) [] = omega arith
-total-drop (suc n) (v ∷ vs) = let l = total-drop n vs in omega arith
-
 pub ruleset weights = (weight-Record, weight-Set, weight-Array, weight-Whole, weight-Listed)
 
--- so does each value of a list
+-- a value of a list weighs no more than all of them
 pub weight-item : (vs : List Value) (i : ℕ) (d : Value) → i < length vs → weight (get_or vs i d) ≤ total (map weight vs)
 weight-item [] i d h = absurd (omega arith)
 weight-item (v ∷ vs) zero d h = omega arith
 weight-item (v ∷ vs) (suc i) d h = let l = weight-item vs i d (omega arith) in omega arith
+
+pub weight-dimension : (ds : List Dimension) (i : ℕ) (d : Dimension) → i < length ds → dimension_weight (get_or ds i d) ≤ total (map dimension_weight ds)
+weight-dimension [] i d h = absurd (omega arith)
+weight-dimension (e ∷ ds) zero d h = omega arith
+weight-dimension (e ∷ ds) (suc i) d h = let l = weight-dimension ds i d (omega arith) in omega arith

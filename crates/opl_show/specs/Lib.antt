@@ -1,3 +1,4 @@
+pub mod Courses
 pub mod Parts
 pub mod Readings
 pub mod Texts

@@ -6,10 +6,10 @@ ghost use Rattle.opl_show.specs.Texts.{value_text};
 
 use crate::cells::Cells;
 use crate::name::push_number;
-use crate::value::push_nested;
+use crate::value::push_array;
 use opl_list::Seq;
 use opl_meaning::VariableItem;
-use std::alloc::AllocError;
+use std::alloc::{AllocError, Global};
 
 /// The first of the numbers; 0 where there are none.
 fn first(numbers: &[i128]) -> i128
@@ -24,6 +24,7 @@ fn first(numbers: &[i128]) -> i128
 /// Adds the text of the value of a declared variable, or of an array of them, under its part of an assignment.
 #[tactic(auto, using(crate::proofs::Texts::texts))]
 pub(crate) fn push_item(
+    alloc: Global,
     text: &mut Vec<u8>,
     enumerations: &[Seq<&[u8]>],
     item: &VariableItem,
@@ -38,7 +39,7 @@ pub(crate) fn push_item(
         }
         Some(space) => {
             let cells = Cells::Numbers(item.kind, numbers);
-            push_nested(text, enumerations, space.dims.as_slice(), cells)?;
+            push_array(alloc, text, enumerations, space.dims.as_slice(), cells)?;
         }
     }
     Ok(())

@@ -2,7 +2,9 @@
 #![tactic(auto)]
 
 mod cells;
+mod course;
 mod item;
+mod layers;
 mod name;
 mod solution;
 mod value;

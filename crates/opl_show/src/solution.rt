@@ -23,6 +23,7 @@ fn split(numbers: &[i128], count: usize) -> (&[i128], &[i128])
 
 /// Adds the line of a declared variable, or of an array of them, and its value.
 fn push_line(
+    alloc: Global,
     text: &mut Vec<u8>,
     enumerations: &[Seq<&[u8]>],
     item: &VariableItem,
@@ -32,7 +33,7 @@ fn push_line(
 {
     text.extend_from_slice(item.name.as_slice())?;
     text.extend_from_slice(b" = ")?;
-    push_item(text, enumerations, item, numbers)?;
+    push_item(alloc, text, enumerations, item, numbers)?;
     text.extend_from_slice(b"\n")?;
     Ok(())
 }
@@ -54,7 +55,7 @@ pub fn solution_text(
     let mut left = numbers;
     for item in items {
         let (own, others) = split(left, item.sets.len());
-        push_line(&mut text, enumerations, item, own)?;
+        push_line(alloc, &mut text, enumerations, item, own)?;
         left = others;
     }
     Ok(text)

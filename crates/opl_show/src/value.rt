@@ -1,21 +1,24 @@
 //! The texts of values.
-ghost use Rattle.std.specs.Prelude.{◌≡◌, ◌∷◌, ◌++◌, ◌+◌, ◌*◌, [], codes, drop, length, map, IfOk, OnOk};
-ghost use Rattle.opl_value.specs.Places.{numbers_between};
-ghost use Rattle.opl_show.specs.Parts.{bare, keyed, part_text, parts, taken, texts};
+ghost use Rattle.std.specs.Prelude.{◌≡◌, ◌∷◌, ◌++◌, [], codes, drop, IfOk, OnOk};
+ghost use Rattle.opl_show.specs.Courses.{all_brackets, brackets_of};
+ghost use Rattle.opl_show.specs.Parts.{keyed, layers, part_text, texts};
 ghost use Rattle.opl_show.specs.Readings.{names_of, values_of};
-ghost use Rattle.opl_show.specs.Texts.{joined, value_text};
+ghost use Rattle.opl_show.specs.Texts.{brackets, joined, nested, value_text};
 
 use crate::cells::Cells;
+use crate::course::Course;
+use crate::layers::Layer;
 use crate::name::{push_name, push_number};
 use itoa::Buffer;
 use opl_list::Seq;
 use opl_value::{Dimension, Value};
-use std::alloc::AllocError;
+use std::alloc::{AllocError, Global};
 
 /// Adds the text of a value: a number, a name of an enumeration, `<a,..>`, `{a,..}`, `[a,..]` or `#[k:a,..]#`.
 #[tactic(auto, using(crate::proofs::Texts::texts, crate::proofs::Weights::weights))]
 #[cycle(texts)]
 pub(crate) fn push_value(
+    alloc: Global,
     text: &mut Vec<u8>,
     enumerations: &[Seq<&[u8]>],
     value: &Value,
@@ -33,16 +36,16 @@ pub(crate) fn push_value(
             push_name(text, enumerations, *declaration, *position as u128)?;
         }
         Value::Record(parts) => {
-            push_enclosed(text, enumerations, b"<", parts.as_slice(), b">")?;
+            push_enclosed(alloc, text, enumerations, b"<", parts.as_slice(), b">")?;
         }
         Value::Set(elements) => {
-            push_enclosed(text, enumerations, b"{", elements.as_slice(), b"}")?;
+            push_enclosed(alloc, text, enumerations, b"{", elements.as_slice(), b"}")?;
         }
         Value::Range(..) => {}
         Value::Names(_) => {}
         Value::Array(space, cells) => {
             let cells = Cells::Values(cells.as_slice());
-            push_nested(text, enumerations, space.dims.as_slice(), cells)?;
+            push_array(alloc, text, enumerations, space.dims.as_slice(), cells)?;
         }
     }
     Ok(())
@@ -52,6 +55,7 @@ pub(crate) fn push_value(
 #[tactic(auto, using(crate::proofs::Parts::enclosed, crate::proofs::Weights::weights))]
 #[cycle(texts)]
 fn push_enclosed(
+    alloc: Global,
     text: &mut Vec<u8>,
     enumerations: &[Seq<&[u8]>],
     opening: &[u8],
@@ -61,7 +65,7 @@ fn push_enclosed(
     ensures { OnOk result (text.new.items ≡ text.old.items ++ (opening.now ++ joined (texts (names_of enumerations.now) values.now) ++ closing.now)) }
 {
     text.extend_from_slice(opening)?;
-    push_values(text, enumerations, values)?;
+    push_values(alloc, text, enumerations, values)?;
     text.extend_from_slice(closing)?;
     Ok(())
 }
@@ -70,6 +74,7 @@ fn push_enclosed(
 #[tactic(auto, using(crate::proofs::Weights::weights))]
 #[cycle(texts)]
 fn push_values(
+    alloc: Global,
     text: &mut Vec<u8>,
     enumerations: &[Seq<&[u8]>],
     values: &[Value],
@@ -79,10 +84,10 @@ fn push_values(
     let Some((first, others)) = values.split_first() else {
         return Ok(());
     };
-    push_value(text, enumerations, first)?;
+    push_value(alloc, text, enumerations, first)?;
     for value in others {
         text.extend_from_slice(b",")?;
-        push_value(text, enumerations, value)?;
+        push_value(alloc, text, enumerations, value)?;
     }
     Ok(())
 }
@@ -91,6 +96,7 @@ fn push_values(
 #[tactic(auto, using(crate::proofs::Weights::weights))]
 #[cycle(texts)]
 fn push_cell<'a>(
+    alloc: Global,
     text: &mut Vec<u8>,
     enumerations: &[Seq<&[u8]>],
     cells: Cells<'a>,
@@ -103,7 +109,7 @@ fn push_cell<'a>(
             let Some((value, others)) = values.split_first() else {
                 return Ok(cells);
             };
-            push_value(text, enumerations, value)?;
+            push_value(alloc, text, enumerations, value)?;
             Ok(Cells::Values(others))
         }
         Cells::Numbers(kind, numbers) => {
@@ -116,115 +122,99 @@ fn push_cell<'a>(
     }
 }
 
-/// Adds the text of as many cells as there are elements in these dimensions. The result is what is left.
+/// Adds the text of as many cells as there are elements in these dimensions.
+#[tactic(auto, using(crate::proofs::Weights::weights))]
+#[cycle(texts)]
+pub(crate) fn push_array(
+    alloc: Global,
+    text: &mut Vec<u8>,
+    enumerations: &[Seq<&[u8]>],
+    dims: &[Dimension],
+    cells: Cells<'_>,
+) -> Result<(), AllocError>
+    ensures { OnOk result (text.new.items ≡ text.old.items ++ part_text (names_of enumerations.now) dims.now (values_of cells.entry)) }
+{
+    let layers = layers_of(alloc, enumerations, dims)?;
+    push_nested(alloc, text, enumerations, layers.as_slice(), cells)
+}
+
+/// Adds the text of the cells in these dimensions, and what stands between them.
+#[tactic(auto, using(crate::proofs::Weights::weights))]
+#[cycle(texts)]
+fn push_nested(
+    alloc: Global,
+    text: &mut Vec<u8>,
+    enumerations: &[Seq<&[u8]>],
+    layers: &[Layer],
+    cells: Cells<'_>,
+) -> Result<(), AllocError>
+    ensures { OnOk result (text.new.items ≡ text.old.items ++ nested (all_brackets layers.now) (texts (names_of enumerations.now) (values_of cells.entry))) }
+{
+    let mut course = Course::new(alloc, layers);
+    let mut left = cells;
+    while course.advance(text)? {
+        left = push_cell(alloc, text, enumerations, left)?;
+    }
+    Ok(())
+}
+
+/// How dimensions are written.
+#[cycle(texts)]
+fn layers_of(
+    alloc: Global,
+    enumerations: &[Seq<&[u8]>],
+    dims: &[Dimension],
+) -> Result<Vec<Layer>, AllocError>
+    ensures { IfOk result (λ all. all_brackets all.items ≡ layers (names_of enumerations.now) dims.now) }
+{
+    let mut layers = Vec::new(alloc);
+    for dimension in dims {
+        layers.push(layer_of(alloc, enumerations, dimension)?)?;
+    }
+    Ok(layers)
+}
+
+/// How a dimension is written.
 #[tactic(auto, using(crate::proofs::Texts::texts, crate::proofs::Weights::weights))]
 #[cycle(texts)]
-pub(crate) fn push_nested<'a>(
-    text: &mut Vec<u8>,
+fn layer_of(
+    alloc: Global,
     enumerations: &[Seq<&[u8]>],
-    dims: &[Dimension],
-    cells: Cells<'a>,
-) -> Result<Cells<'a>, AllocError>
-    ensures text { OnOk result (text.new.items ≡ text.old.items ++ part_text (names_of enumerations.now) dims.now (values_of cells.entry)) }
-    ensures left { IfOk result (λ left. values_of left ≡ drop (taken (names_of enumerations.now) dims.now) (values_of cells.entry)) }
+    dimension: &Dimension,
+) -> Result<Layer, AllocError>
+    ensures { IfOk result (λ layer. brackets_of layer ≡ brackets (names_of enumerations.now) dimension.now) }
 {
-    let Some((dimension, others)) = dims.split_first() else {
-        return push_cell(text, enumerations, cells);
-    };
     match dimension {
-        Dimension::Whole(low, high) => {
-            text.extend_from_slice(b"[")?;
-            let left = push_between(text, enumerations, low, high, others, cells)?;
-            text.extend_from_slice(b"]")?;
-            Ok(left)
-        }
+        Dimension::Whole(low, high) => Ok(Layer::Whole(*low, *high)),
         Dimension::Listed(keys, _) => {
-            text.extend_from_slice(b"#[")?;
-            let left = push_entries(text, enumerations, keys.as_slice(), others, cells)?;
-            text.extend_from_slice(b"]#")?;
-            Ok(left)
+            Ok(Layer::Listed(key_texts(alloc, enumerations, keys.as_slice())?))
         }
     }
 }
 
-/// Adds the parts of an array at the whole numbers from the first to the second, with `,` between them. The result is what is left of the cells.
+/// The texts of keys, each with `:` behind it.
 #[cycle(texts)]
-fn push_between<'a>(
-    text: &mut Vec<u8>,
-    enumerations: &[Seq<&[u8]>],
-    low: &i128,
-    high: &i128,
-    dims: &[Dimension],
-    cells: Cells<'a>,
-) -> Result<Cells<'a>, AllocError>
-    ensures text { OnOk result (text.new.items ≡ text.old.items ++ joined (parts (names_of enumerations.now) (map (λ v. []) (numbers_between low.now high.now)) dims.now (values_of cells.entry))) }
-    ensures left { IfOk result (λ left. values_of left ≡ drop (length (numbers_between low.now high.now) * taken (names_of enumerations.now) dims.now) (values_of cells.entry)) }
-{
-    if *high < *low {
-        return Ok(cells);
-    }
-    push_several(text, enumerations, high.abs_diff(*low), dims, cells)
-}
-
-/// Adds one part of an array and so many more, with `,` between them. The result is what is left of the cells.
-#[tactic(auto, using(crate::proofs::Weights::weights))]
-#[cycle(texts)]
-fn push_several<'a>(
-    text: &mut Vec<u8>,
-    enumerations: &[Seq<&[u8]>],
-    more: u128,
-    dims: &[Dimension],
-    cells: Cells<'a>,
-) -> Result<Cells<'a>, AllocError>
-    ensures text { OnOk result (text.new.items ≡ text.old.items ++ joined (parts (names_of enumerations.now) ([] ∷ bare more) dims.now (values_of cells.entry))) }
-    ensures left { IfOk result (λ left. values_of left ≡ drop ((more + 1) * taken (names_of enumerations.now) dims.now) (values_of cells.entry)) }
-{
-    let mut left = push_nested(text, enumerations, dims, cells)?;
-    for _turn in 0..more {
-        text.extend_from_slice(b",")?;
-        left = push_nested(text, enumerations, dims, left)?;
-    }
-    Ok(left)
-}
-
-/// Adds the parts of an array at these keys, with `,` between them. The result is what is left of the cells.
-#[tactic(auto, using(crate::proofs::Weights::weights))]
-#[cycle(texts)]
-fn push_entries<'a>(
-    text: &mut Vec<u8>,
+fn key_texts(
+    alloc: Global,
     enumerations: &[Seq<&[u8]>],
     keys: &[Value],
-    dims: &[Dimension],
-    cells: Cells<'a>,
-) -> Result<Cells<'a>, AllocError>
-    ensures text { OnOk result (text.new.items ≡ text.old.items ++ joined (parts (names_of enumerations.now) (keyed (names_of enumerations.now) keys.now) dims.now (values_of cells.entry))) }
-    ensures left { IfOk result (λ left. values_of left ≡ drop (length keys.now * taken (names_of enumerations.now) dims.now) (values_of cells.entry)) }
+) -> Result<Seq<Seq<u8>>, AllocError>
+    ensures { IfOk result (λ all. all ≡ keyed (names_of enumerations.now) keys.now) }
 {
-    let Some((first, others)) = keys.split_first() else {
-        return Ok(cells);
-    };
-    let mut left = push_entry(text, enumerations, first, dims, cells)?;
-    for key in others {
-        text.extend_from_slice(b",")?;
-        left = push_entry(text, enumerations, key, dims, left)?;
+    let mut texts = Seq::new(alloc);
+    for key in keys {
+        texts.push(key_text(alloc, enumerations, key)?)?;
     }
-    Ok(left)
+    Ok(texts)
 }
 
-/// Adds a key and the part of an array there. The result is what is left of the cells.
-#[tactic(auto, using(crate::proofs::Weights::weights))]
+/// The text of a key, with `:` behind it.
 #[cycle(texts)]
-fn push_entry<'a>(
-    text: &mut Vec<u8>,
-    enumerations: &[Seq<&[u8]>],
-    key: &Value,
-    dims: &[Dimension],
-    cells: Cells<'a>,
-) -> Result<Cells<'a>, AllocError>
-    ensures text { OnOk result (text.new.items ≡ text.old.items ++ (value_text (names_of enumerations.now) key.now ++ codes ":" ++ part_text (names_of enumerations.now) dims.now (values_of cells.entry))) }
-    ensures left { IfOk result (λ left. values_of left ≡ drop (taken (names_of enumerations.now) dims.now) (values_of cells.entry)) }
+fn key_text(alloc: Global, enumerations: &[Seq<&[u8]>], key: &Value) -> Result<Seq<u8>, AllocError>
+    ensures { IfOk result (λ text. text ≡ value_text (names_of enumerations.now) key.now ++ codes ":") }
 {
-    push_value(text, enumerations, key)?;
+    let mut text = Vec::new(alloc);
+    push_value(alloc, &mut text, enumerations, key)?;
     text.extend_from_slice(b":")?;
-    push_nested(text, enumerations, dims, cells)
+    Ok(Seq::from_vec(text))
 }

@@ -1,7 +1,8 @@
-use Rattle.std.proofs.Common.{◌≡◌, ◌+◌, ◌-◌, ◌*◌, ◌≤◌, ◌++◌, ◌∷◌, [], drop, length, map}
-use Rattle.opl_show.specs.Parts.{bare, keyed, parts, taken, texts}
+use Rattle.std.proofs.Common.{◌≡◌, ◌+◌, ◌≤◌, ◌++◌, drop, map}
+use Rattle.opl_show.specs.Courses.{all_brackets, distance_of, to_write}
+use Rattle.opl_show.specs.Parts.{keyed, layers, texts}
 use Rattle.opl_show.specs.Readings.{names_of, values_of}
-use Rattle.opl_show.specs.Texts.{behind, joined}
+use Rattle.opl_show.specs.Texts.{behind, joined, nested}
 use Rattle.opl_show.proofs.Weights.{weight, dimension_weight, total}
 use Rattle.opl_show.proofs.value.+texts.Given as goal
 
@@ -18,37 +19,40 @@ abbrev pub decreases-push_cell : goal.decreases-push_cell
 decreases-push_cell l = total (map weight (values_of l.cells)) + 1
 
 abbrev pub decreases-push_nested : goal.decreases-push_nested
-decreases-push_nested l = total (map dimension_weight l.dims.now) + total (map weight (values_of l.cells)) + 2
+decreases-push_nested l = total (map weight (values_of l.cells)) + 2
 
-abbrev pub decreases-push_between : goal.decreases-push_between
-decreases-push_between l = total (map dimension_weight l.dims.now) + total (map weight (values_of l.cells)) + 4
+abbrev pub decreases-push_array : goal.decreases-push_array
+decreases-push_array l = total (map dimension_weight l.dims.now) + total (map weight (values_of l.cells)) + 5
 
-abbrev pub decreases-push_several : goal.decreases-push_several
-decreases-push_several l = total (map dimension_weight l.dims.now) + total (map weight (values_of l.cells)) + 3
+abbrev pub decreases-layers_of : goal.decreases-layers_of
+decreases-layers_of l = total (map dimension_weight l.dims.now) + 4
 
-abbrev pub decreases-push_entries : goal.decreases-push_entries
-decreases-push_entries l = total (map weight l.keys.now) + total (map dimension_weight l.dims.now) + total (map weight (values_of l.cells)) + 4
+abbrev pub decreases-layer_of : goal.decreases-layer_of
+decreases-layer_of l = dimension_weight l.dimension.now + 3
 
-abbrev pub decreases-push_entry : goal.decreases-push_entry
-decreases-push_entry l = weight l.key.now + total (map dimension_weight l.dims.now) + total (map weight (values_of l.cells)) + 3
+abbrev pub decreases-key_texts : goal.decreases-key_texts
+decreases-key_texts l = total (map weight l.keys.now) + 2
+
+abbrev pub decreases-key_text : goal.decreases-key_text
+decreases-key_text l = weight l.key.now + 1
 
 abbrev pub invariant-push_values-loop-value : goal.invariant-push_values-loop-value
 invariant-push_values-loop-value l =
     l.fn.text.items ++ joined (texts (names_of l.enumerations) l.values)
     ≡ l.text.items ++ behind (texts (names_of l.enumerations) (drop l.value-index l.others))
 
-abbrev pub invariant-push_several-loop-turn : goal.invariant-push_several-loop-turn
-invariant-push_several-loop-turn l = record {
-  text : l.fn.text.items ++ joined (parts (names_of l.enumerations) ([] ∷ bare l.more) l.dims (values_of l.fn.cells))
-      ≡ l.text.items ++ behind (parts (names_of l.enumerations) (bare (l.more - l._turn)) l.dims (values_of l.left));
-  left : drop ((l.more + 1) * taken (names_of l.enumerations) l.dims) (values_of l.fn.cells) ≡ drop ((l.more - l._turn) * taken (names_of l.enumerations) l.dims) (values_of l.left);
+abbrev pub invariant-push_nested-loop-course : goal.invariant-push_nested-loop-course
+invariant-push_nested-loop-course l = record {
+  text : l.fn.text.items ++ nested (all_brackets l.layers) (texts (names_of l.enumerations) (values_of l.fn.cells))
+      ≡ l.text.items ++ to_write l.course (texts (names_of l.enumerations) (values_of l.left));
   weighs : total (map weight (values_of l.left)) ≤ total (map weight (values_of l.fn.cells));
 }
 
-abbrev pub invariant-push_entries-loop-key : goal.invariant-push_entries-loop-key
-invariant-push_entries-loop-key l = record {
-  text : l.fn.text.items ++ joined (parts (names_of l.enumerations) (keyed (names_of l.enumerations) l.keys) l.dims (values_of l.fn.cells))
-      ≡ l.text.items ++ behind (parts (names_of l.enumerations) (keyed (names_of l.enumerations) (drop l.key-index l.others)) l.dims (values_of l.left));
-  left : drop (length l.keys * taken (names_of l.enumerations) l.dims) (values_of l.fn.cells) ≡ drop (length (drop l.key-index l.others) * taken (names_of l.enumerations) l.dims) (values_of l.left);
-  weighs : total (map weight (values_of l.left)) ≤ total (map weight (values_of l.fn.cells));
-}
+abbrev pub decreases-push_nested-loop-course : goal.decreases-push_nested-loop-course
+decreases-push_nested-loop-course l = distance_of l.course
+
+abbrev pub invariant-layers_of-loop-dimension : goal.invariant-layers_of-loop-dimension
+invariant-layers_of-loop-dimension l = layers (names_of l.enumerations) l.dims ≡ all_brackets l.layers.items ++ layers (names_of l.enumerations) (drop l.dimension-index l.dims)
+
+abbrev pub invariant-key_texts-loop-key : goal.invariant-key_texts-loop-key
+invariant-key_texts-loop-key l = keyed (names_of l.enumerations) l.keys ≡ l.texts ++ keyed (names_of l.enumerations) (drop l.key-index l.keys)
