@@ -2,6 +2,7 @@
 //!
 //! A program that goes from moment to moment stands on it. Each law is the contract of a function without effect.
 #![tactic(auto)]
+
 ghost use Rattle.opl_steps.specs.Laws.{StepsMean, FailedMomentsEnd, StepsLessen, BetterHolds, BetterIsSound, BetterIsClear};
 
 /// At a moment with sets, tasks make what comes next.
