@@ -8,28 +8,27 @@ ghost use Rattle.opl_reference_labelling.specs.Answered.{is_some_number, is_swap
 use opl_domain::View;
 use opl_expr::{Ask, Cons, Core, Expr, OutOfMemory};
 use opl_list::{Boxed, Seq};
-use opl_trace::Sets;
 use std::alloc::Global;
 
 /// The answer to a question; 0 where there is no such variable.
-fn answer(sets: &Sets, ask: Ask, x: u32) -> i128
-    ensures { result ≡ answer sets.now ask x }
+fn answer<V: View>(view: &V, ask: Ask, x: u32) -> i128
+    ensures { result ≡ answer (V.family view.now) ask x }
 {
-    if x >= sets.vars() {
+    if x >= view.vars() {
         return 0;
     }
     match ask {
-        Ask::Size => sets.size(x) as i128,
-        Ask::Least => sets.min(x) as i128,
-        Ask::Greatest => sets.max(x) as i128,
+        Ask::Size => view.size(x) as i128,
+        Ask::Least => view.min(x) as i128,
+        Ask::Greatest => view.max(x) as i128,
     }
 }
 
 /// Whether the set of a variable has one value.
-pub fn is_single(sets: &Sets, x: u32) -> bool
-    ensures { result ≡ is_single sets.now x }
+pub fn is_single<V: View>(view: &V, x: u32) -> bool
+    ensures { result ≡ is_single (V.family view.now) x }
 {
-    x < sets.vars() && sets.size(x) == 1
+    x < view.vars() && view.size(x) == 1
 }
 
 /// Whether an expression is a number.
@@ -61,17 +60,17 @@ fn is_swapped(core: &Core, a: &Expr, b: &Expr) -> bool
 }
 
 /// A product, of whose factors both the forms and the answers are given. A factor that was a number comes first.
-fn answered_product(
+fn answered_product<V: View>(
     core: &Core,
-    sets: &Sets,
+    view: &V,
     a: &Expr,
     b: &Expr,
     first: Boxed<Expr>,
     second: Boxed<Expr>,
 ) -> Expr
-    requires left { term core.now.tables core.now.resources first ≡ answered_term sets.now (term core.now.tables core.now.resources a.now) }
-    requires right { term core.now.tables core.now.resources second ≡ answered_term sets.now (term core.now.tables core.now.resources b.now) }
-    ensures { term core.now.tables core.now.resources result ≡ answered_term sets.now (product (term core.now.tables core.now.resources a.now) (term core.now.tables core.now.resources b.now)) }
+    requires left { term core.now.tables core.now.resources first ≡ answered_term (V.family view.now) (term core.now.tables core.now.resources a.now) }
+    requires right { term core.now.tables core.now.resources second ≡ answered_term (V.family view.now) (term core.now.tables core.now.resources b.now) }
+    ensures { term core.now.tables core.now.resources result ≡ answered_term (V.family view.now) (product (term core.now.tables core.now.resources a.now) (term core.now.tables core.now.resources b.now)) }
 {
     if is_swapped(core, a, b) {
         Expr::Mul(second, first)
@@ -82,143 +81,143 @@ fn answered_product(
 
 /// Expressions with their questions answered, in their order.
 #[cycle(answers)]
-fn answered_terms(
+fn answered_terms<V: View>(
     alloc: Global,
     core: &Core,
-    sets: &Sets,
+    view: &V,
     parts: &[Expr],
 ) -> Result<Seq<Expr>, OutOfMemory>
-    ensures { IfOk result (λ r. map (term core.now.tables core.now.resources) r ≡ map (λ e. answered_term sets.now (term core.now.tables core.now.resources e)) parts.now) }
+    ensures { IfOk result (λ r. map (term core.now.tables core.now.resources) r ≡ map (λ e. answered_term (V.family view.now) (term core.now.tables core.now.resources e)) parts.now) }
 {
     let mut answers = Seq::new(alloc);
     for part in parts {
-        answers.push(answered_term(alloc, core, sets, part)?.into_inner())?;
+        answers.push(answered_term(alloc, core, view, part)?.into_inner())?;
     }
     Ok(answers)
 }
 
 /// An expression with its questions answered, in a box.
 #[cycle(answers)]
-pub fn answered_term(
+pub fn answered_term<V: View>(
     alloc: Global,
     core: &Core,
-    sets: &Sets,
+    view: &V,
     e: &Expr,
 ) -> Result<Boxed<Expr>, OutOfMemory>
-    ensures { IfOk result (λ r. term core.now.tables core.now.resources r ≡ answered_term sets.now (term core.now.tables core.now.resources e.now)) }
+    ensures { IfOk result (λ r. term core.now.tables core.now.resources r ≡ answered_term (V.family view.now) (term core.now.tables core.now.resources e.now)) }
 {
     match e {
         Expr::Const(k) => Ok(Boxed::new(alloc, Expr::Const(*k))?),
         Expr::Var(x) => Ok(Boxed::new(alloc, Expr::Var(*x))?),
         Expr::Sum(parts) => {
-            let parts = answered_terms(alloc, core, sets, parts.as_slice())?;
+            let parts = answered_terms(alloc, core, view, parts.as_slice())?;
             Ok(Boxed::new(alloc, Expr::Sum(parts))?)
         }
         Expr::Neg(a) => {
-            let part = answered_term(alloc, core, sets, a.get())?;
+            let part = answered_term(alloc, core, view, a.get())?;
             Ok(Boxed::new(alloc, Expr::Neg(part))?)
         }
         Expr::Mul(a, b) => {
-            let first = answered_term(alloc, core, sets, a.get())?;
-            let second = answered_term(alloc, core, sets, b.get())?;
-            let product = answered_product(core, sets, a.get(), b.get(), first, second);
+            let first = answered_term(alloc, core, view, a.get())?;
+            let second = answered_term(alloc, core, view, b.get())?;
+            let product = answered_product(core, view, a.get(), b.get(), first, second);
             Ok(Boxed::new(alloc, product)?)
         }
         Expr::Div(a, b) => {
-            let first = answered_term(alloc, core, sets, a.get())?;
-            let second = answered_term(alloc, core, sets, b.get())?;
+            let first = answered_term(alloc, core, view, a.get())?;
+            let second = answered_term(alloc, core, view, b.get())?;
             Ok(Boxed::new(alloc, Expr::Div(first, second))?)
         }
         Expr::Rem(a, b) => {
-            let first = answered_term(alloc, core, sets, a.get())?;
-            let second = answered_term(alloc, core, sets, b.get())?;
+            let first = answered_term(alloc, core, view, a.get())?;
+            let second = answered_term(alloc, core, view, b.get())?;
             Ok(Boxed::new(alloc, Expr::Rem(first, second))?)
         }
         Expr::Abs(a) => {
-            let part = answered_term(alloc, core, sets, a.get())?;
+            let part = answered_term(alloc, core, view, a.get())?;
             Ok(Boxed::new(alloc, Expr::Abs(part))?)
         }
         Expr::Min(parts) => {
-            let parts = answered_terms(alloc, core, sets, parts.as_slice())?;
+            let parts = answered_terms(alloc, core, view, parts.as_slice())?;
             Ok(Boxed::new(alloc, Expr::Min(parts))?)
         }
         Expr::Max(parts) => {
-            let parts = answered_terms(alloc, core, sets, parts.as_slice())?;
+            let parts = answered_terms(alloc, core, view, parts.as_slice())?;
             Ok(Boxed::new(alloc, Expr::Max(parts))?)
         }
         Expr::At(table, parts) => {
-            let parts = answered_terms(alloc, core, sets, parts.as_slice())?;
+            let parts = answered_terms(alloc, core, view, parts.as_slice())?;
             Ok(Boxed::new(alloc, Expr::At(*table, parts))?)
         }
         Expr::Truth(c) => {
-            let part = answered(alloc, core, sets, c.get())?;
+            let part = answered(alloc, core, view, c.get())?;
             Ok(Boxed::new(alloc, Expr::Truth(part))?)
         }
-        Expr::Ask(ask, x) => Ok(Boxed::new(alloc, Expr::Const(answer(sets, *ask, *x)))?),
+        Expr::Ask(ask, x) => Ok(Boxed::new(alloc, Expr::Const(answer(view, *ask, *x)))?),
     }
 }
 
 /// Constraints with their questions answered, in their order.
 #[cycle(answers)]
-fn all_answered(
+fn all_answered<V: View>(
     alloc: Global,
     core: &Core,
-    sets: &Sets,
+    view: &V,
     parts: &[Cons],
 ) -> Result<Seq<Cons>, OutOfMemory>
-    ensures { IfOk result (λ r. map (fact core.now.tables core.now.resources) r ≡ map (λ c. answered sets.now (fact core.now.tables core.now.resources c)) parts.now) }
+    ensures { IfOk result (λ r. map (fact core.now.tables core.now.resources) r ≡ map (λ c. answered (V.family view.now) (fact core.now.tables core.now.resources c)) parts.now) }
 {
     let mut answers = Seq::new(alloc);
     for part in parts {
-        answers.push(answered(alloc, core, sets, part)?.into_inner())?;
+        answers.push(answered(alloc, core, view, part)?.into_inner())?;
     }
     Ok(answers)
 }
 
 /// A constraint with its questions answered, in a box.
 #[cycle(answers)]
-pub fn answered(
+pub fn answered<V: View>(
     alloc: Global,
     core: &Core,
-    sets: &Sets,
+    view: &V,
     c: &Cons,
 ) -> Result<Boxed<Cons>, OutOfMemory>
-    ensures { IfOk result (λ r. fact core.now.tables core.now.resources r ≡ answered sets.now (fact core.now.tables core.now.resources c.now)) }
+    ensures { IfOk result (λ r. fact core.now.tables core.now.resources r ≡ answered (V.family view.now) (fact core.now.tables core.now.resources c.now)) }
 {
     match c {
         Cons::Fixed(b) => Ok(Boxed::new(alloc, Cons::Fixed(*b))?),
         Cons::Cmp(op, a, b) => {
-            let first = answered_term(alloc, core, sets, a.get())?;
-            let second = answered_term(alloc, core, sets, b.get())?;
+            let first = answered_term(alloc, core, view, a.get())?;
+            let second = answered_term(alloc, core, view, b.get())?;
             Ok(Boxed::new(alloc, Cons::Cmp(*op, first, second))?)
         }
         Cons::And(parts) => {
-            let parts = all_answered(alloc, core, sets, parts.as_slice())?;
+            let parts = all_answered(alloc, core, view, parts.as_slice())?;
             Ok(Boxed::new(alloc, Cons::And(parts))?)
         }
         Cons::Or(parts) => {
-            let parts = all_answered(alloc, core, sets, parts.as_slice())?;
+            let parts = all_answered(alloc, core, view, parts.as_slice())?;
             Ok(Boxed::new(alloc, Cons::Or(parts))?)
         }
         Cons::Imp(a, b) => {
-            let first = answered(alloc, core, sets, a.get())?;
-            let second = answered(alloc, core, sets, b.get())?;
+            let first = answered(alloc, core, view, a.get())?;
+            let second = answered(alloc, core, view, b.get())?;
             Ok(Boxed::new(alloc, Cons::Imp(first, second))?)
         }
         Cons::Iff(a, b) => {
-            let first = answered(alloc, core, sets, a.get())?;
-            let second = answered(alloc, core, sets, b.get())?;
+            let first = answered(alloc, core, view, a.get())?;
+            let second = answered(alloc, core, view, b.get())?;
             Ok(Boxed::new(alloc, Cons::Iff(first, second))?)
         }
         Cons::Not(a) => {
-            let part = answered(alloc, core, sets, a.get())?;
+            let part = answered(alloc, core, view, a.get())?;
             Ok(Boxed::new(alloc, Cons::Not(part))?)
         }
         Cons::AllDifferent(parts) => {
-            let parts = answered_terms(alloc, core, sets, parts.as_slice())?;
+            let parts = answered_terms(alloc, core, view, parts.as_slice())?;
             Ok(Boxed::new(alloc, Cons::AllDifferent(parts))?)
         }
         Cons::Capacity(resource, time) => Ok(Boxed::new(alloc, Cons::Capacity(*resource, *time))?),
-        Cons::Bound(x) => Ok(Boxed::new(alloc, Cons::Fixed(is_single(sets, *x)))?),
+        Cons::Bound(x) => Ok(Boxed::new(alloc, Cons::Fixed(is_single(view, *x)))?),
     }
 }

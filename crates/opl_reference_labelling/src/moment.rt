@@ -130,44 +130,44 @@ impl<'a, R: Ranges> Search<'a, R> {
     }
 
     /// Whether a condition holds.
-    pub fn is_met(&self, alloc: Global, sets: &Sets, c: &Cons) -> Result<bool, OutOfMemory>
+    pub fn is_met<V: View>(&self, alloc: Global, view: &V, c: &Cons) -> Result<bool, OutOfMemory>
         requires open { IsOpenFact self.now.core.now.sets (fact self.now.core.now.tables self.now.core.now.resources c.now) }
-        requires within { Below sets.now (declared self.now.core.now) }
-        ensures { IfOk result (λ b. b ≡ is_met sets.now (fact self.now.core.now.tables self.now.core.now.resources c.now)) }
+        requires within { Below (V.family view.now) (declared self.now.core.now) }
+        ensures { IfOk result (λ b. b ≡ is_met (V.family view.now) (fact self.now.core.now.tables self.now.core.now.resources c.now)) }
     {
-        let c = answers::answered(alloc, self.core, sets, c)?;
-        let _ = sets.vars();
-        Ok(is_some_point(self.ranges.cons_range(self.core, c.get(), sets), 1))
+        let c = answers::answered(alloc, self.core, view, c)?;
+        let _ = view.vars();
+        Ok(is_some_point(self.ranges.cons_range(self.core, c.get(), view), 1))
     }
 
     /// Whether a constraint is decided.
-    pub fn is_decided(&self, sets: &Sets, c: &Cons) -> bool
+    pub fn is_decided<V: View>(&self, view: &V, c: &Cons) -> bool
         requires sound { IsSoundFact self.now.core.now.sets (fact self.now.core.now.tables self.now.core.now.resources c.now) }
-        requires within { Below sets.now (declared self.now.core.now) }
-        ensures { result ≡ is_decided sets.now (fact self.now.core.now.tables self.now.core.now.resources c.now) }
+        requires within { Below (V.family view.now) (declared self.now.core.now) }
+        ensures { result ≡ is_decided (V.family view.now) (fact self.now.core.now.tables self.now.core.now.resources c.now) }
     {
-        let never = is_some_point(self.ranges.cons_range(self.core, c, sets), 0);
-        let always = is_some_point(self.ranges.cons_range(self.core, c, sets), 1);
+        let never = is_some_point(self.ranges.cons_range(self.core, c, view), 0);
+        let always = is_some_point(self.ranges.cons_range(self.core, c, view), 1);
         never || always
     }
 
     /// The value of a key; none where there is no key or it is undefined.
-    pub fn key_value(
+    pub fn key_value<V: View>(
         &self,
         alloc: Global,
-        sets: &Sets,
+        view: &V,
         key: &Option<Expr>,
     ) -> Result<Option<i128>, OutOfMemory>
         requires open { IsOpenKey self.now.core.now.sets (lift1 (term self.now.core.now.tables self.now.core.now.resources) key.now) }
-        requires within { Below sets.now (declared self.now.core.now) }
-        ensures { IfOk result (λ o. o ≡ key_value sets.now (lift1 (term self.now.core.now.tables self.now.core.now.resources) key.now)) }
+        requires within { Below (V.family view.now) (declared self.now.core.now) }
+        ensures { IfOk result (λ o. o ≡ key_value (V.family view.now) (lift1 (term self.now.core.now.tables self.now.core.now.resources) key.now)) }
     {
         match key {
             None => Ok(None),
             Some(key) => {
-                let key = answers::answered_term(alloc, self.core, sets, key)?;
-                let _ = sets.vars();
-                match self.ranges.range(self.core, key.get(), sets) {
+                let key = answers::answered_term(alloc, self.core, view, key)?;
+                let _ = view.vars();
+                match self.ranges.range(self.core, key.get(), view) {
                     None => Ok(None),
                     Some(range) => Ok(Some(range.lo())),
                 }

@@ -1,6 +1,4 @@
 pub mod ElementLists
-pub mod Meaning
-pub mod Costs
 pub mod SoundSteps
 pub mod Orders
 pub mod StatementForms

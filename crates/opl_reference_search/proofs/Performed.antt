@@ -12,12 +12,13 @@ use Rattle.opl_trace.specs.Elements.{Arm, ordered, taken}
 use Rattle.opl_trace.specs.Statements.{Statement, statements_of, branches_of}
 use Rattle.opl_trace.specs.Questions.{IsOpenFact}
 use Rattle.opl_trace.specs.SoundCores.{IsSoundStatement}
-use Rattle.opl_reference_search.specs.Tasks.{Task, statement_in, element, acts}
-use Rattle.opl_reference_search.specs.Tasks.Task.{act, values, orders, elements, turns}
-use Rattle.opl_reference_search.specs.Steps.{Way, Next, on, acts_then, each_then, element_of, elements_of, bodies_then, first_then, performed, visited}
-use Rattle.opl_reference_search.specs.Steps.Next.{go, choose, commit}
+use Rattle.opl_steps.specs.Tasks.{Task}
+use Rattle.opl_steps.specs.Tasks.Task.{act, values, orders, elements, turns}
+use Rattle.opl_steps.specs.Steps.{Way, Next, on, acts_then, each_then, element_of, elements_of, bodies_then, first_then, performed, visited}
+use Rattle.opl_steps.specs.Steps.Next.{go, choose, commit}
+use Rattle.opl_steps.specs.Picked.{without, place_in}
+use Rattle.opl_reference_search.specs.Tasks.{statement_in, element, acts}
 use Rattle.opl_reference_search.specs.Sound.{AreSoundElements}
-use Rattle.opl_reference_search.specs.Picked.{without, place_in}
 use Rattle.opl_reference_search.proofs.ElementLists.{length_mapped, picked_at}
 use Rattle.opl_reference_search.proofs.SoundSteps.{elements_sound, taken_sound}
 use Rattle.opl_reference_search.proofs.StatementForms.{br, branch_is, statement_Post, statement_Block, statement_Try, statement_TryAll, statement_ForAll, statement_Select, statement_Once, statement_While, statement_If, statement_Generate, statement_Rank}

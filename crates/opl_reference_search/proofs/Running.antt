@@ -4,90 +4,44 @@ use Rattle.std.specs.Prelude.{Option, Some, None}
 use Rattle.opl_domain.specs.Family.{Family, IsFamily}
 use Rattle.opl_expr.specs.declared.model.Core.{Core}
 use Rattle.opl_expr.specs.Forms.{Fact}
-use Rattle.opl_expr.specs.Solutions.{declared, goal_term}
+use Rattle.opl_expr.specs.Solutions.{goal_term}
 use Rattle.opl_trace.specs.Marks.{objective}
 use Rattle.opl_trace.specs.Objective.{Objective}
 use Rattle.opl_trace.specs.Statements.{Statement}
 use Rattle.opl_trace.specs.Run as run
 use Rattle.opl_trace.specs.Run.{Mark, Out, Rest, stopped, behind, alternatives, first_leaf, committed, choices, entered, within}
-use Rattle.opl_reference_labelling.specs.declared.outcome.Outcome as code
 use Rattle.opl_trace.specs.Moments.{core_sets}
-use Rattle.opl_trace.specs.SoundCores.{IsSoundCore}
-use Rattle.opl_trace.specs.SoundCores.{AreSound, IsBest}
+use Rattle.opl_trace.specs.SoundCores.{IsSoundCore, AreSound, IsBest}
+use Rattle.opl_steps.specs.Tasks as steps
+use Rattle.opl_steps.specs.Tasks.{Task, end_of}
+use Rattle.opl_steps.specs.Tasks.Task.{act}
+use Rattle.opl_steps.specs.Steps.{Way, Next, next_step}
+use Rattle.opl_steps.specs.Steps.Next.{choose}
+use Rattle.opl_steps.specs.Costs.{cost_tasks, cost_ways, cost_choice, IsLess}
+use Rattle.opl_steps.specs.Made.{Means}
+use Rattle.opl_steps.proofs.Meaning.{step_means}
+use Rattle.opl_steps.proofs.Lessening.{step_less, tasks_less}
+use Rattle.opl_reference_labelling.specs.declared.outcome.Outcome as code
 use Rattle.opl_reference_labelling.specs.Outcomes.{AreSoundMarks, IsSoundOut, IsMade, outcome}
 use Rattle.opl_reference_labelling.specs.Labelling.{labelling}
 use Rattle.opl_reference_labelling.proofs.Labels.{below_at, solution_label, made_as, IsUnderWay, cut_way, next_way, sound_turn}
 use Rattle.opl_reference_search.specs.declared.task.End.{End}
 use Rattle.opl_reference_search.specs.declared.task.End.TheVariants.{Whole, Inner}
-use Rattle.opl_reference_search.specs.Tasks.{Task, doing, end_of, all_done}
-use Rattle.opl_reference_search.specs.Tasks.Task.{act, values, orders, elements, turns}
-use Rattle.opl_reference_search.specs.Steps.{Way, Next, next_step}
-use Rattle.opl_reference_search.specs.Steps.Next.{nothing, choose}
-use Rattle.opl_reference_search.specs.Costs.{cost_tasks, cost_ways, cost_choice}
+use Rattle.opl_reference_search.specs.Tasks.{end_in, doing}
 use Rattle.opl_reference_search.specs.Sound.{AreSoundTasks, IsSoundWay, AreSoundWays}
 use Rattle.opl_reference_search.specs.Made.{rests, once_then, IsRun}
-use Rattle.opl_reference_search.proofs.Meaning.{Means, step_means}
-use Rattle.opl_reference_search.proofs.Costs.{IsLess, step_less, tasks_less}
 use Rattle.opl_reference_search.proofs.SoundSteps.{IsSoundNext, step_sound}
-use Rattle.opl_trace.specs.Statements.Statement.{post, block, try, try_all, for_all, select, once, while, decide, generate, rank}
-
--- ---- a moment without sets
-
-failed_within : (goal : Option Objective) (sets : List Fact → Option ℤ → Option Family) (next : Family → Rest) (P : List Fact) (b : Option ℤ) (n : ℕ) → sets P b ≡ None → within goal sets next P b n ≡ run.nothing P b n
-unfolding within
-failed_within goal sets next P b n e = ap (λ o. entered next o P b n) e
-
-module _ (core : Core) (P : List Fact) (b : Option ℤ) (n : ℕ) (e : core_sets core P b ≡ None) where
-  -- each of these starts with the sets of the moment
-  failed_here : (next : Family → Rest) → within (objective core) (core_sets core) next P b n ≡ run.nothing P b n
-  failed_here next = failed_within (objective core) (core_sets core) next P b n e
-
-  failed_statement : (s : Statement) (next : Rest) → run.perform (objective core) (core_sets core) s next P b n ≡ run.nothing P b n
-  failed_statement (post c) next = failed_here _
-  failed_statement (block ss) next = failed_here _
-  failed_statement (try ss) next = failed_here _
-  failed_statement (try_all bs) next = failed_here _
-  failed_statement (for_all bs) next = failed_here _
-  failed_statement (select bs) next = failed_here _
-  failed_statement (once s) next = failed_here _
-  failed_statement (while c s) next = failed_loop n c (run.perform (objective core) (core_sets core) s) next
-    where
-      failed_loop : (m : ℕ) (c : Fact) (body : Rest → Rest) (next : Rest) → run.loop (objective core) (core_sets core) m c body next P b n ≡ run.nothing P b n
-      failed_loop zero c body next = failed_here _
-      failed_loop (suc m) c body next = failed_here _
-  failed_statement (decide c s t) next = failed_here _
-  failed_statement (generate []) next = failed_here _
-  failed_statement (generate (x ∷ xs)) next = failed_here _
-  failed_statement (rank []) next = failed_here _
-  failed_statement (rank (p ∷ ps)) next = failed_here _
-
-  failed_task : (t : Task) (next : Rest) → Rattle.opl_reference_search.specs.Tasks.done core t next P b n ≡ run.nothing P b n
-  failed_task (act s) next = failed_statement s next
-  failed_task (values []) next = failed_here _
-  failed_task (values (x ∷ xs)) next = failed_here _
-  failed_task (orders []) next = failed_here _
-  failed_task (orders (p ∷ ps)) next = failed_here _
-  failed_task (elements []) next = failed_here _
-  failed_task (elements (a ∷ es)) next = failed_here _
-  failed_task (turns zero c s) next = failed_here _
-  failed_task (turns (suc m) c s) next = failed_here _
-
-  pub failed_tasks : (end : End) (ts : List Task) → doing core end ts P b n ≡ run.nothing P b n
-  unfolding doing
-  failed_tasks (Whole) [] = failed_here _
-  failed_tasks (Inner) [] = failed_here _
-  failed_tasks end (t ∷ ts) = failed_task t (all_done core (end_of core end) ts)
 
 -- ---- what comes next
 
 pub record IsNext (core : Core) (end : End) (ts : List Task) (P : List Fact) (b : Option ℤ) (n : ℕ) (next : Next) : Type 0 where
-  pub means : Means core end ts P b n next
+  pub means : Means (objective core) (core_sets core) (end_in end) ts P b n next
   pub less : IsLess ts n next
   pub sound : IsSoundNext core next
 
 pub is_next : (core : Core) (end : End) (ts : List Task) (P : List Fact) (b : Option ℤ) (n : ℕ) (C : Family) (next : Next) → IsSoundCore core → IsFamily C → AreSound core P → AreSoundTasks core.sets ts → core_sets core P b ≡ Some C → next ≡ next_step C P n ts → IsNext core end ts P b n next
 is_next core end ts P b n C next k f s r m e = subst (λ x. IsNext core end ts P b n x) (sym e) (record {
-  means = step_means core end P b n C m ts;
+  means = step_means (objective core) (core_sets core) (end_in end) P b n C m ts;
   less = step_less C P n ts;
   sound = step_sound core C k f (below_at core P b C m) P n s ts r;
 })
@@ -119,18 +73,14 @@ within_at goal sets next P b n C e = ap (λ o. entered next o P b n) e
 
 -- the end of the whole is that of labelling no variable
 pub whole_end : (core : Core) (end : End) (P : List Fact) (b : Option ℤ) (n : ℕ) (C : Family) → core_sets core P b ≡ Some C → end ≡ Whole → doing core end [] P b n ≡ labelling core [] P b n
-unfolding doing labelling
+unfolding steps.doing labelling
 whole_end core end P b n C m e =
-    ap (λ d. end_of core d P b n) e ∙ sym (within_at (objective core) (core_sets core) (λ F. run.whole_leaf (objective core) (core_sets core)) P b n C m)
+    ap (λ d. end_of (objective core) (core_sets core) (end_in d) P b n) e ∙ sym (within_at (objective core) (core_sets core) (λ F. run.whole_leaf (objective core) (core_sets core)) P b n C m)
 
 pub inner_end : (core : Core) (end : End) (P : List Fact) (b : Option ℤ) (n : ℕ) (C : Family) → core_sets core P b ≡ Some C → end ≡ Inner → doing core end [] P b n ≡ (let o : Out = record { marks = Mark.leaf P ∷ []; best = b; left = n; is_cut = false } in o)
-unfolding doing
+unfolding steps.doing
 inner_end core end P b n C m e =
-    ap (λ d. end_of core d P b n) e ∙ within_at (objective core) (core_sets core) (λ F Q c k. let o : Out = record { marks = Mark.leaf Q ∷ []; best = c; left = k; is_cut = false } in o) P b n C m
-
-pub end_is : (core : Core) (end : End) (P : List Fact) (b : Option ℤ) (n : ℕ) → doing core end [] P b n ≡ end_of core end P b n
-unfolding doing
-end_is core end P b n = refl
+    ap (λ d. end_of (objective core) (core_sets core) (end_in d) P b n) e ∙ within_at (objective core) (core_sets core) (λ F Q c k. let o : Out = record { marks = Mark.leaf Q ∷ []; best = c; left = k; is_cut = false } in o) P b n C m
 
 -- ---- alternatives
 

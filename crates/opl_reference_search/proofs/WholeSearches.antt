@@ -10,6 +10,7 @@ use Rattle.opl_trace.specs.Run.{label, perform, whole_leaf}
 use Rattle.opl_trace.specs.Statements.{Statement}
 use Rattle.opl_trace.specs.Moments.{core_sets}
 use Rattle.opl_trace.specs.SoundCores.{IsSoundCore, IsSoundSection, AreThere}
+use Rattle.opl_steps.specs.Tasks as steps
 use Rattle.opl_reference_labelling.proofs.Labels.{numbers_there}
 use Rattle.opl_reference_search.specs.declared.task.End.TheVariants.{Whole}
 use Rattle.opl_reference_search.specs.Tasks.{doing}
@@ -17,7 +18,7 @@ use Rattle.opl_reference_search.specs.Whole.{whole}
 use Rattle.opl_reference_search.specs.Sound.{AreSoundTasks}
 
 pub whole_is : (core : Core) (o : Option Statement) (n : ℕ) → doing core Whole (whole o (numbers_from zero (length core.sets))) (base core) None n ≡ trace (objective core) (declared core) o (base core) n
-unfolding doing trace declared
+unfolding steps.doing trace declared
 whole_is core None n =
     ap (λ m. label (objective core) (core_sets core) (numbers_from zero m) (whole_leaf (objective core) (core_sets core)) (base core) None n) (sym (length-map core.sets (λ p. values_between p)))
 whole_is core (Some s) n =

@@ -6,9 +6,9 @@ use Rattle.opl_trace.specs.Statements.{Statement}
 use Rattle.opl_trace.specs.Questions.{IsOpenFact}
 use Rattle.opl_trace.specs.SoundCores.{AreThere, ArePairs, IsOpenKey, IsSoundStatement}
 use Rattle.opl_trace.specs.SoundCores.{AreSound}
-use Rattle.opl_reference_search.specs.Tasks.{Task}
-use Rattle.opl_reference_search.specs.Tasks.Task.{act, values, orders, elements, turns}
-use Rattle.opl_reference_search.specs.Steps.{Way}
+use Rattle.opl_steps.specs.Tasks.{Task}
+use Rattle.opl_steps.specs.Tasks.Task.{act, values, orders, elements, turns}
+use Rattle.opl_steps.specs.Steps.{Way}
 
 module _ (sets : List (ℤ × ℤ)) where
   -- conditions, keys and bodies are sound

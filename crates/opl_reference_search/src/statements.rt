@@ -7,10 +7,11 @@ ghost use Rattle.opl_trace.specs.Answers.{answered, is_met};
 ghost use Rattle.opl_trace.specs.SoundCores.{facts_in};
 ghost use Rattle.opl_trace.specs.Questions.{IsOpenFact};
 ghost use Rattle.opl_trace.specs.SoundCores.{IsSoundStatement};
+ghost use Rattle.opl_steps.specs.Tasks.Task.{act};
+ghost use Rattle.opl_steps.specs.Steps.{on, bodies_then, first_then, performed};
 ghost use Rattle.opl_reference_search.specs.Sound.{AreSoundElements};
 ghost use Rattle.opl_reference_search.specs.Tasks.{element, statement_in, task_of, tasks_in, acts};
-ghost use Rattle.opl_reference_search.specs.Tasks.Task.{act};
-ghost use Rattle.opl_reference_search.specs.Steps.{on, way_of, ways_in, next_of, bodies_then, first_then, performed};
+ghost use Rattle.opl_reference_search.specs.Steps.{way_of, ways_in, next_of};
 
 use crate::elements::{ordered, place, taken};
 use crate::next::{Next, Way};

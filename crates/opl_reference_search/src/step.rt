@@ -6,11 +6,12 @@ ghost use Rattle.opl_expr.specs.Solutions.{declared};
 ghost use Rattle.opl_trace.specs.Answers.{is_decided, precedes};
 ghost use Rattle.opl_trace.specs.SoundCores.{facts_in};
 ghost use Rattle.opl_trace.specs.SoundCores.{IsSoundCore, AreThere, ArePairs};
+ghost use Rattle.opl_steps.specs.Tasks.Task.{values, orders};
+ghost use Rattle.opl_steps.specs.Steps.{on, on_value, turned, labelled, ranked, visited, next_step};
+ghost use Rattle.opl_steps.specs.Steps.Next.{go};
 ghost use Rattle.opl_reference_search.specs.Sound.{AreSoundElements, AreSoundTasks};
 ghost use Rattle.opl_reference_search.specs.Tasks.{element, statement_in, tasks_in};
-ghost use Rattle.opl_reference_search.specs.Tasks.Task.{values, orders};
-ghost use Rattle.opl_reference_search.specs.Steps.Next.{go};
-ghost use Rattle.opl_reference_search.specs.Steps.{on, on_value, turned, way_of, ways_in, next_of, labelled, ranked, visited, next_step};
+ghost use Rattle.opl_reference_search.specs.Steps.{way_of, ways_in, next_of};
 
 use crate::elements::{place, without};
 use crate::next::{Next, Way};

@@ -1,17 +1,20 @@
 use Rattle.std.proofs.Common.{◌≡◌, ◌<◌, ◌-◌, ◌+◌, [], take, drop, ap, sym, ◌∙◌, subst, arith, refl}
 use Rattle.std.specs.Prelude.{Some}
+use Rattle.opl_trace.specs.Marks.{objective}
+use Rattle.opl_trace.specs.Moments.{core_sets}
 use Rattle.opl_trace.specs.Run.{alternatives, behind, choices, first_leaf}
 use Rattle.opl_trace.specs.SoundCores.{facts_in, AreSound}
+use Rattle.opl_steps.specs.Steps.Next.{nothing, spent, go, choose, commit}
+use Rattle.opl_steps.specs.Costs.{cost_tasks, cost_choice}
+use Rattle.opl_steps.proofs.Failed.{failed_tasks}
+use Rattle.opl_steps.proofs.Lessening.{tasks_less}
 use Rattle.opl_reference_labelling.specs.Outcomes.{marks_in, outcome, IsSoundOut}
 use Rattle.opl_reference_labelling.proofs.Labels.{IsUnderWay, below_at}
-use Rattle.opl_reference_search.specs.Costs.{cost_tasks, cost_choice}
 use Rattle.opl_reference_search.specs.Made.{rests, once_then}
 use Rattle.opl_reference_search.specs.Sound.{AreSoundTasks, AreSoundWays}
 use Rattle.opl_reference_search.specs.Steps.{way_of, ways_in, next_of}
-use Rattle.opl_reference_search.specs.Steps.Next.{nothing, spent, go, choose, commit}
-use Rattle.opl_reference_search.specs.Tasks.{doing, statement_in, tasks_in}
-use Rattle.opl_reference_search.proofs.Costs.{tasks_less}
-use Rattle.opl_reference_search.proofs.Running.{failed_tasks, is_next, run_of, run_as, nothing_run, spent_run, drop_here, way_sound, chosen_less, choice_less, leaf_sound, entered_run, turn_cut, turn_next, turn_sound, turn_fewer}
+use Rattle.opl_reference_search.specs.Tasks.{end_in, doing, statement_in, tasks_in}
+use Rattle.opl_reference_search.proofs.Running.{is_next, run_of, run_as, nothing_run, spent_run, drop_here, way_sound, chosen_less, choice_less, leaf_sound, entered_run, turn_cut, turn_next, turn_sound, turn_fewer}
 use Rattle.opl_reference_search.proofs.run.+running.Goals as goal
 
 -- ---- alternatives
@@ -109,7 +112,7 @@ pub run-returns-in-None : goal.run-returns-in-None
 run-returns-in-None g t c =
     let core = c.args.search.now.core.now in
     let P = facts_in core c.args.posted.now in
-    nothing_run core _ _ c.args.best c.args.left c.requires.best c.nothing.ensures (failed_tasks core P c.args.best c.args.left (sym c.in_ok-sets.ensures ∙ c.in-None.is) c.args.end (tasks_in core c.args.tasks.now))
+    nothing_run core _ _ c.args.best c.args.left c.requires.best c.nothing.ensures (failed_tasks (objective core) (core_sets core) P c.args.best c.args.left (sym c.in_ok-sets.ensures ∙ c.in-None.is) (end_in c.args.end) (tasks_in core c.args.tasks.now))
 
 pub run-next_step-requires-clause-within : goal.run-next_step-requires-clause-within
 run-next_step-requires-clause-within g t c =

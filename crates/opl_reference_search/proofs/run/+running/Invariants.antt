@@ -1,7 +1,7 @@
 use Rattle.std.proofs.Common.{suc, ◌*◌, ◌≤◌, max, [], drop}
+use Rattle.opl_steps.specs.Costs.{cost, cost_tasks, cost_choice}
 use Rattle.opl_reference_labelling.specs.Outcomes.{outcome}
 use Rattle.opl_reference_labelling.proofs.Labels.{IsUnderWay}
-use Rattle.opl_reference_search.specs.Costs.{cost, cost_tasks, cost_choice}
 use Rattle.opl_reference_search.specs.Made.{rests}
 use Rattle.opl_reference_search.specs.Steps.{ways_in}
 use Rattle.opl_reference_search.specs.Tasks.{statement_in, tasks_in}

@@ -1,9 +1,10 @@
 use Rattle.std.proofs.Common.{◌≡◌, ◌∷◌, [], ◌++◌, map, take}
 use Rattle.opl_trace.specs.Answers.{is_value}
 use Rattle.opl_trace.specs.SoundCores.{facts_in}
+use Rattle.opl_steps.specs.Tasks.Task.{values}
+use Rattle.opl_steps.specs.Steps.{on_value}
 use Rattle.opl_reference_search.specs.Tasks.{tasks_in}
-use Rattle.opl_reference_search.specs.Tasks.Task.{values}
-use Rattle.opl_reference_search.specs.Steps.{on_value, ways_in}
+use Rattle.opl_reference_search.specs.Steps.{ways_in}
 use Rattle.opl_reference_search.proofs.step.each_value.Given as goal
 
 abbrev pub invariant-loop-v : goal.invariant-loop-v

@@ -1,9 +1,9 @@
 use Rattle.std.specs.Prelude.{slice_index_or}
 use Rattle.std.proofs.Common.{refl, ◌<◌, ◌∷◌, length, map, ap, ◌∙◌, arith}
 use Rattle.opl_trace.specs.SoundCores.{facts_in}
+use Rattle.opl_steps.specs.Tasks.Task.{act, elements}
+use Rattle.opl_steps.specs.Steps.{on}
 use Rattle.opl_reference_search.specs.Tasks.{element, statement_in, tasks_in}
-use Rattle.opl_reference_search.specs.Tasks.Task.{act, elements}
-use Rattle.opl_reference_search.specs.Steps.{on}
 use Rattle.opl_reference_search.proofs.Performed.{visit_made}
 use Rattle.opl_reference_search.proofs.step.visit.Goals as goal
 

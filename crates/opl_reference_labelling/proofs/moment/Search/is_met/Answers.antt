@@ -9,7 +9,7 @@ pub cons_range-requires-clause-sound : goal.cons_range-requires-clause-sound
 cons_range-requires-clause-sound g c =
     let core = c.args.self.now.core.now in
     subst (λ d. IsSoundFact core.sets d) (sym (ap (fact core.tables core.resources) c.get.ensures ∙ c.in_ok-c.ensures))
-    (fact_sound core.sets c.args.sets.now (are_bounded core c.args.sets.now c.vars.ensures.sets c.requires.within) (fact core.tables core.resources c.args.c.now) c.requires.«open»)
+    (fact_sound core.sets (g.V.View.family c.args.view.now) (are_bounded core (g.V.View.family c.args.view.now) c.vars.ensures.sets c.requires.within) (fact core.tables core.resources c.args.c.now) c.requires.«open»)
 
 pub returns : goal.returns
 returns g c =

@@ -20,7 +20,7 @@ range-requires-clause-sound g c =
     let core = c.args.self.now.core.now in
     let o = subst (λ k. IsOpenKey core.sets (lift1 (term core.tables core.resources) k)) c.in-Some.is c.requires.«open» in
     subst (λ t. IsSoundTerm core.sets t) (sym (ap (term core.tables core.resources) c.get.ensures ∙ c.in_ok-key-in-Some.ensures))
-    (term_sound core.sets c.args.sets.now (are_bounded core c.args.sets.now c.vars.ensures.sets c.requires.within) (term core.tables core.resources c.in-Some.key) o)
+    (term_sound core.sets (g.V.View.family c.args.view.now) (are_bounded core (g.V.View.family c.args.view.now) c.vars.ensures.sets c.requires.within) (term core.tables core.resources c.in-Some.key) o)
 
 pub returns-in-None-range : goal.returns-in-None-range
 returns-in-None-range g c =
