@@ -1,0 +1,52 @@
+use Rattle.std.proofs.Common.{◌≡◌, [], ◌∷◌, ◌++◌, map, ap, refl}
+use Rattle.std.proofs.lemmas.Result.{err_from_is_err_and}
+use Rattle.opl_item_types.specs.Items.{each, order, statement}
+use Rattle.opl_type_rules.specs.Steps.{front}
+use Rattle.opl_type_rules.specs.Types.{sort}
+use Rattle.opl_type_rules.specs.Values.{within}
+use Rattle.opl_expression_types.specs.Values.{opened_in}
+use Rattle.opl_item_types.proofs.Items.{try-adds, branch-adds, branch-same, err-same, while-adds, statement_if-adds, statements-adds, sorts-behind}
+use Rattle.opl_item_types.proofs.search.+statements.Goals as goal
+
+pub statement-returns-in_ok-alternatives-in-Try : goal.statement-returns-in_ok-alternatives-in-Try
+statement-returns-in_ok-alternatives-in-Try t c =
+    try-adds c.args.t.now c.in-Try.field-0 c.in-Try.first c.in-Try.second c.in-Try.others (within c.args.model.now c.args.locals.now) (map sort c.args.kinds.now) (map sort c.statements.new.kinds)
+    (map sort c.statements-in-Try.new.kinds) (map sort c.alternatives.new.kinds) c.in-Try.is c.in_ok-statements-in-Try.ensures c.in_ok-statements-in-Try-2.ensures
+    (cc (c.in_ok-alternatives-in-Try.ensures, c.as_slice.ensures))
+
+pub statement-returns-in_ok-ordered-in-Branch : goal.statement-returns-in_ok-ordered-in-Branch
+statement-returns-in_ok-ordered-in-Branch t c =
+    let opened = c.in_ok-opened-in-Branch.opened in
+    let appended : c.append.new.front ≡ c.args.kinds.now ++ opened.kinds = cc (c.in_ok-append-in-Branch.ensures) in
+    branch-adds c.args.t.now c.in-Branch.field-0 c.in-Branch.field-1 c.in-Branch.params c.in-Branch.body (within c.args.model.now c.args.locals.now) (map sort c.args.kinds.now)
+    (map sort c.append.new.front) (map sort c.ordered.new.kinds) (opened_in c.args.model.now opened) c.in-Branch.is c.in_ok-opened-in-Branch.ensures
+    (sorts-behind c.args.kinds.now opened.kinds c.append.new.front appended) (cc (c.in_ok-ordered-in-Branch.ensures, c.get.ensures))
+
+pub statement-returns-in_err-ordered-in-Branch : goal.statement-returns-in_err-ordered-in-Branch
+statement-returns-in_err-ordered-in-Branch t c =
+    let opened = c.in_ok-opened-in-Branch.opened in
+    let appended : c.append.new.front ≡ c.args.kinds.now ++ opened.kinds = cc (c.in_ok-append-in-Branch.ensures) in
+    let body : c.get.result.now ≡ c.in-Branch.body = cc (c.get.ensures) in
+    let same = branch-same c.args.t.now c.in-Branch.field-0 c.in-Branch.field-1 c.in-Branch.params c.in-Branch.body c.get.result.now (within c.args.model.now c.args.locals.now)
+    (within c.args.model.now opened.locals) (map sort c.args.kinds.now) (map sort c.append.new.front) (opened_in c.args.model.now opened) c.in-Branch.is c.in_ok-opened-in-Branch.ensures
+    (sorts-behind c.args.kinds.now opened.kinds c.append.new.front appended) body refl in
+    let p = err_from_is_err_and c.from_residual-in_err-ordered-in-Branch.result c.from_residual-in_err-ordered-in-Branch.ensures.1 in
+    rw (p.1, p.2)
+    (err-same (front (map sort c.args.kinds.now) (statement c.args.t.now (within c.args.model.now c.args.locals.now)))
+    (front (map sort c.append.new.front) (each (order c.in-Branch.params.order ∷ statement c.get.result.now ∷ []) (within c.args.model.now opened.locals)))
+    c.in_err-ordered-in-Branch.field-0.0 same c.in_err-ordered-in-Branch.ensures)
+
+pub statement-returns-in_ok-statement-in-While : goal.statement-returns-in_ok-statement-in-While
+statement-returns-in_ok-statement-in-While t c =
+    while-adds c.args.t.now c.in-While.field-0 c.in-While.test c.in-While.body (within c.args.model.now c.args.locals.now) (map sort c.args.kinds.now) (map sort c.condition.new.kinds)
+    (map sort c.statement-in-While.new.kinds) c.in-While.is c.in_ok-condition-in-While.ensures (cc (c.in_ok-statement-in-While.ensures, c.get-in-While.ensures))
+
+pub statement-returns-in_ok-if_written-in-If : goal.statement-returns-in_ok-if_written-in-If
+statement-returns-in_ok-if_written-in-If t c =
+    statement_if-adds c.args.t.now c.in-If.field-0 c.in-If.test c.in-If.holds c.in-If.fails (within c.args.model.now c.args.locals.now) (map sort c.args.kinds.now) (map sort c.condition-in-If.new.kinds)
+    (map sort c.statements-in-If.new.kinds) (map sort c.if_written.new.kinds) c.in-If.is c.in_ok-condition-in-If.ensures c.in_ok-statements-in-If.ensures c.in_ok-if_written-in-If.ensures
+
+pub statements-returns-in_ok-others-in-Several : goal.statements-returns-in_ok-others-in-Several
+statements-returns-in_ok-others-in-Several t c =
+    statements-adds c.args.t.now c.in-Several.field-0 c.in-Several.first c.in-Several.rest c.in-Several.field-3 (within c.args.model.now c.args.locals.now) (map sort c.args.kinds.now)
+    (map sort c.statement.new.kinds) (map sort c.others.new.kinds) c.in-Several.is (cc (c.in_ok-statement-in-Several.ensures, c.get.ensures)) (cc (c.in_ok-others-in-Several.ensures, c.as_slice.ensures))
