@@ -1,6 +1,13 @@
-use Rattle.std.proofs.Common.{Err, Ok, Some, [], ap, drop, map, refl, rules, subst, sym, ◌++◌, ◌+◌, ◌∙◌, ◌∷◌}
+use Rattle.std.proofs.Common.{Err, Ok, Some, [], ap, arith, drop, map, refl, rules, subst, sym, ◌++◌, ◌+◌, ◌∙◌, ◌∷◌}
 use Rattle.std.specs.Option.{option_map}
+use Rattle.opl_expression_types.proofs.Loops.{back_alone, back_made, back_wrong, cell_fault, cell_wrong, chain_made, chain_wrong, first_fault, first_typed, front_wrong, key_fault, key_wrong, last_added, last_fault, last_wrong, none_left, pair_added, pairs_end, part_added, part_fault, part_wrong, parts_end}
+use Rattle.opl_expression_types.proofs.Opening.{condition_fault, condition_taken, condition_wrong, described_fault, described_made, described_wrong, ended_with, group_fault, group_here, group_made, group_opened, groups_begin, groups_end, link_added, link_fault, link_wrong, no_condition, params_fault, post_fault, suffix_added, suffix_element, suffix_fault, suffix_field, suffixes_end, wrongly}
+use Rattle.opl_expression_types.proofs.Typing.{rules_of_forms, rules_of_parts, rules_of_sets, typing-arithmetic, typing-connected}
+use Rattle.opl_expression_types.specs.Values.{opened_in}
 use Rattle.opl_tree.specs.declared.expression.CompareTree.TheViews.{out-AddTree, out-AndTree, out-ExprTree, out-GroupStep, out-GroupTree, out-KeyedTree, out-LastStep, out-OrTree, out-ParamsTree, out-PostTree, out-SubscriptsTree}
+use Rattle.opl_type_rules.proofs.Chains.{gives-same}
+use Rattle.opl_type_rules.proofs.Forms.{add_forms, add_step_forms, and_forms, compare_forms, expr_forms, form_add-is, form_and-is, form_expr-is, form_group-is, form_group_step-is, form_keyed-is, form_last_step-is, form_mul-Product, form_or-is, form_params-is, form_post-is, form_subscripts-is, form_suffix-Field, form_suffix-Subscripts, imp_forms, mul_forms, mul_step_forms, neg_forms, open_forms, or_forms, prim_forms, set_forms, sign_forms}
+use Rattle.opl_type_rules.proofs.Steps.{typing-suffixes}
 use Rattle.opl_type_rules.specs.Expressions.{all_sorts, made, open_groups, open_params, typed_parts, typing}
 use Rattle.opl_type_rules.specs.Expressions.Need.{data_alone}
 use Rattle.opl_type_rules.specs.Forms.{form_add, form_add_step, form_and, form_expr, form_group, form_group_step, form_imp, form_keyed, form_last_step, form_mul, form_mul_step, form_neg, form_open, form_or, form_params, form_post, form_prim, form_set, form_sign, form_subscripts, form_suffix, forms_of, groups_of, or_none}
@@ -10,13 +17,6 @@ use Rattle.opl_type_rules.specs.Steps.{open_each, suffixed}
 use Rattle.opl_type_rules.specs.Types.{is_number, is_truth, sort}
 use Rattle.opl_type_rules.specs.Types.Sort.{bool, int}
 use Rattle.opl_type_rules.specs.Values.{Gives, chained, need_of, node_of, within}
-use Rattle.opl_expression_types.specs.Values.{opened_in}
-use Rattle.opl_type_rules.proofs.Chains.{gives-same}
-use Rattle.opl_type_rules.proofs.Forms.{form_add-is, form_and-is, form_expr-is, form_group-is, form_group_step-is, form_keyed-is, form_last_step-is, form_mul-Product, form_or-is, form_params-is, form_post-is, form_subscripts-is, form_suffix-Field, form_suffix-Subscripts}
-use Rattle.opl_expression_types.proofs.Loops.{back_alone, back_made, back_wrong, cell_fault, cell_wrong, chain_made, chain_wrong, first_fault, first_typed, front_wrong, key_fault, key_wrong, last_added, last_fault, last_wrong, none_left, pair_added, pairs_end, part_added, part_fault, part_wrong, parts_end}
-use Rattle.opl_expression_types.proofs.Opening.{condition_fault, condition_taken, condition_wrong, described_fault, described_made, described_wrong, ended_with, group_fault, group_here, group_made, group_opened, groups_begin, groups_end, link_added, link_fault, link_wrong, no_condition, params_fault, post_fault, suffix_added, suffix_element, suffix_fault, suffix_field, suffixes_end, wrongly}
-use Rattle.opl_type_rules.proofs.Steps.{typing-suffixes}
-use Rattle.opl_expression_types.proofs.Typing.{typing-arithmetic, typing-connected}
 use Rattle.opl_expression_types.proofs.expression.+expressions.Goals as goal
 
 pub expr-returns-in_err-parts : goal.expr-returns-in_err-parts
@@ -369,3 +369,273 @@ open_params-returns-in_err-settled-in-Some t c =
 pub open_params-returns-in_ok-add_kinds-in-Some : goal.open_params-returns-in_ok-add_kinds-in-Some
 open_params-returns-in_ok-add_kinds-in-Some t c =
     condition_taken (within c.args.model.now c.args.locals.now) (need_of c.args.need) (form_params c.args.t.now) (form_group (out-ParamsTree c.args.t.now).first ∷ map form_group_step (out-ParamsTree c.args.t.now).rest) (form_group (out-ParamsTree c.args.t.now).first ∷ map form_group_step (out-ParamsTree c.args.t.now).rest) (option_map form_expr (out-ParamsTree c.args.t.now).condition) (form_params-is c.args.t.now) refl (form_expr c.get.result.now) (ap (option_map form_expr) c.in-Some.is ∙ ap (λ x. Some (form_expr x)) (sym c.get.ensures)) (opened_in c.args.model.now c.in_ok-opened.opened) c.in_ok-opened.ensures (within c.args.model.now c.in_ok-opened.opened.locals) refl c.in_ok-node-in-Some.node c.in_ok-node-in-Some.ensures c.is_truth-is_taken.result (c.is_truth-is_taken.ensures ∙ ap (λ x. is_truth (sort x)) c.get-in-Some.ensures) c.in_ok-settled-in-Some.field-0 c.in_ok-settled-in-Some.ensures (map sort c.add_kinds.new.kinds) c.in_ok-add_kinds-in-Some.ensures
+
+pub expr-returns-in_err-first : goal.expr-returns-in_err-first
+expr-returns-in_err-first t c = grind (arith, expr_forms, rules_of_forms, rules_of_parts)
+
+pub expr-returns-then-is_empty : goal.expr-returns-then-is_empty
+expr-returns-then-is_empty t c = grind (arith, expr_forms, rules_of_forms, rules_of_parts)
+
+pub imps-returns-in_err-part : goal.imps-returns-in_err-part
+imps-returns-in_err-part t c = grind (arith, rules_of_parts)
+
+pub imp-returns-in_err-premise : goal.imp-returns-in_err-premise
+imp-returns-in_err-premise t c = grind (arith, imp_forms, rules_of_forms, rules_of_parts)
+
+pub imp-returns-in-None : goal.imp-returns-in-None
+imp-returns-in-None t c = grind (arith, imp_forms, rules_of_forms, rules_of_parts)
+
+pub imp-returns-in_err-premise-in-Some : goal.imp-returns-in_err-premise-in-Some
+imp-returns-in_err-premise-in-Some t c = grind (arith, imp_forms, rules_of_forms, rules_of_parts)
+
+pub imp-returns-in_err-imp-in-Some : goal.imp-returns-in_err-imp-in-Some
+imp-returns-in_err-imp-in-Some t c = grind (arith, imp_forms, rules_of_forms, rules_of_parts)
+
+pub imp-returns-in_err-conclusion-in-Some : goal.imp-returns-in_err-conclusion-in-Some
+imp-returns-in_err-conclusion-in-Some t c = grind (arith, imp_forms, rules_of_forms, rules_of_parts)
+
+pub imp-returns-in_ok-two-in-Some : goal.imp-returns-in_ok-two-in-Some
+imp-returns-in_ok-two-in-Some t c = grind (arith, imp_forms, rules_of_forms, rules_of_parts)
+
+pub or-returns-in_err-first : goal.or-returns-in_err-first
+or-returns-in_err-first t c = grind (arith, or_forms, rules_of_forms, rules_of_parts)
+
+pub or-returns-then-is_empty : goal.or-returns-then-is_empty
+or-returns-then-is_empty t c = grind (arith, or_forms, rules_of_forms, rules_of_parts)
+
+pub ands-returns-in_err-part : goal.ands-returns-in_err-part
+ands-returns-in_err-part t c = grind (arith, rules_of_parts)
+
+pub and-returns-in_err-first : goal.and-returns-in_err-first
+and-returns-in_err-first t c = grind (arith, and_forms, rules_of_forms, rules_of_parts)
+
+pub and-returns-then-is_empty : goal.and-returns-then-is_empty
+and-returns-then-is_empty t c = grind (arith, and_forms, rules_of_forms, rules_of_parts)
+
+pub negs-returns-in_err-part : goal.negs-returns-in_err-part
+negs-returns-in_err-part t c = grind (arith, rules_of_parts)
+
+pub neg-returns-in_err-neg-in-Not : goal.neg-returns-in_err-neg-in-Not
+neg-returns-in_err-neg-in-Not t c = grind (arith, neg_forms, rules_of_forms, rules_of_parts)
+
+pub neg-returns-in_err-inner-in-Not : goal.neg-returns-in_err-inner-in-Not
+neg-returns-in_err-inner-in-Not t c = grind (arith, neg_forms, rules_of_forms, rules_of_parts)
+
+pub neg-returns-in_ok-one-in-Not : goal.neg-returns-in_ok-one-in-Not
+neg-returns-in_ok-one-in-Not t c = grind (arith, neg_forms, rules_of_forms, rules_of_parts)
+
+pub neg-returns-in-Compare : goal.neg-returns-in-Compare
+neg-returns-in-Compare t c = grind (arith, neg_forms, rules_of_forms, rules_of_parts)
+
+pub compare-returns-in-Single : goal.compare-returns-in-Single
+compare-returns-in-Single t c = grind (arith, compare_forms, rules_of_forms, rules_of_parts)
+
+pub compare-returns-in_err-add-in-Related : goal.compare-returns-in_err-add-in-Related
+compare-returns-in_err-add-in-Related t c = grind (arith, compare_forms, rules_of_forms, rules_of_parts)
+
+pub compare-returns-in_err-left-in-Related : goal.compare-returns-in_err-left-in-Related
+compare-returns-in_err-left-in-Related t c = grind (arith, compare_forms, rules_of_forms, rules_of_parts)
+
+pub compare-returns-in_err-add-in-Related-2 : goal.compare-returns-in_err-add-in-Related-2
+compare-returns-in_err-add-in-Related-2 t c = grind (arith, compare_forms, rules_of_forms, rules_of_parts)
+
+pub compare-returns-in_err-right-in-Related : goal.compare-returns-in_err-right-in-Related
+compare-returns-in_err-right-in-Related t c = grind (arith, compare_forms, rules_of_forms, rules_of_parts)
+
+pub compare-returns-in_ok-right-in-Related : goal.compare-returns-in_ok-right-in-Related
+compare-returns-in_ok-right-in-Related t c = grind (arith, compare_forms, rules_of_forms, rules_of_parts)
+
+pub compare-returns-in_err-add-in-Member : goal.compare-returns-in_err-add-in-Member
+compare-returns-in_err-add-in-Member t c = grind (arith, compare_forms, rules_of_forms, rules_of_parts)
+
+pub compare-returns-in_err-value-in-Member : goal.compare-returns-in_err-value-in-Member
+compare-returns-in_err-value-in-Member t c = grind (arith, compare_forms, rules_of_forms, rules_of_parts)
+
+pub compare-returns-in_err-over-in-Member : goal.compare-returns-in_err-over-in-Member
+compare-returns-in_err-over-in-Member t c = grind (arith, compare_forms, rules_of_forms, rules_of_parts)
+
+pub compare-returns-in_ok-over-in-Member : goal.compare-returns-in_ok-over-in-Member
+compare-returns-in_ok-over-in-Member t c = grind (arith, compare_forms, rules_of_forms, rules_of_parts)
+
+pub add-returns-in_err-first : goal.add-returns-in_err-first
+add-returns-in_err-first t c = grind (arith, add_forms, rules_of_forms, rules_of_parts)
+
+pub add-returns-then-is_empty : goal.add-returns-then-is_empty
+add-returns-then-is_empty t c = grind (arith, add_forms, rules_of_forms, rules_of_parts)
+
+pub add_steps-returns-in_err-part : goal.add_steps-returns-in_err-part
+add_steps-returns-in_err-part t c = grind (arith, rules_of_parts)
+
+pub add_step-returns : goal.add_step-returns
+add_step-returns t c = grind (arith, add_step_forms)
+
+pub mul-returns-in-Opened : goal.mul-returns-in-Opened
+mul-returns-in-Opened t c = grind (arith, mul_forms, rules_of_forms, rules_of_parts)
+
+pub mul-returns-in_err-first-in-Product : goal.mul-returns-in_err-first-in-Product
+mul-returns-in_err-first-in-Product t c = grind (arith, mul_forms, rules_of_forms, rules_of_parts)
+
+pub mul-returns-then-is_alone : goal.mul-returns-then-is_alone
+mul-returns-then-is_alone t c = grind (arith, mul_forms, rules_of_forms, rules_of_parts)
+
+pub mul_steps-returns-in_err-part : goal.mul_steps-returns-in_err-part
+mul_steps-returns-in_err-part t c = grind (arith, rules_of_parts)
+
+pub mul_step-returns : goal.mul_step-returns
+mul_step-returns t c = grind (arith, mul_step_forms)
+
+pub open-returns-in_err-open-in-NegativeOpen : goal.open-returns-in_err-open-in-NegativeOpen
+open-returns-in_err-open-in-NegativeOpen t c = grind (arith, open_forms, rules_of_forms, rules_of_parts)
+
+pub open-returns-in_err-inner-in-NegativeOpen : goal.open-returns-in_err-inner-in-NegativeOpen
+open-returns-in_err-inner-in-NegativeOpen t c = grind (arith, open_forms, rules_of_forms, rules_of_parts)
+
+pub open-returns-in_ok-inner-in-NegativeOpen : goal.open-returns-in_ok-inner-in-NegativeOpen
+open-returns-in_ok-inner-in-NegativeOpen t c = grind (arith, open_forms, rules_of_forms, rules_of_parts)
+
+pub open-returns-in_err-opened-in-Aggregate : goal.open-returns-in_err-opened-in-Aggregate
+open-returns-in_err-opened-in-Aggregate t c = grind (arith, open_forms, rules_of_forms, rules_of_parts)
+
+pub open-returns-in_err-mul-in-Aggregate : goal.open-returns-in_err-mul-in-Aggregate
+open-returns-in_err-mul-in-Aggregate t c = grind (arith, open_forms, rules_of_forms, rules_of_parts)
+
+pub open-returns-in_err-body-in-Aggregate : goal.open-returns-in_err-body-in-Aggregate
+open-returns-in_err-body-in-Aggregate t c = grind (arith, open_forms, rules_of_forms, rules_of_parts)
+
+pub open-returns-in_ok-body-in-Aggregate : goal.open-returns-in_ok-body-in-Aggregate
+open-returns-in_ok-body-in-Aggregate t c = grind (arith, open_forms, rules_of_forms, rules_of_parts)
+
+pub sign-returns-in_err-sign-in-Negative : goal.sign-returns-in_err-sign-in-Negative
+sign-returns-in_err-sign-in-Negative t c = grind (arith, sign_forms, rules_of_forms, rules_of_parts)
+
+pub sign-returns-in_err-inner-in-Negative : goal.sign-returns-in_err-inner-in-Negative
+sign-returns-in_err-inner-in-Negative t c = grind (arith, sign_forms, rules_of_forms, rules_of_parts)
+
+pub sign-returns-in_ok-inner-in-Negative : goal.sign-returns-in_ok-inner-in-Negative
+sign-returns-in_ok-inner-in-Negative t c = grind (arith, sign_forms, rules_of_forms, rules_of_parts)
+
+pub sign-returns-in-Postfix : goal.sign-returns-in-Postfix
+sign-returns-in-Postfix t c = grind (arith, sign_forms, rules_of_forms, rules_of_parts)
+
+pub adds-returns-in_err-part : goal.adds-returns-in_err-part
+adds-returns-in_err-part t c = grind (arith, rules_of_parts)
+
+pub set_of_member-returns-in_err-add-in-None : goal.set_of_member-returns-in_err-add-in-None
+set_of_member-returns-in_err-add-in-None t c = grind (arith, set_forms, rules_of_sets)
+
+pub set_of_member-returns-in_err-only-in-None : goal.set_of_member-returns-in_err-only-in-None
+set_of_member-returns-in_err-only-in-None t c = grind (arith, set_forms, rules_of_sets)
+
+pub set_of_member-returns-in_ok-only-in-None : goal.set_of_member-returns-in_ok-only-in-None
+set_of_member-returns-in_ok-only-in-None t c = grind (arith, set_forms, rules_of_sets)
+
+pub set_of_member-returns-in_err-add-in-Some : goal.set_of_member-returns-in_err-add-in-Some
+set_of_member-returns-in_err-add-in-Some t c = grind (arith, set_forms, rules_of_sets)
+
+pub set_of_member-returns-in_err-low-in-Some : goal.set_of_member-returns-in_err-low-in-Some
+set_of_member-returns-in_err-low-in-Some t c = grind (arith, set_forms, rules_of_sets)
+
+pub set_of_member-returns-in_err-add-in-Some-2 : goal.set_of_member-returns-in_err-add-in-Some-2
+set_of_member-returns-in_err-add-in-Some-2 t c = grind (arith, set_forms, rules_of_sets)
+
+pub set_of_member-returns-in_err-high-in-Some : goal.set_of_member-returns-in_err-high-in-Some
+set_of_member-returns-in_err-high-in-Some t c = grind (arith, set_forms, rules_of_sets)
+
+pub set_of_member-returns-in_ok-high-in-Some : goal.set_of_member-returns-in_ok-high-in-Some
+set_of_member-returns-in_ok-high-in-Some t c = grind (arith, set_forms, rules_of_sets)
+
+pub set-returns-in_err-only-in-None : goal.set-returns-in_err-only-in-None
+set-returns-in_err-only-in-None t c = grind (arith, set_forms, rules_of_sets)
+
+pub set-returns-in_err-settled-in-None : goal.set-returns-in_err-settled-in-None
+set-returns-in_err-settled-in-None t c = grind (arith, set_forms, rules_of_sets)
+
+pub set-returns-in_ok-settled-in-None : goal.set-returns-in_ok-settled-in-None
+set-returns-in_ok-settled-in-None t c = grind (arith, set_forms, rules_of_sets)
+
+pub set-returns-in_err-add-in-Some : goal.set-returns-in_err-add-in-Some
+set-returns-in_err-add-in-Some t c = grind (arith, set_forms, rules_of_sets)
+
+pub set-returns-in_err-low-in-Some : goal.set-returns-in_err-low-in-Some
+set-returns-in_err-low-in-Some t c = grind (arith, set_forms, rules_of_sets)
+
+pub set-returns-in_err-add-in-Some-2 : goal.set-returns-in_err-add-in-Some-2
+set-returns-in_err-add-in-Some-2 t c = grind (arith, set_forms, rules_of_sets)
+
+pub set-returns-in_err-high-in-Some : goal.set-returns-in_err-high-in-Some
+set-returns-in_err-high-in-Some t c = grind (arith, set_forms, rules_of_sets)
+
+pub set-returns-in_ok-high-in-Some : goal.set-returns-in_ok-high-in-Some
+set-returns-in_ok-high-in-Some t c = grind (arith, set_forms, rules_of_sets)
+
+pub prim-returns-in-Number : goal.prim-returns-in-Number
+prim-returns-in-Number t c = grind (arith, prim_forms, rules_of_forms, rules_of_parts)
+
+pub prim-returns-in-Named : goal.prim-returns-in-Named
+prim-returns-in-Named t c = grind (arith, prim_forms, rules_of_forms, rules_of_parts)
+
+pub prim-returns-in_err-expr-in-Bracket : goal.prim-returns-in_err-expr-in-Bracket
+prim-returns-in_err-expr-in-Bracket t c = grind (arith, prim_forms, rules_of_forms, rules_of_parts)
+
+pub prim-returns-in_err-inner-in-Bracket : goal.prim-returns-in_err-inner-in-Bracket
+prim-returns-in_err-inner-in-Bracket t c = grind (arith, prim_forms, rules_of_forms, rules_of_parts)
+
+pub prim-returns-in_ok-inner-in-Bracket : goal.prim-returns-in_ok-inner-in-Bracket
+prim-returns-in_ok-inner-in-Bracket t c = grind (arith, prim_forms, rules_of_forms, rules_of_parts)
+
+pub prim-returns-in_err-first-in-Record : goal.prim-returns-in_err-first-in-Record
+prim-returns-in_err-first-in-Record t c = grind (arith, prim_forms, rules_of_forms, rules_of_parts)
+
+pub prim-returns-in_err-parts-in-Record : goal.prim-returns-in_err-parts-in-Record
+prim-returns-in_err-parts-in-Record t c = grind (arith, prim_forms, rules_of_forms, rules_of_parts)
+
+pub prim-returns-in_ok-parts-in-Record : goal.prim-returns-in_ok-parts-in-Record
+prim-returns-in_ok-parts-in-Record t c = grind (arith, prim_forms, rules_of_forms, rules_of_parts)
+
+pub prim-returns-in_err-parts-in-Listed : goal.prim-returns-in_err-parts-in-Listed
+prim-returns-in_err-parts-in-Listed t c = grind (arith, prim_forms, rules_of_forms, rules_of_parts)
+
+pub prim-returns-in_ok-parts-in-Listed : goal.prim-returns-in_ok-parts-in-Listed
+prim-returns-in_ok-parts-in-Listed t c = grind (arith, prim_forms, rules_of_forms, rules_of_parts)
+
+pub prim-returns-in-Described : goal.prim-returns-in-Described
+prim-returns-in-Described t c = grind (arith, prim_forms, rules_of_forms, rules_of_parts)
+
+pub prim-returns-in_err-parts-in-Array : goal.prim-returns-in_err-parts-in-Array
+prim-returns-in_err-parts-in-Array t c = grind (arith, prim_forms, rules_of_forms, rules_of_parts)
+
+pub prim-returns-in_ok-parts-in-Array : goal.prim-returns-in_ok-parts-in-Array
+prim-returns-in_ok-parts-in-Array t c = grind (arith, prim_forms, rules_of_forms, rules_of_parts)
+
+pub prim-returns-in_err-parts-in-KeyedArray : goal.prim-returns-in_err-parts-in-KeyedArray
+prim-returns-in_err-parts-in-KeyedArray t c = grind (arith, prim_forms, rules_of_forms, rules_of_parts)
+
+pub prim-returns-in_ok-parts-in-KeyedArray : goal.prim-returns-in_ok-parts-in-KeyedArray
+prim-returns-in_ok-parts-in-KeyedArray t c = grind (arith, prim_forms, rules_of_forms, rules_of_parts)
+
+pub prim-returns-in_err-expr-in-Call : goal.prim-returns-in_err-expr-in-Call
+prim-returns-in_err-expr-in-Call t c = grind (arith, prim_forms, rules_of_forms, rules_of_parts)
+
+pub prim-returns-in_err-argument-in-Call : goal.prim-returns-in_err-argument-in-Call
+prim-returns-in_err-argument-in-Call t c = grind (arith, prim_forms, rules_of_forms, rules_of_parts)
+
+pub prim-returns-in_ok-argument-in-Call : goal.prim-returns-in_ok-argument-in-Call
+prim-returns-in_ok-argument-in-Call t c = grind (arith, prim_forms, rules_of_forms, rules_of_parts)
+
+pub prim-returns-in_err-add-in-AllDifferent : goal.prim-returns-in_err-add-in-AllDifferent
+prim-returns-in_err-add-in-AllDifferent t c = grind (arith, prim_forms, rules_of_forms, rules_of_parts)
+
+pub prim-returns-in_err-argument-in-AllDifferent : goal.prim-returns-in_err-argument-in-AllDifferent
+prim-returns-in_err-argument-in-AllDifferent t c = grind (arith, prim_forms, rules_of_forms, rules_of_parts)
+
+pub prim-returns-in_ok-argument-in-AllDifferent : goal.prim-returns-in_ok-argument-in-AllDifferent
+prim-returns-in_ok-argument-in-AllDifferent t c = grind (arith, prim_forms, rules_of_forms, rules_of_parts)
+
+pub prim-returns-in_err-post-in-Question : goal.prim-returns-in_err-post-in-Question
+prim-returns-in_err-post-in-Question t c = grind (arith, prim_forms, rules_of_forms, rules_of_parts)
+
+pub prim-returns-in_err-argument-in-Question : goal.prim-returns-in_err-argument-in-Question
+prim-returns-in_err-argument-in-Question t c = grind (arith, prim_forms, rules_of_forms, rules_of_parts)
+
+pub prim-returns-in_ok-argument-in-Question : goal.prim-returns-in_ok-argument-in-Question
+prim-returns-in_ok-argument-in-Question t c = grind (arith, prim_forms, rules_of_forms, rules_of_parts)
