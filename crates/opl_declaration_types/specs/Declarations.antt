@@ -39,7 +39,7 @@ use Rattle.opl_type_rules.specs.Forms.Forms.{no_forms, more_forms}
 use Rattle.opl_type_rules.specs.Forms.Pairs.{no_pairs, more_pairs}
 use Rattle.opl_type_rules.specs.Expressions.{Opened, kinds, kinds_in, used, typing, typed_set, or_anything}
 use Rattle.opl_type_rules.specs.Expressions.Need.{data_alone}
-use Rattle.opl_expression_types.specs.Numbers.{number_kinds, maybe_number}
+pub use Rattle.opl_expression_types.specs.Numbers.{number_kinds, maybe_number}
 
 -- ---- types
 

@@ -1,8 +1,10 @@
-use Rattle.std.proofs.Common.{◌≡◌, List, ◌++◌, map, ℕ, Ok, refl, ap, sym, ◌∙◌}
+use Rattle.std.proofs.Common.{List, Ok, ap, arith, map, refl, sym, ℕ, ◌++◌, ◌∙◌, ◌≡◌}
 use Rattle.std.proofs.lemmas.Result.{err_from_is_err_and}
+use Rattle.opl_expression_types.specs.Values.{opened_in}
+use Rattle.opl_item_types.proofs.Items.{block_kinds, each_item, err-same, for_all-adds, front-within, fronts, if-adds, item-ForAll, item_kinds, items_kinds, several-adds, sorts-behind}
+use Rattle.opl_item_types.specs.Items.{item}
 use Rattle.opl_tree.specs.declared.expression.ParamsTree.{ParamsTree}
 use Rattle.opl_tree.specs.declared.instruction.ItemTree.{ItemTree}
-use Rattle.opl_tree.specs.declared.instruction.ItemTree.TheVariants as trees
 use Rattle.opl_type_rules.specs.Expressions.{Opened, open_params}
 use Rattle.opl_type_rules.specs.Expressions.Need.{data_alone}
 use Rattle.opl_type_rules.specs.Forms.{form_params}
@@ -10,9 +12,7 @@ use Rattle.opl_type_rules.specs.Scope.{Scope, and_then}
 use Rattle.opl_type_rules.specs.Steps.{front}
 use Rattle.opl_type_rules.specs.Types.{Sort, sort}
 use Rattle.opl_type_rules.specs.Values.{within}
-use Rattle.opl_expression_types.specs.Values.{opened_in}
-use Rattle.opl_item_types.specs.Items.{item}
-use Rattle.opl_item_types.proofs.Items.{for_all-adds, front-within, if-adds, item-ForAll, several-adds, sorts-behind, err-same}
+use Rattle.opl_tree.specs.declared.instruction.ItemTree.TheVariants as trees
 use Rattle.opl_item_types.proofs.item.+items.Goals as goal
 
 for_all-same : (t : ItemTree) (at : ℕ) (params : ParamsTree) (body one : ItemTree) (sc inner : Scope) (ks ms : List Sort) (o : Opened) → t ≡ trees.ForAll at params body →
@@ -54,3 +54,54 @@ pub items-returns-in_ok-others-in-Several : goal.items-returns-in_ok-others-in-S
 items-returns-in_ok-others-in-Several t c =
     several-adds c.args.t.now c.in-Several.field-0 c.in-Several.first c.in-Several.rest c.in-Several.field-3 (within c.args.model.now c.args.locals.now) (map sort c.args.kinds.now)
     (map sort c.item.new.kinds) (map sort c.others.new.kinds) c.in-Several.is (cc (c.in_ok-item-in-Several.ensures, c.get.ensures)) (cc (c.in_ok-others-in-Several.ensures, c.as_slice.ensures))
+
+pub item-returns-in-Block : goal.item-returns-in-Block
+item-returns-in-Block t c = grind (arith, item_kinds)
+
+pub item-returns-in_err-opened-in-ForAll : goal.item-returns-in_err-opened-in-ForAll
+item-returns-in_err-opened-in-ForAll t c = grind (arith, item_kinds)
+
+pub item-returns-in_err-condition-in-If : goal.item-returns-in_err-condition-in-If
+item-returns-in_err-condition-in-If t c = grind (arith, item_kinds)
+
+pub item-returns-in_err-items-in-If : goal.item-returns-in_err-items-in-If
+item-returns-in_err-items-in-If t c = grind (arith, item_kinds)
+
+pub item-returns-in_err-if_written-in-If : goal.item-returns-in_err-if_written-in-If
+item-returns-in_err-if_written-in-If t c = grind (arith, item_kinds)
+
+pub item-returns-in-Precedes : goal.item-returns-in-Precedes
+item-returns-in-Precedes t c = grind (arith, item_kinds)
+
+pub item-returns-in-Requires : goal.item-returns-in-Requires
+item-returns-in-Requires t c = grind (arith, item_kinds)
+
+pub item-returns-in-Constraint : goal.item-returns-in-Constraint
+item-returns-in-Constraint t c = grind (arith, item_kinds)
+
+pub if_written-returns-in-None : goal.if_written-returns-in-None
+if_written-returns-in-None t c = grind (arith, fronts)
+
+pub if_written-returns-in-Some : goal.if_written-returns-in-Some
+if_written-returns-in-Some t c = grind (arith, fronts)
+
+pub items-returns-in-Empty : goal.items-returns-in-Empty
+items-returns-in-Empty t c = grind (arith, items_kinds)
+
+pub items-returns-in_err-item-in-Several : goal.items-returns-in_err-item-in-Several
+items-returns-in_err-item-in-Several t c = grind (arith, items_kinds)
+
+pub items-returns-in_err-others-in-Several : goal.items-returns-in_err-others-in-Several
+items-returns-in_err-others-in-Several t c = grind (arith, items_kinds)
+
+pub others-loop-other-preserved : goal.others-loop-other-preserved
+others-loop-other-preserved t c = grind (arith, each_item)
+
+pub others-returns-in_err-item : goal.others-returns-in_err-item
+others-returns-in_err-item t c = grind (arith, each_item)
+
+pub others-returns : goal.others-returns
+others-returns t c = grind (arith, each_item)
+
+pub block-returns : goal.block-returns
+block-returns t c = grind (arith, block_kinds)

@@ -1,11 +1,11 @@
-use Rattle.std.proofs.Common.{◌≡◌, [], ◌∷◌, ◌++◌, map, ap, refl}
+use Rattle.std.proofs.Common.{[], ap, arith, map, refl, ◌++◌, ◌∷◌, ◌≡◌}
 use Rattle.std.proofs.lemmas.Result.{err_from_is_err_and}
+use Rattle.opl_expression_types.specs.Values.{opened_in}
+use Rattle.opl_item_types.proofs.Items.{branch-adds, branch-same, each_statement, each_statements, err-same, fronts, search_block_kinds, sorts-behind, statement_if-adds, statement_kinds, statements-adds, statements_kinds, try-adds, while-adds}
 use Rattle.opl_item_types.specs.Items.{each, order, statement}
 use Rattle.opl_type_rules.specs.Steps.{front}
 use Rattle.opl_type_rules.specs.Types.{sort}
 use Rattle.opl_type_rules.specs.Values.{within}
-use Rattle.opl_expression_types.specs.Values.{opened_in}
-use Rattle.opl_item_types.proofs.Items.{try-adds, branch-adds, branch-same, err-same, while-adds, statement_if-adds, statements-adds, sorts-behind}
 use Rattle.opl_item_types.proofs.search.+statements.Goals as goal
 
 pub statement-returns-in_ok-alternatives-in-Try : goal.statement-returns-in_ok-alternatives-in-Try
@@ -50,3 +50,81 @@ pub statements-returns-in_ok-others-in-Several : goal.statements-returns-in_ok-o
 statements-returns-in_ok-others-in-Several t c =
     statements-adds c.args.t.now c.in-Several.field-0 c.in-Several.first c.in-Several.rest c.in-Several.field-3 (within c.args.model.now c.args.locals.now) (map sort c.args.kinds.now)
     (map sort c.statement.new.kinds) (map sort c.others.new.kinds) c.in-Several.is (cc (c.in_ok-statement-in-Several.ensures, c.get.ensures)) (cc (c.in_ok-others-in-Several.ensures, c.as_slice.ensures))
+
+pub statement-returns-in-Block : goal.statement-returns-in-Block
+statement-returns-in-Block t c = grind (arith, statement_kinds)
+
+pub statement-returns-in_err-statements-in-Try : goal.statement-returns-in_err-statements-in-Try
+statement-returns-in_err-statements-in-Try t c = grind (arith, statement_kinds)
+
+pub statement-returns-in_err-statements-in-Try-2 : goal.statement-returns-in_err-statements-in-Try-2
+statement-returns-in_err-statements-in-Try-2 t c = grind (arith, statement_kinds)
+
+pub statement-returns-in_err-alternatives-in-Try : goal.statement-returns-in_err-alternatives-in-Try
+statement-returns-in_err-alternatives-in-Try t c = grind (arith, statement_kinds)
+
+pub statement-returns-in_err-opened-in-Branch : goal.statement-returns-in_err-opened-in-Branch
+statement-returns-in_err-opened-in-Branch t c = grind (arith, statement_kinds)
+
+pub statement-returns-in-Once : goal.statement-returns-in-Once
+statement-returns-in-Once t c = grind (arith, statement_kinds)
+
+pub statement-returns-in_err-condition-in-While : goal.statement-returns-in_err-condition-in-While
+statement-returns-in_err-condition-in-While t c = grind (arith, statement_kinds)
+
+pub statement-returns-in_err-statement-in-While : goal.statement-returns-in_err-statement-in-While
+statement-returns-in_err-statement-in-While t c = grind (arith, statement_kinds)
+
+pub statement-returns-in_err-condition-in-If : goal.statement-returns-in_err-condition-in-If
+statement-returns-in_err-condition-in-If t c = grind (arith, statement_kinds)
+
+pub statement-returns-in_err-statements-in-If : goal.statement-returns-in_err-statements-in-If
+statement-returns-in_err-statements-in-If t c = grind (arith, statement_kinds)
+
+pub statement-returns-in_err-if_written-in-If : goal.statement-returns-in_err-if_written-in-If
+statement-returns-in_err-if_written-in-If t c = grind (arith, statement_kinds)
+
+pub statement-returns-in-Label : goal.statement-returns-in-Label
+statement-returns-in-Label t c = grind (arith, statement_kinds)
+
+pub statement-returns-in-Precedes : goal.statement-returns-in-Precedes
+statement-returns-in-Precedes t c = grind (arith, statement_kinds)
+
+pub statement-returns-in-Constraint : goal.statement-returns-in-Constraint
+statement-returns-in-Constraint t c = grind (arith, statement_kinds)
+
+pub alternatives-loop-other-preserved : goal.alternatives-loop-other-preserved
+alternatives-loop-other-preserved t c = grind (arith, each_statements)
+
+pub alternatives-returns-in_err-statements : goal.alternatives-returns-in_err-statements
+alternatives-returns-in_err-statements t c = grind (arith, each_statements)
+
+pub alternatives-returns : goal.alternatives-returns
+alternatives-returns t c = grind (arith, each_statements)
+
+pub if_written-returns-in-None : goal.if_written-returns-in-None
+if_written-returns-in-None t c = grind (arith, fronts)
+
+pub if_written-returns-in-Some : goal.if_written-returns-in-Some
+if_written-returns-in-Some t c = grind (arith, fronts)
+
+pub statements-returns-in-Empty : goal.statements-returns-in-Empty
+statements-returns-in-Empty t c = grind (arith, statements_kinds)
+
+pub statements-returns-in_err-statement-in-Several : goal.statements-returns-in_err-statement-in-Several
+statements-returns-in_err-statement-in-Several t c = grind (arith, statements_kinds)
+
+pub statements-returns-in_err-others-in-Several : goal.statements-returns-in_err-others-in-Several
+statements-returns-in_err-others-in-Several t c = grind (arith, statements_kinds)
+
+pub others-loop-other-preserved : goal.others-loop-other-preserved
+others-loop-other-preserved t c = grind (arith, each_statement)
+
+pub others-returns-in_err-statement : goal.others-returns-in_err-statement
+others-returns-in_err-statement t c = grind (arith, each_statement)
+
+pub others-returns : goal.others-returns
+others-returns t c = grind (arith, each_statement)
+
+pub search_block-returns : goal.search_block-returns
+search_block-returns t c = grind (arith, search_block_kinds)
