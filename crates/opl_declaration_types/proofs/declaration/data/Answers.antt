@@ -16,6 +16,3 @@ returns-in_err-initial_value c = grind (arith, names_within)
 
 pub returns : goal.returns
 returns c = grind (arith, names_within)
-
-pub returns : goal.returns
-returns c = grind (arith, names_within)

@@ -14,6 +14,3 @@ returns-in_err-number c = grind (arith, names_within, sorts)
 
 pub returns : goal.returns
 returns c = grind (arith, names_within, sorts)
-
-pub returns : goal.returns
-returns c = grind (arith, names_within, sorts)
