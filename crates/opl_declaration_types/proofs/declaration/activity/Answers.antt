@@ -6,9 +6,6 @@ use Rattle.opl_declaration_types.proofs.declaration.activity.Goals as goal
 pub returns-in_err-fresh_outside : goal.returns-in_err-fresh_outside
 returns-in_err-fresh_outside c = grind (arith, names_within, sorts)
 
-pub returns-in_err-dims_of : goal.returns-in_err-dims_of
-returns-in_err-dims_of c = grind (arith, names_within, sorts)
-
 pub returns-in_err-number : goal.returns-in_err-number
 returns-in_err-number c = grind (arith, names_within, sorts)
 

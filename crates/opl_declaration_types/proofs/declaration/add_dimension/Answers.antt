@@ -5,8 +5,5 @@ use Rattle.opl_declaration_types.proofs.declaration.add_dimension.Goals as goal
 pub returns-in_err-fresh_name : goal.returns-in_err-fresh_name
 returns-in_err-fresh_name c = grind (arith, names_within)
 
-pub returns-in_err-set : goal.returns-in_err-set
-returns-in_err-set c = grind (arith, names_within)
-
 pub returns : goal.returns
 returns c = grind (arith, names_within)

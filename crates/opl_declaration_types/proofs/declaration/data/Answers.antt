@@ -8,9 +8,6 @@ returns-in_err-element c = grind (arith, names_within)
 pub returns-in_err-fresh_outside : goal.returns-in_err-fresh_outside
 returns-in_err-fresh_outside c = grind (arith, names_within)
 
-pub returns-in_err-dims_of : goal.returns-in_err-dims_of
-returns-in_err-dims_of c = grind (arith, names_within)
-
 pub returns-in_err-initial_value : goal.returns-in_err-initial_value
 returns-in_err-initial_value c = grind (arith, names_within)
 

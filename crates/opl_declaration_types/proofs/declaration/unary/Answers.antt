@@ -6,8 +6,5 @@ use Rattle.opl_declaration_types.proofs.declaration.unary.Goals as goal
 pub returns-in_err-fresh_outside : goal.returns-in_err-fresh_outside
 returns-in_err-fresh_outside c = grind (arith, names_within, sorts)
 
-pub returns-in_err-dims_of : goal.returns-in_err-dims_of
-returns-in_err-dims_of c = grind (arith, names_within, sorts)
-
 pub returns : goal.returns
 returns c = grind (arith, names_within, sorts)
