@@ -94,14 +94,5 @@ items-returns-in_err-item-in-Several t c = grind (arith, items_kinds)
 pub items-returns-in_err-others-in-Several : goal.items-returns-in_err-others-in-Several
 items-returns-in_err-others-in-Several t c = grind (arith, items_kinds)
 
-pub others-loop-other-preserved : goal.others-loop-other-preserved
-others-loop-other-preserved t c = grind (arith, each_item)
-
-pub others-returns-in_err-item : goal.others-returns-in_err-item
-others-returns-in_err-item t c = grind (arith, each_item)
-
-pub others-returns : goal.others-returns
-others-returns t c = grind (arith, each_item)
-
 pub block-returns : goal.block-returns
 block-returns t c = grind (arith, block_kinds)

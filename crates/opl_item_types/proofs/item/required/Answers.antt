@@ -16,6 +16,3 @@ returns-in_err-known c = grind (arith, fronts)
 
 pub returns-in_err-parts : goal.returns-in_err-parts
 returns-in_err-parts c = grind (arith, fronts)
-
-pub returns : goal.returns
-returns c = grind (arith, fronts)

@@ -93,15 +93,6 @@ statement-returns-in-Precedes t c = grind (arith, statement_kinds)
 pub statement-returns-in-Constraint : goal.statement-returns-in-Constraint
 statement-returns-in-Constraint t c = grind (arith, statement_kinds)
 
-pub alternatives-loop-other-preserved : goal.alternatives-loop-other-preserved
-alternatives-loop-other-preserved t c = grind (arith, each_statements)
-
-pub alternatives-returns-in_err-statements : goal.alternatives-returns-in_err-statements
-alternatives-returns-in_err-statements t c = grind (arith, each_statements)
-
-pub alternatives-returns : goal.alternatives-returns
-alternatives-returns t c = grind (arith, each_statements)
-
 pub if_written-returns-in-None : goal.if_written-returns-in-None
 if_written-returns-in-None t c = grind (arith, fronts)
 
@@ -116,15 +107,6 @@ statements-returns-in_err-statement-in-Several t c = grind (arith, statements_ki
 
 pub statements-returns-in_err-others-in-Several : goal.statements-returns-in_err-others-in-Several
 statements-returns-in_err-others-in-Several t c = grind (arith, statements_kinds)
-
-pub others-loop-other-preserved : goal.others-loop-other-preserved
-others-loop-other-preserved t c = grind (arith, each_statement)
-
-pub others-returns-in_err-statement : goal.others-returns-in_err-statement
-others-returns-in_err-statement t c = grind (arith, each_statement)
-
-pub others-returns : goal.others-returns
-others-returns t c = grind (arith, each_statement)
 
 pub search_block-returns : goal.search_block-returns
 search_block-returns t c = grind (arith, search_block_kinds)
