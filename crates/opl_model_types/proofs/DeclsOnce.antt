@@ -15,7 +15,8 @@ use Rattle.opl_type_rules.specs.Scope.Thing.{range, value, enum_type, enum_name,
 use Rattle.opl_type_rules.specs.Forms.{form_set}
 use Rattle.opl_type_rules.specs.Expressions.{Opened, kinds_in, or_anything, typed_set}
 use Rattle.opl_type_rules.specs.Expressions.Need.{data_alone}
-use Rattle.opl_model_types.specs.Declarations.{Dimensions, no_dimensions, fresh_in, with_dimension, dimensions, all_dims, Shape, shape, shaped, written_type, initial_kinds, cell_indices, number_kinds, maybe_number, makes, enum_names, with_names, field_list, variable_type, bounds_kinds, is_decidable, is_given, given, next, decl, all_decls}
+use Rattle.opl_expression_types.specs.Numbers.{number_kinds, maybe_number}
+use Rattle.opl_declaration_types.specs.Declarations.{Dimensions, no_dimensions, fresh_in, with_dimension, dimensions, all_dims, Shape, shape, shaped, written_type, initial_kinds, cell_indices, makes, enum_names, with_names, field_list, variable_type, bounds_kinds, is_decidable, is_given, given, next, decl, all_decls}
 use Rattle.opl_model_types.specs.Laws.{IsDeclaredOnce, DeclsDeclareOnce, DimsDeclareOnce}
 use Rattle.opl_model_types.proofs.Once.{Once, names_of, pushed, names-declared, names-values, fresh-once, all_fresh-once, unit-ok, went, same_scope, same_opened, declared_once, once_declared}
 

@@ -1,7 +1,5 @@
-pub mod Declared
 pub mod DeclsOnce
 pub mod EachOnce
-pub mod Items
 pub mod Models
 pub mod NameExamples
 pub mod NamesInDecls
@@ -13,4 +11,3 @@ pub mod Outcome
 pub mod ParamsOnce
 pub mod PureDecls
 pub mod PureItems
-pub mod Resources

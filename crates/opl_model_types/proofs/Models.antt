@@ -9,8 +9,9 @@ use Rattle.opl_type_rules.specs.declared.fault.TypeFault.TheVariants.{Unknown, D
 use Rattle.opl_type_rules.specs.Types.{Sort, sort}
 use Rattle.opl_type_rules.specs.Scope.{Checked, and_then, Scope, empty_scope, declared}
 use Rattle.opl_type_rules.specs.Expressions.{Opened}
-use Rattle.opl_model_types.specs.Declarations.{all_decls}
-use Rattle.opl_model_types.specs.Models.{Looked, instr, search, model}
+use Rattle.opl_declaration_types.specs.Declarations.{all_decls}
+use Rattle.opl_item_types.specs.Items.{Looked, instr, search}
+use Rattle.opl_model_types.specs.Models.{model}
 use Rattle.opl_type_rules.specs.Steps.{front, behind}
 use Rattle.opl_type_rules.specs.Values.{Gives, scope_of, thing_of, with_entries}
 

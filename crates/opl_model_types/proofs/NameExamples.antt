@@ -54,14 +54,15 @@ use Rattle.opl_type_rules.specs.Forms.Params.{all_of}
 use Rattle.opl_type_rules.specs.Forms.SetForm.{whole}
 use Rattle.opl_type_rules.specs.Expressions.{Opened, settled, typing, typed_set, open_groups, open_params}
 use Rattle.opl_type_rules.specs.Expressions.Need.{data_alone}
-use Rattle.opl_model_types.specs.Declarations.{decl, all_decls}
-use Rattle.opl_model_types.specs.Models.{each, item, items, block, model}
+use Rattle.opl_declaration_types.specs.Declarations.{decl, all_decls}
+use Rattle.opl_item_types.specs.Items.{each, item, items, block}
+use Rattle.opl_model_types.specs.Models.{model}
 use Rattle.opl_model_types.specs.Uses.{requires_uses, item_uses, items_uses, block_uses, statement_uses, statements_uses, search_uses}
 use Rattle.opl_model_types.specs.Uses.Uses.{no_uses, expression, both, behind}
 use Rattle.opl_model_types.specs.Laws.{Declared, EachDeclared, HasKinds, DeclsDeclared, UsesDeclared, BlockDeclared, SearchDeclared, ModelDeclared}
 use Rattle.opl_model_types.proofs.NamesInModels.{model_is_declared}
-use Rattle.opl_model_types.proofs.Declared.{written_type-Int}
-use Rattle.opl_model_types.proofs.Items.{item-ForAll, item-Constraint, items-Several}
+use Rattle.opl_declaration_types.proofs.Declared.{written_type-Int}
+use Rattle.opl_item_types.proofs.Items.{item-ForAll, item-Constraint, items-Several}
 use Rattle.opl_type_rules.proofs.Forms.{form_mul-Product, form_sign-Postfix, form_prim-Named, form_neg-Compare, form_compare-Related}
 
 abbrev the : Text → NameTree

@@ -26,7 +26,8 @@ use Rattle.opl_type_rules.specs.Forms.Forms.{no_forms, more_forms}
 use Rattle.opl_type_rules.specs.Forms.Pairs.{no_pairs, more_pairs}
 use Rattle.opl_type_rules.specs.Expressions.{Node, Opened, data_number, used, typing, typed_set}
 use Rattle.opl_type_rules.specs.Expressions.Need.{data_alone}
-use Rattle.opl_model_types.specs.Declarations.{known_type, named_type, type_layer, written_type, Dimensions, fresh_in, dimensions, all_dims, Shape, shape, initial, initial_cells, initial_pairs, initial_kinds, cell_indices, number_kinds, maybe_number, bounds_kinds, variable_type, field_list, next, decl, all_decls}
+use Rattle.opl_expression_types.specs.Numbers.{number_kinds, maybe_number}
+use Rattle.opl_declaration_types.specs.Declarations.{known_type, named_type, type_layer, written_type, Dimensions, fresh_in, dimensions, all_dims, Shape, shape, initial, initial_cells, initial_pairs, initial_kinds, cell_indices, bounds_kinds, variable_type, field_list, next, decl, all_decls}
 use Rattle.opl_model_types.specs.Laws.{IsDeclaredOnce, EachDeclared, AllDeclared, PairsDeclared, IsTypeName, type_name_layer, type_name, TypeDeclared, VariableTypeDeclared, FieldsDeclared, DimsDeclared, BehindDims, NumberDeclared, MaybeDeclared, BoundsDeclared, InitialDeclared, DeclDeclared, DeclsDeclared}
 use Rattle.opl_model_types.proofs.Once.{went, ok-and, found-declared}
 use Rattle.opl_model_types.proofs.EachOnce.{set_declared, typed_is_declared}

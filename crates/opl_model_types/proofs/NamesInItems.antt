@@ -18,8 +18,8 @@ use Rattle.opl_type_rules.specs.Scope.{and_then, Scope, Thing, found, lookup}
 use Rattle.opl_type_rules.specs.Forms.{form_expr, form_post, form_subscripts, form_params, forms_of}
 use Rattle.opl_type_rules.specs.Expressions.{Node, Need, used, part, typing, open_params}
 use Rattle.opl_type_rules.specs.Expressions.Need.{nothing, data_alone}
-use Rattle.opl_model_types.specs.Declarations.{maybe_number}
-use Rattle.opl_model_types.specs.Models.{Looked, each, if_written, within, condition, precedes, known, subscript_nodes, requires, item, items, block}
+use Rattle.opl_expression_types.specs.Numbers.{maybe_number}
+use Rattle.opl_item_types.specs.Items.{Looked, each, if_written, within, condition, precedes, known, subscript_nodes, requires, item, items, block}
 use Rattle.opl_model_types.specs.Uses.{Uses, together, demand_uses, subscript_uses, requires_uses, item_uses_layer, items_uses_layer, block_uses_layer, item_uses, items_uses, block_uses}
 use Rattle.opl_model_types.specs.Uses.Uses.{no_uses, expression, both, behind}
 use Rattle.opl_model_types.specs.Laws.{IsDeclaredOnce, Declared, UsesDeclared}

@@ -8,8 +8,9 @@ use Rattle.opl_type_rules.specs.Scope.{and_then, Scope, empty_scope}
 use Rattle.opl_type_rules.specs.Forms.{form_expr}
 use Rattle.opl_type_rules.specs.Expressions.{used, typing}
 use Rattle.opl_type_rules.specs.Expressions.Need.{nothing}
-use Rattle.opl_model_types.specs.Declarations.{all_decls}
-use Rattle.opl_model_types.specs.Models.{block, search, instr, model}
+use Rattle.opl_declaration_types.specs.Declarations.{all_decls}
+use Rattle.opl_item_types.specs.Items.{block, search, instr}
+use Rattle.opl_model_types.specs.Models.{model}
 use Rattle.opl_model_types.specs.Laws.{IsDeclaredOnce, InstrDeclared, SearchDeclared, ModelIsDeclared}
 use Rattle.opl_model_types.proofs.Once.{went, ok-and}
 use Rattle.opl_model_types.proofs.DeclsOnce.{decls_declare_once}

@@ -13,7 +13,7 @@ use Rattle.opl_type_rules.specs.Types.{is_number}
 use Rattle.opl_type_rules.specs.Forms.{form_add, form_expr, form_post}
 use Rattle.opl_type_rules.specs.Expressions.{used, part}
 use Rattle.opl_type_rules.specs.Expressions.Need.{nothing, data_or_questions}
-use Rattle.opl_model_types.specs.Models.{each, if_written, condition, label, order, statement, statements, search_block}
+use Rattle.opl_item_types.specs.Items.{each, if_written, condition, label, order, statement, statements, search_block}
 use Rattle.opl_model_types.specs.Uses.{Uses, order_uses, statement_uses_layer, statements_uses_layer, search_uses_layer, statement_uses, statements_uses, search_uses}
 use Rattle.opl_model_types.specs.Uses.Uses.{no_uses, expression, both}
 use Rattle.opl_model_types.proofs.PureItems.{statement_of, statements_of, search_of, statement-roll, statements-roll, search-roll}

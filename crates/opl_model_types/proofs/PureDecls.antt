@@ -36,7 +36,8 @@ use Rattle.opl_type_rules.specs.Forms.Form.{cells, keyed_cells}
 use Rattle.opl_type_rules.specs.Forms.Forms.{no_forms, more_forms}
 use Rattle.opl_type_rules.specs.Forms.Pairs.{no_pairs, more_pairs}
 use Rattle.opl_type_rules.specs.Expressions.Need.{data_alone}
-use Rattle.opl_model_types.specs.Declarations.{known_type, named_type, type_layer, written_type, fresh_in, dimensions, all_dims, shaped, initial, initial_cells, initial_pairs, initial_kinds, cell_indices, number_kinds, maybe_number, shape, data_decl, range_decl, enum_names, enum_decl, field_list, struct_decl, variable_type, bounds_kinds, is_decidable, variable_decl, activity_decl, unary_decl, discrete_decl, is_given, schedule_decl, decl, next, all_decls}
+use Rattle.opl_expression_types.specs.Numbers.{number_kinds, maybe_number}
+use Rattle.opl_declaration_types.specs.Declarations.{known_type, named_type, type_layer, written_type, fresh_in, dimensions, all_dims, shaped, initial, initial_cells, initial_pairs, initial_kinds, cell_indices, shape, data_decl, range_decl, enum_names, enum_decl, field_list, struct_decl, variable_type, bounds_kinds, is_decidable, variable_decl, activity_decl, unary_decl, discrete_decl, is_given, schedule_decl, decl, next, all_decls}
 use Rattle.opl_expression_types.proofs.Pure.{Real, real_ok, real_err, real_then, real_unless, real_fresh, real_all_fresh, real_used, real_typing, real_typed_set}
 
 -- ---- types

@@ -30,7 +30,8 @@ use Rattle.opl_type_rules.specs.Scope.{Scope, Thing, empty_scope, lookup}
 use Rattle.opl_type_rules.specs.Forms.{form_expr, form_add, form_post, form_subscripts, form_params, forms_of}
 use Rattle.opl_type_rules.specs.Expressions.{Need}
 use Rattle.opl_type_rules.specs.Expressions.Need.{nothing, data_alone, data_or_questions}
-use Rattle.opl_model_types.specs.Models.{Looked, each, if_written, within, condition, precedes, known, subscript_nodes, is_resource, requires, item_layer, items_layer, block_layer, item, items, block, is_labelled, label, order, statement_layer, statements_layer, search_block_layer, statement, statements, search_block, search, instr, model}
+use Rattle.opl_item_types.specs.Items.{Looked, each, if_written, within, condition, precedes, known, subscript_nodes, is_resource, requires, item_layer, items_layer, block_layer, item, items, block, is_labelled, label, order, statement_layer, statements_layer, search_block_layer, statement, statements, search_block, search, instr}
+use Rattle.opl_model_types.specs.Models.{model}
 use Rattle.opl_model_types.specs.Laws.{NeverMemory}
 use Rattle.opl_expression_types.proofs.Pure.{Real, real_ok, real_err, real_never, real_then, real_unless, real_used, real_part, real_typing, real_typed_parts, real_open_params}
 use Rattle.opl_model_types.proofs.PureDecls.{real_maybe_number, real_all_decls}
@@ -53,7 +54,11 @@ real_two f g h i = real_more f (g ∷ []) h (real_more g [] i real_none)
 real_three : (f g l : Looked) → AlwaysReal f → AlwaysReal g → AlwaysReal l → AlwaysReal (each (f ∷ g ∷ l ∷ []))
 real_three f g l h i j = real_more f (g ∷ l ∷ []) h (real_two g l i j)
 
-real_each : {T : Type 0} (f : T → Looked) (es : List ((t : T) × AlwaysReal (f t))) → AlwaysReal (each (map f (map (λ e. e.0) es)))
+-- what is known of a part: no want of memory is its fault
+abbrev Known : {T : Type 0} → (T → Looked) → Type 0
+Known {T} f = (t : T) × AlwaysReal (f t)
+
+real_each : {T : Type 0} (f : T → Looked) (es : List (Known f)) → AlwaysReal (each (map f (map (λ e. e.0) es)))
 real_each f [] = real_none
 real_each f (e ∷ es) = real_more (f e.0) (map f (map (λ e. e.0) es)) e.1 (real_each f es)
 
@@ -66,6 +71,10 @@ real_condition need t sc = real_then _ _ (real_used need is_truth _ (real_typing
 real_precedes : (at : ℕ) (first second : PostTree) → AlwaysReal (precedes at first second)
 real_precedes at first second sc =
     real_then _ _ (real_part _ (real_typing (form_post first) sc)) (λ m. real_then _ _ (real_part _ (real_typing (form_post second) sc)) (λ n. real_then _ _ (real_unless (is_activity m.sort && is_activity n.sort) (Mismatch at) tt) (λ u. real_ok _)))
+
+-- a tree whose one layer, over parts of which this is known, has no want of memory
+real_layer : {F : Type 0} (layer : F → Looked) (looked : Looked) (x y : F) → looked ≡ layer x → y ≡ x → AlwaysReal (layer y) → AlwaysReal looked
+real_layer layer looked x y rolled is h = subst AlwaysReal (sym rolled) (subst (λ z. AlwaysReal (layer z)) is h)
 
 -- ---- resources
 
@@ -84,24 +93,14 @@ real_requires t sc =
 
 -- ---- items
 
--- what is known of the items inside an item
-abbrev InItem : Type 0
-InItem = (t : ItemTree) × AlwaysReal (item t)
+abbrev item_inner : ItemTree-F (Known item) (Known items) (Known block) → ItemTree-F ItemTree ItemsTree BlockTree
+item_inner = map-ItemTree (Known item) (Known items) (Known block) ItemTree ItemsTree BlockTree (λ e. e.0) (λ e. e.0) (λ e. e.0)
 
-abbrev InItems : Type 0
-InItems = (t : ItemsTree) × AlwaysReal (items t)
+abbrev items_inner : ItemsTree-F (Known item) (Known items) (Known block) → ItemsTree-F ItemTree ItemsTree BlockTree
+items_inner = map-ItemsTree (Known item) (Known items) (Known block) ItemTree ItemsTree BlockTree (λ e. e.0) (λ e. e.0) (λ e. e.0)
 
-abbrev InBlock : Type 0
-InBlock = (t : BlockTree) × AlwaysReal (block t)
-
-abbrev item_inner : ItemTree-F InItem InItems InBlock → ItemTree-F ItemTree ItemsTree BlockTree
-item_inner = map-ItemTree InItem InItems InBlock ItemTree ItemsTree BlockTree (λ e. e.0) (λ e. e.0) (λ e. e.0)
-
-abbrev items_inner : ItemsTree-F InItem InItems InBlock → ItemsTree-F ItemTree ItemsTree BlockTree
-items_inner = map-ItemsTree InItem InItems InBlock ItemTree ItemsTree BlockTree (λ e. e.0) (λ e. e.0) (λ e. e.0)
-
-abbrev block_inner : BlockTree-F InItem InItems InBlock → BlockTree-F ItemTree ItemsTree BlockTree
-block_inner = map-BlockTree InItem InItems InBlock ItemTree ItemsTree BlockTree (λ e. e.0) (λ e. e.0) (λ e. e.0)
+abbrev block_inner : BlockTree-F (Known item) (Known items) (Known block) → BlockTree-F ItemTree ItemsTree BlockTree
+block_inner = map-BlockTree (Known item) (Known items) (Known block) ItemTree ItemsTree BlockTree (λ e. e.0) (λ e. e.0) (λ e. e.0)
 
 -- one layer of each
 abbrev pub item_of : ItemTree-F ItemTree ItemsTree BlockTree → Looked
@@ -125,7 +124,7 @@ pub block-roll : (x : BlockTree-F ItemTree ItemsTree BlockTree) → block (roll-
 unfolding item items block
 block-roll x = fold-roll-BlockTree Looked Looked Looked item_layer items_layer block_layer x
 
-real_item : (y : ItemTree-F InItem InItems InBlock) → AlwaysReal (item_of (item_inner y))
+real_item : (y : ItemTree-F (Known item) (Known items) (Known block)) → AlwaysReal (item_of (item_inner y))
 real_item (ItemTree-F.Block inner) = inner.1
 real_item (ItemTree-F.ForAll at params body) = real_within data_alone params (item body.0) body.1
 real_item (ItemTree-F.If at test holds None) = real_three (condition data_alone test) (items holds.0) (if_written None) (real_condition data_alone test) holds.1 real_none
@@ -134,18 +133,18 @@ real_item (ItemTree-F.Precedes at first second) = real_precedes at first second
 real_item (ItemTree-F.Requires t) = real_requires t
 real_item (ItemTree-F.Constraint t) = real_condition nothing t
 
-real_items : (y : ItemsTree-F InItem InItems InBlock) → AlwaysReal (items_of (items_inner y))
+real_items : (y : ItemsTree-F (Known item) (Known items) (Known block)) → AlwaysReal (items_of (items_inner y))
 real_items (ItemsTree-F.Empty at) = real_none
 real_items (ItemsTree-F.Several at first rest is_closed) = real_each item (first ∷ rest)
 
-real_in_block : (y : BlockTree-F InItem InItems InBlock) → AlwaysReal (block_of (block_inner y))
+real_in_block : (y : BlockTree-F (Known item) (Known items) (Known block)) → AlwaysReal (block_of (block_inner y))
 real_in_block y = y.items.1
 
 real_block : (t : BlockTree) → AlwaysReal (block t)
 real_block = ind-BlockTree (λ t. AlwaysReal (item t)) (λ t. AlwaysReal (items t)) (λ t. AlwaysReal (block t))
-    (λ x y is. subst AlwaysReal (sym (item-roll x)) (subst (λ z. AlwaysReal (item_of z)) is (real_item y)))
-    (λ x y is. subst AlwaysReal (sym (items-roll x)) (subst (λ z. AlwaysReal (items_of z)) is (real_items y)))
-    (λ x y is. subst AlwaysReal (sym (block-roll x)) (subst (λ z. AlwaysReal (block_of z)) is (real_in_block y)))
+    (λ x y is. real_layer item_of _ x _ (item-roll x) is (real_item y))
+    (λ x y is. real_layer items_of _ x _ (items-roll x) is (real_items y))
+    (λ x y is. real_layer block_of _ x _ (block-roll x) is (real_in_block y))
 
 -- ---- the search section
 
@@ -156,24 +155,14 @@ real_order : (t : Option OrderTree) → AlwaysReal (order t)
 real_order None sc = real_ok []
 real_order (Some t) sc = real_then _ _ (real_used data_or_questions is_number _ (real_typing (form_add t.key) sc)) (λ n. real_ok _)
 
--- what is known of the statements inside a statement
-abbrev InStatement : Type 0
-InStatement = (t : StatementTree) × AlwaysReal (statement t)
+abbrev statement_inner : StatementTree-F (Known statement) (Known statements) (Known search_block) → StatementTree-F StatementTree StatementsTree SearchBlockTree
+statement_inner = map-StatementTree (Known statement) (Known statements) (Known search_block) StatementTree StatementsTree SearchBlockTree (λ e. e.0) (λ e. e.0) (λ e. e.0)
 
-abbrev InStatements : Type 0
-InStatements = (t : StatementsTree) × AlwaysReal (statements t)
+abbrev statements_inner : StatementsTree-F (Known statement) (Known statements) (Known search_block) → StatementsTree-F StatementTree StatementsTree SearchBlockTree
+statements_inner = map-StatementsTree (Known statement) (Known statements) (Known search_block) StatementTree StatementsTree SearchBlockTree (λ e. e.0) (λ e. e.0) (λ e. e.0)
 
-abbrev InSearch : Type 0
-InSearch = (t : SearchBlockTree) × AlwaysReal (search_block t)
-
-abbrev statement_inner : StatementTree-F InStatement InStatements InSearch → StatementTree-F StatementTree StatementsTree SearchBlockTree
-statement_inner = map-StatementTree InStatement InStatements InSearch StatementTree StatementsTree SearchBlockTree (λ e. e.0) (λ e. e.0) (λ e. e.0)
-
-abbrev statements_inner : StatementsTree-F InStatement InStatements InSearch → StatementsTree-F StatementTree StatementsTree SearchBlockTree
-statements_inner = map-StatementsTree InStatement InStatements InSearch StatementTree StatementsTree SearchBlockTree (λ e. e.0) (λ e. e.0) (λ e. e.0)
-
-abbrev search_inner : SearchBlockTree-F InStatement InStatements InSearch → SearchBlockTree-F StatementTree StatementsTree SearchBlockTree
-search_inner = map-SearchBlockTree InStatement InStatements InSearch StatementTree StatementsTree SearchBlockTree (λ e. e.0) (λ e. e.0) (λ e. e.0)
+abbrev search_inner : SearchBlockTree-F (Known statement) (Known statements) (Known search_block) → SearchBlockTree-F StatementTree StatementsTree SearchBlockTree
+search_inner = map-SearchBlockTree (Known statement) (Known statements) (Known search_block) StatementTree StatementsTree SearchBlockTree (λ e. e.0) (λ e. e.0) (λ e. e.0)
 
 -- one layer of each
 abbrev pub statement_of : StatementTree-F StatementTree StatementsTree SearchBlockTree → Looked
@@ -197,7 +186,7 @@ pub search-roll : (x : SearchBlockTree-F StatementTree StatementsTree SearchBloc
 unfolding statement statements search_block
 search-roll x = fold-roll-SearchBlockTree Looked Looked Looked statement_layer statements_layer search_block_layer x
 
-real_statement : (y : StatementTree-F InStatement InStatements InSearch) → AlwaysReal (statement_of (statement_inner y))
+real_statement : (y : StatementTree-F (Known statement) (Known statements) (Known search_block)) → AlwaysReal (statement_of (statement_inner y))
 real_statement (StatementTree-F.Block inner) = inner.1
 real_statement (StatementTree-F.Try at first second others) = real_each statements (first ∷ second ∷ others)
 real_statement (StatementTree-F.Branch at op params body) =
@@ -210,18 +199,18 @@ real_statement (StatementTree-F.Label at op t) = real_label at op t
 real_statement (StatementTree-F.Precedes at first second) = real_precedes at first second
 real_statement (StatementTree-F.Constraint t) = real_condition nothing t
 
-real_statements : (y : StatementsTree-F InStatement InStatements InSearch) → AlwaysReal (statements_of (statements_inner y))
+real_statements : (y : StatementsTree-F (Known statement) (Known statements) (Known search_block)) → AlwaysReal (statements_of (statements_inner y))
 real_statements (StatementsTree-F.Empty at) = real_none
 real_statements (StatementsTree-F.Several at first rest is_closed) = real_each statement (first ∷ rest)
 
-real_in_search : (y : SearchBlockTree-F InStatement InStatements InSearch) → AlwaysReal (search_of (search_inner y))
+real_in_search : (y : SearchBlockTree-F (Known statement) (Known statements) (Known search_block)) → AlwaysReal (search_of (search_inner y))
 real_in_search y = y.statements.1
 
 real_search_block : (t : SearchBlockTree) → AlwaysReal (search_block t)
 real_search_block = ind-SearchBlockTree (λ t. AlwaysReal (statement t)) (λ t. AlwaysReal (statements t)) (λ t. AlwaysReal (search_block t))
-    (λ x y is. subst AlwaysReal (sym (statement-roll x)) (subst (λ z. AlwaysReal (statement_of z)) is (real_statement y)))
-    (λ x y is. subst AlwaysReal (sym (statements-roll x)) (subst (λ z. AlwaysReal (statements_of z)) is (real_statements y)))
-    (λ x y is. subst AlwaysReal (sym (search-roll x)) (subst (λ z. AlwaysReal (search_of z)) is (real_in_search y)))
+    (λ x y is. real_layer statement_of _ x _ (statement-roll x) is (real_statement y))
+    (λ x y is. real_layer statements_of _ x _ (statements-roll x) is (real_statements y))
+    (λ x y is. real_layer search_of _ x _ (search-roll x) is (real_in_search y))
 
 real_search : (t : Option SearchTree) → AlwaysReal (search t)
 real_search None sc = real_ok []

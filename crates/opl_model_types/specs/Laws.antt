@@ -33,7 +33,7 @@ use Rattle.opl_type_rules.specs.Forms.Groups.{no_groups, more_groups}
 use Rattle.opl_type_rules.specs.Forms.Params.{all_of, those_of}
 use Rattle.opl_type_rules.specs.Expressions.{Node, Need, Opened, or_anything, bind_patterns, typing, typed_set, open_groups, open_params}
 use Rattle.opl_type_rules.specs.Expressions.Need.{data_alone}
-use Rattle.opl_model_types.specs.Declarations.{Shape, shape, all_dims, decl, next, all_decls}
+use Rattle.opl_declaration_types.specs.Declarations.{Shape, shape, all_dims, decl, next, all_decls}
 use Rattle.opl_model_types.specs.Models.{model}
 use Rattle.opl_model_types.specs.Uses.{Uses, block_uses, search_uses}
 use Rattle.opl_model_types.specs.Uses.Uses.{no_uses, expression, expressions, both, behind}

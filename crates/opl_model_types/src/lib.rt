@@ -1,10 +1,7 @@
 //! The types of a model's expressions, and the first fault of a model whose expressions do not fit together.
 #![tactic(auto)]
 
-mod declaration;
-mod item;
 pub mod laws;
-mod search;
 mod typed;
 
 pub use opl_type_rules::fault::TypeFault;

@@ -6,9 +6,8 @@ ghost use Rattle.opl_type_rules.specs.Steps.{front};
 ghost use Rattle.opl_type_rules.specs.Types.{sort};
 ghost use Rattle.opl_type_rules.specs.Values.{Gives, scope_of};
 
-use crate::declaration::all_decls;
-use crate::item::instr;
-use crate::search::search_block;
+use opl_declaration_types::all_decls;
+use opl_item_types::{instr, search_block};
 use opl_list::Seq;
 use opl_tree::{ModelTree, SearchTree};
 use opl_type_rules::fault::TypeFault;
@@ -33,7 +32,7 @@ fn enter_search(names: &mut Names<'_>)
 }
 
 /// The types of the expressions of a search section, if there is one.
-#[tactic(auto, using(crate::proofs::Items::outside))]
+#[tactic(auto, using(opl_item_types::proofs::Items::outside))]
 fn searched(
     alloc: Global,
     names: &mut Names<'_>,

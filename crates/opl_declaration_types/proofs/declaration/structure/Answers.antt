@@ -1,0 +1,15 @@
+use Rattle.std.proofs.Common.{arith}
+use Rattle.opl_declaration_types.proofs.Declared.{names_within}
+use Rattle.opl_declaration_types.proofs.declaration.structure.Goals as goal
+
+pub returns-in_err-fresh_outside : goal.returns-in_err-fresh_outside
+returns-in_err-fresh_outside c = grind (arith, names_within)
+
+pub returns-in_err-field : goal.returns-in_err-field
+returns-in_err-field c = grind (arith, names_within)
+
+pub returns-in_err-all_fields : goal.returns-in_err-all_fields
+returns-in_err-all_fields c = grind (arith, names_within)
+
+pub returns : goal.returns
+returns c = grind (arith, names_within)

@@ -1,0 +1,2 @@
+pub mod DeclarationSteps
+pub mod Declarations
