@@ -137,20 +137,6 @@ fn push_space(
     Ok(())
 }
 
-/// Adds the copy of a value, and whether it is another value.
-fn push_compared(
-    text: &mut Vec<u8>,
-    data: &DataValues<'_>,
-    value: &Value,
-    copy: &Value,
-) -> Result<(), AllocError> {
-    push_value(text, data, copy, DEPTH)?;
-    if *copy != *value {
-        text.extend_from_slice(b" copied otherwise")?;
-    }
-    Ok(())
-}
-
 /// Adds a value, which is copied first.
 fn push_copy(
     alloc: Global,
@@ -159,7 +145,11 @@ fn push_copy(
     value: &Value,
 ) -> Result<(), AllocError> {
     let copy = value.copy(alloc)?;
-    push_compared(text, data, value, &copy)
+    push_value(text, data, &copy, DEPTH)?;
+    if copy != *value {
+        text.extend_from_slice(b" copied otherwise")?;
+    }
+    Ok(())
 }
 
 /// Adds the line of a name with its value, `name = value` or `name[set,..] = [a,..]`; nothing for what has no value.
@@ -183,14 +173,6 @@ fn push_item(
     Ok(())
 }
 
-/// The number of keys of an array, counted by a copy of its index sets.
-fn count_keys(alloc: Global, data: &DataValues<'_>, dims: &DimsTree) -> Result<u64, AllocError> {
-    let Ok(keys) = index_space(alloc, &data.environment, dims) else {
-        return Err(AllocError);
-    };
-    Ok(keys.copy(alloc)?.elements())
-}
-
 /// Adds the line `name has N keys` for an array.
 fn push_keys(
     alloc: Global,
@@ -199,11 +181,14 @@ fn push_keys(
     name: &[u8],
     dims: &DimsTree,
 ) -> Result<(), AllocError> {
-    let count = count_keys(alloc, data, dims)?;
+    let Ok(keys) = index_space(alloc, &data.environment, dims) else {
+        return Err(AllocError);
+    };
+    let copy = keys.copy(alloc)?;
     text.extend_from_slice(b"  ")?;
     text.extend_from_slice(name)?;
     text.extend_from_slice(b" has ")?;
-    text.extend_from_slice(Buffer::new().format(count).as_bytes())?;
+    text.extend_from_slice(Buffer::new().format(copy.elements()).as_bytes())?;
     text.extend_from_slice(b" keys\n")?;
     Ok(())
 }

@@ -1,6 +1,6 @@
-//! Calls over files in memory: what each answers, and what it puts on its sinks.
-use crate::call_case::{Case, File};
-use crate::call_text::{push_answer, push_written};
+//! The call of a case, over files in memory.
+use crate::case::{Case, File};
+use crate::text::{push_answer, push_written};
 use opl_outside::{MemoryShelf, MemorySink};
 use opl_tool::run;
 use std::alloc::{AllocError, Global};
@@ -41,7 +41,7 @@ fn push_call(
 }
 
 /// Adds what the call of a case comes to.
-fn push_called(alloc: Global, text: &mut Vec<u8>, case: &Case) -> Result<(), AllocError> {
+pub fn push_called(alloc: Global, text: &mut Vec<u8>, case: &Case) -> Result<(), AllocError> {
     match &case.words {
         Some(words) => push_call(alloc, text, case, words.as_slice()),
         None => {
@@ -49,31 +49,4 @@ fn push_called(alloc: Global, text: &mut Vec<u8>, case: &Case) -> Result<(), All
             push_call(alloc, text, case, words.as_slice())
         }
     }
-}
-
-/// Takes a line of a case, and adds it to the text; before a blank line what the case comes to.
-fn push_line(
-    alloc: Global,
-    text: &mut Vec<u8>,
-    case: &mut Case,
-    line: &str,
-) -> Result<(), AllocError> {
-    if line.is_empty() {
-        push_called(alloc, text, case)?;
-        *case = Case::new(alloc);
-    } else {
-        case.read(alloc, line)?;
-    }
-    text.extend_from_slice(line.as_bytes())?;
-    text.extend_from_slice(b"\n")?;
-    Ok(())
-}
-
-/// Adds the lines of cases, with what each comes to before the blank line that ends it.
-pub fn push_calls(alloc: Global, text: &mut Vec<u8>, lines: &str) -> Result<(), AllocError> {
-    let mut case = Case::new(alloc);
-    for line in lines.split("\n") {
-        push_line(alloc, text, &mut case, line)?;
-    }
-    Ok(())
 }

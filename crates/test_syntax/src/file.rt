@@ -1,13 +1,10 @@
 //! What is told of a file.
-use crate::binding::push_bindings;
-use crate::call::push_calls;
 use crate::cases::{question_of, tell_cases, tell_sameness};
 use crate::reading::{Language, measured};
 use crate::stop::{Stop, tell_stop};
 use crate::word::{say, say_numbered};
 use opl_outside::{Found, OutsideError, Shelf};
 use std::alloc::{AllocError, Global};
-use std::str;
 
 /// Adds how deep a model nests. Behind one that does not read the same once it is spelt anew stands ` otherwise`.
 fn tell_depth(alloc: Global, text: &[u8], out: &mut Vec<u8>) -> Result<(), Stop> {
@@ -24,20 +21,8 @@ fn tell_model(alloc: Global, name: &str, text: &[u8], out: &mut Vec<u8>) -> Resu
     say(out, "\n")
 }
 
-/// The lines of a file of cases; nothing, where it is no text.
-fn lines_of(bytes: &[u8]) -> &str {
-    let lines = bytes.strip_suffix(b"\n").unwrap_or(bytes);
-    str::from_utf8(lines).unwrap_or("")
-}
-
 /// Adds what is told of a file with these bytes.
 fn tell_file(alloc: Global, name: &str, bytes: &[u8], out: &mut Vec<u8>) -> Result<(), AllocError> {
-    if name.ends_with(".bindings") {
-        return push_bindings(alloc, out, lines_of(bytes));
-    }
-    if name.ends_with(".calls") {
-        return push_calls(alloc, out, lines_of(bytes));
-    }
     match question_of(name) {
         Some(question) => tell_cases(alloc, question, bytes, out),
         None => tell_model(alloc, name, bytes, out),

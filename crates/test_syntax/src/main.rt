@@ -1,14 +1,6 @@
-//! The program `test_front FILE..`: tells of texts how they read and whether their trees are spelt as they are, of models with data
-//! what they come to, and of calls what they answer and write.
+//! The program `test_syntax FILE..`: tells of each text how it reads, and whether its tree is spelt as it is.
 #![tactic(auto)]
 
-mod binding;
-mod binding_case;
-mod binding_fault;
-mod binding_text;
-mod call;
-mod call_case;
-mod call_text;
 mod cases;
 mod escape;
 mod file;

@@ -1,7 +1,7 @@
-//! What models with data files and assigned values come to: the texts are scanned, parsed, typed and bound.
-use crate::binding_case::Case;
-use crate::binding_fault::{push_bind_fault, push_scan_fault, push_syntax_fault, push_type_fault};
-use crate::binding_text::push_values;
+//! What a case comes to: its texts are scanned, parsed, typed and bound.
+use crate::case::Case;
+use crate::fault::{push_bind_fault, push_scan_fault, push_syntax_fault, push_type_fault};
+use crate::text::push_values;
 use opl_bind::bind;
 use opl_data::{DataFile, parse_data};
 use opl_eval::Positions;
@@ -118,7 +118,7 @@ fn push_scanned(
 }
 
 /// Adds what a case comes to.
-fn push_outcome(alloc: Global, text: &mut Vec<u8>, case: &Case) -> Result<(), AllocError> {
+pub fn push_outcome(alloc: Global, text: &mut Vec<u8>, case: &Case) -> Result<(), AllocError> {
     if case.model.len() > MOST {
         return Err(AllocError);
     }
@@ -126,31 +126,4 @@ fn push_outcome(alloc: Global, text: &mut Vec<u8>, case: &Case) -> Result<(), Al
         Ok(tokens) => push_scanned(alloc, text, tokens.as_slice(), case),
         Err(fault) => push_scan_fault(text, 0, fault),
     }
-}
-
-/// Takes a line of a case, and adds it to the text; before a blank line what the case comes to.
-fn push_line(
-    alloc: Global,
-    text: &mut Vec<u8>,
-    case: &mut Case,
-    line: &str,
-) -> Result<(), AllocError> {
-    if line.is_empty() {
-        push_outcome(alloc, text, case)?;
-        *case = Case::new(alloc);
-    } else {
-        case.read(alloc, line)?;
-    }
-    text.extend_from_slice(line.as_bytes())?;
-    text.extend_from_slice(b"\n")?;
-    Ok(())
-}
-
-/// Adds the lines of cases, with what each comes to before the blank line that ends it.
-pub fn push_bindings(alloc: Global, text: &mut Vec<u8>, lines: &str) -> Result<(), AllocError> {
-    let mut case = Case::new(alloc);
-    for line in lines.split("\n") {
-        push_line(alloc, text, &mut case, line)?;
-    }
-    Ok(())
 }
