@@ -17,17 +17,22 @@ function plain(text,   parts, pieces, numbers, j) {
 }
 
 # A text in which `~X~S~` is X so many times with S between. In X, `%` is the number of the copy, from 1, and `^` the one before.
-function expand(text, file,   parts, pieces, j, k, copy) {
+# Numbers are put between the pieces of X, since some versions of awk keep each text that `gsub` ever put in.
+function expand(text, file,   parts, pieces, between, before, marks, rest, j, k, m) {
   gsub(/\\n/, "\n", text)
   printf "" > file
   pieces = split(text, parts, "~")
   for (j = 1; j <= pieces; j += 3) {
     printf "%s", plain(parts[j]) > file
+    marks = 0
+    for (rest = plain(parts[j + 1]); match(rest, /[%^]/); rest = substr(rest, RSTART + 1)) {
+      between[++marks] = substr(rest, 1, RSTART - 1)
+      before[marks] = substr(rest, RSTART, 1) == "^"
+    }
     for (k = 1; j < pieces && k <= count; k++) {
-      copy = plain(parts[j + 1])
-      gsub(/%/, k, copy)
-      gsub(/\^/, k - 1, copy)
-      printf "%s%s", (k > 1 ? parts[j + 2] : ""), copy > file
+      if (k > 1) printf "%s", parts[j + 2] > file
+      for (m = 1; m <= marks; m++) printf "%s%d", between[m], k - before[m] > file
+      printf "%s", rest > file
     }
   }
   close(file)
