@@ -1,5 +1,5 @@
 pub mod Closing
-mod Freshness
+pub mod Queues
 pub mod Turns
-mod Values
+pub mod Values
 pub mod Waking

@@ -6,7 +6,7 @@ use Rattle.std.proofs.Math.Nat.{mul-le-mul_right}
 use Rattle.std.proofs.Math.Seq.{map-set_same}
 use Rattle.std.proofs.lemmas.Option.{slice_get-map, slice_get-get_or}
 use Rattle.std.specs.Option.{option_map}
-use Rattle.std.proofs.lemmas.List.{get_or-set_same, get_or-set_other, length-set, get_or_default}
+use Rattle.std.proofs.lemmas.List.{get_or-set_same, get_or-set_other, length-set}
 use Rattle.opl_domain.specs.Family.{Family, set_of, only, Below, Full, IsFamily}
 use Rattle.opl_domain.proofs.Sets.{only_here, only_there, length-only}
 use Rattle.opl_expr.specs.Forms.{Fact}
@@ -15,12 +15,12 @@ use Rattle.opl_trace.specs.Stable.{IsMonotone, IsStable, IsGreatestStable, HasFa
 use Rattle.opl_trace.specs.Sweeps.{size}
 use Rattle.opl_trace.proofs.Families.{only_full}
 use Rattle.opl_filter.specs.Filtering.{refutes, IsLeftOf, IsBetween}
-use Rattle.opl_filter.specs.Mentions.{mentions, lists}
+use Rattle.opl_filter.specs.Mentions.{mentions}
 use Rattle.opl_filter.proofs.Removals.{left_join, left_sets, left_below, lose_none, left_wider}
 use Rattle.opl_filter.proofs.Agreeing.{agreeing_same}
 use Rattle.opl_filter.proofs.Refuting.{refutes_falls}
 use Rattle.opl_closure.specs.Waits.{waits, watches, Wakes, count_waits}
-use Rattle.opl_closure.specs.Members.{refutes_one, Each, AreNamed, AreWatched, WaitOrAreStable}
+use Rattle.opl_closure.specs.Members.{refutes_one, Each, AreWatched, WaitOrAreStable}
 
 the_same : {A : Type 0} (m d : A) → Some m ≡ Some d → m ≡ d
 the_same m d h = cc
@@ -138,27 +138,36 @@ turn_ends F G w u v i s l h e k =
 
 -- ---- a turn
 
-pub wait_next : (watchers : List (List ℕ)) (ms : List Fact) (c : Fact) (w u v : List Bool) (F G : Family) (i : ℕ) → AreWatched watchers ms → Full G → slice_get ms i ≡ Some c → u ≡ set w i false → WaitOrAreStable ms w F → Wakes (watches watchers) u F v G → IsStable (refutes c) G → WaitOrAreStable ms (set v i false) G
-wait_next watchers ms c w u v F G i look full here e fits k s j d h q =
+-- a member whose watched sets stay is stable still
+abbrev pub Settles : List (List ℕ) → List Fact → Type 0
+Settles watchers ms = Each (λ i c. (F G : Family) → IsStable (refutes c) F → Full G → Below G F → ((x : ℕ) → watches watchers i x ≡ true → set_of G x ≡ set_of F x) → IsStable (refutes c) G) ms
+
+inside : {A : Type 0} (xs : List A) (i : ℕ) (a : A) → slice_get xs i ≡ Some a → i < length xs
+inside [] i a h = cc
+inside (x ∷ xs) zero a h = omega arith
+inside (x ∷ xs) (suc i) a h = let r = inside xs i a h in omega (arith, r)
+
+pub wait_next : (watchers : List (List ℕ)) (ms : List Fact) (c : Fact) (w u v : List Bool) (F G : Family) (i : ℕ) → length w ≡ length ms → Settles watchers ms → Full G → slice_get ms i ≡ Some c → u ≡ set w i false → WaitOrAreStable ms w F → Wakes (watches watchers) u F v G → IsStable (refutes c) G → WaitOrAreStable ms (set v i false) G
+wait_next watchers ms c w u v F G i many look full here e fits k s j d h q =
     elim (cases_eq j i) [
       | inl a ↦ let b : Some c ≡ Some d = sym here ∙ ap (slice_get ms) (sym a) ∙ h in subst (λ f. IsStable (refutes f) G) (the_same c d b) s
       | inr n ↦
           let p : waits v j ≡ false = sym (get_or-set_other v i j false false n) ∙ q in
-          let r = k.woken j p in
+          let r = k.woken j (omega (arith, inside ms j d h, many, ap length e, length-set w i false)) p in
           let o : waits w j ≡ false = sym (get_or-set_other w i j false false n) ∙ sym (ap (λ z. waits z j) e) ∙ r.0 in
-          stable_moves d F G (fits j d h o) full k.below (λ x m. r.1 x (look j d h x m))
+          look j d h F G (fits j d h o) full k.below r.1
     ]
 
 -- a member that fails waits again
-pub wait_failed : (watchers : List (List ℕ)) (ms : List Fact) (w u v : List Bool) (F G : Family) (i : ℕ) → AreWatched watchers ms → Full G → i < length v → u ≡ set w i false → WaitOrAreStable ms w F → Wakes (watches watchers) u F v G → WaitOrAreStable ms (set v i true) G
-wait_failed watchers ms w u v F G i look full l e fits k j d h q =
+pub wait_failed : (watchers : List (List ℕ)) (ms : List Fact) (w u v : List Bool) (F G : Family) (i : ℕ) → length w ≡ length ms → Settles watchers ms → Full G → i < length v → u ≡ set w i false → WaitOrAreStable ms w F → Wakes (watches watchers) u F v G → WaitOrAreStable ms (set v i true) G
+wait_failed watchers ms w u v F G i many look full l e fits k j d h q =
     elim (cases_eq j i) [
       | inl a ↦ absurd (let p : waits (set v i true) i ≡ true = get_or-set_same v i true false l in let r = subst (λ z. waits (set v i true) z ≡ false) a q in cc)
       | inr n ↦
           let p : waits v j ≡ false = sym (get_or-set_other v i j true false n) ∙ q in
-          let r = k.woken j p in
+          let r = k.woken j (omega (arith, inside ms j d h, many, ap length e, length-set w i false)) p in
           let o : waits w j ≡ false = sym (get_or-set_other w i j false false n) ∙ sym (ap (λ z. waits z j) e) ∙ r.0 in
-          stable_moves d F G (fits j d h o) full k.below (λ x m. r.1 x (look j d h x m))
+          look j d h F G (fits j d h o) full k.below r.1
     ]
 
 pub left_next : (ms : List Fact) (c : Fact) (D F G : Family) (i : ℕ) → slice_get ms i ≡ Some c → IsLeftOf (refutes_one ms) D F → IsBetween (refutes c) F G → IsLeftOf (refutes_one ms) D G
@@ -183,6 +192,10 @@ here_is f xs ys i d e l = sym (ap (λ zs. slice_get zs i) e) ∙ slice_get-map f
 pub same_after : {A B : Type 0} (f : A → B) (xs : List A) (i : ℕ) (d y : A) → f y ≡ f (get_or xs i d) → map f (set xs i y) ≡ map f xs
 same_after f xs i d y h = map-set_same f xs i y d h
 
+-- functions that agree are one
+pub same_test : {A B : Type 0} (f g : A → B) → ((a : A) → f a ≡ g a) → f ≡ g
+same_test f g h = λ i a. h a i
+
 -- one of a list is replaced
 pub each_set : {A : Type 0} (good : ℕ → A → Type 0) (xs : List A) (i : ℕ) (y : A) → good i y → ((j : ℕ) (a : A) → j ≢ i → slice_get xs j ≡ Some a → good j a) → Each good (set xs i y)
 each_set good [] i y h k j a e = cc
@@ -194,5 +207,21 @@ each_set good (x ∷ xs) (suc i) y h k (suc j) a e = each_set (λ j. good (suc j
 pub each_at : {A : Type 0} (good : ℕ → A → Type 0) (xs : List A) (i : ℕ) (d : A) → Each good xs → i < length xs → good i (get_or xs i d)
 each_at good xs i d h l = h i (get_or xs i d) (slice_get-get_or xs i d l)
 
-pub named_at : (variables : List (List ℕ)) (ms : List Fact) (i : ℕ) (c : Fact) (js : List ℕ) → AreNamed variables ms → slice_get ms i ≡ Some c → i < length variables → js ≡ get_or variables i js → (x : ℕ) → mentions c x ≡ true → lists js x ≡ true
-named_at variables ms i c js n h l e x m = ap (λ ks. lists ks x) (e ∙ get_or_default variables i js [] l) ∙ n i c h x m
+-- ---- members as they were made
+
+pub from_map : {A B : Type 0} (f : A → B) (xs : List A) (i : ℕ) (b : B) → slice_get (map f xs) i ≡ Some b → (a : A) × (slice_get xs i ≡ Some a) × (b ≡ f a)
+from_map f [] i b h = cc
+from_map f (x ∷ xs) zero b h = (x, refl, sym (the_same (f x) b h))
+from_map f (x ∷ xs) (suc i) b h = from_map f xs i b h
+
+pub to_map : {A B : Type 0} (f : A → B) (xs : List A) (i : ℕ) (a : A) → slice_get xs i ≡ Some a → slice_get (map f xs) i ≡ Some (f a)
+to_map f xs i a h = slice_get-map f xs i ∙ ap (option_map f) h
+
+-- what the law of each member tells of its constraint and those who wake it
+pub settled : {A : Type 0} (watchers : List (List ℕ)) (xs : List A) (constraint : A → Fact) (woken_by : A → ℕ → Bool) (made : A → Type 0) →
+    ((a : A) (F G : Family) → made a → IsStable (refutes (constraint a)) F → Full G → Below G F → ((x : ℕ) → woken_by a x ≡ true → set_of G x ≡ set_of F x) → IsStable (refutes (constraint a)) G) →
+    Each (λ i a. made a) xs → AreWatched watchers (map woken_by xs) → Settles watchers (map constraint xs)
+settled watchers xs constraint woken_by made law m w i c h F G s g b same =
+    let r = from_map constraint xs i c h in
+    subst (λ d. IsStable (refutes d) G) (sym r.2)
+    (law r.0 F G (m i r.0 r.1) (subst (λ d. IsStable (refutes d) F) r.2 s) g b (λ x k. same x (w i (woken_by r.0) (to_map woken_by xs i r.0 r.1) x k)))

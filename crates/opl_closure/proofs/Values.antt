@@ -1,8 +1,8 @@
 -- What narrowing leaves where one variable is to have one value.
-use Rattle.std.proofs.Common.{◌≡◌, ◌≢◌, ◌∙◌, ℕ, zero, suc, ◌<◌, ◌⊎◌, Bool, true, false, ◌||◌, cond, refl, List, [], ◌∷◌, length, replicate, ℤ, pos, ◌+ℤ◌, ◌≤ℤ◌, ◌<ℤ◌, int_eq, ap, sym, subst, arith, inl, inr}
+use Rattle.std.proofs.Common.{◌≡◌, ◌≢◌, ◌∙◌, ℕ, zero, suc, ◌<◌, ◌≤◌, ◌⊎◌, Bool, true, false, ◌||◌, cond, refl, List, [], ◌∷◌, length, replicate, ℤ, pos, ◌+ℤ◌, ◌≤ℤ◌, ◌<ℤ◌, int_eq, ap, sym, subst, arith, inl, inr}
 use Rattle.std.specs.Prelude.{Some, not, int_lt, nat_eq}
 use Rattle.std.proofs.lemmas.Int.{ints}
-use Rattle.std.proofs.lemmas.Bool.{cases_eq}
+use Rattle.std.proofs.lemmas.Bool.{cases_eq, cases_lt}
 use Rattle.std.proofs.lemmas.Bool.Decides.{nat_tests}
 use Rattle.opl_domain.specs.Family.{Family, IsFamily, member, is_outside, set_of, has, only, cut_of, Below, Full, IsLeast, IsGreatest}
 use Rattle.opl_domain.specs.Span.{point}
@@ -21,6 +21,7 @@ use Rattle.opl_filter.proofs.Refuting.{refutes_falls}
 use Rattle.opl_filter.proofs.Removals.{left_self, left_join, left_sets, left_below, lose_none}
 use Rattle.opl_filter.proofs.Runs.{runs_can_go}
 use Rattle.opl_closure.specs.Values.{Keeps}
+use Rattle.opl_closure.proofs.Turns.{stable_moves}
 
 -- ---- where x has one value
 
@@ -188,3 +189,27 @@ none_below F x v lo m a e = record { removals = left_self (refutes (is_value x v
 
 pub none_above : (F : Family) (x : ℕ) (v hi : ℤ) → has F x v ≡ true → IsGreatest (set_of F x) hi → hi ≤ℤ v → Keeps x v (λ w. w ≤ℤ v) F F
 none_above F x v hi m a e = record { removals = left_self (refutes (is_value x v)) F; value = m; others = λ w h. let k = a.most w h in omega (arith, ints, k, e) }
+
+-- ---- a variable that has its value alone keeps it
+
+value_is_one : (F : Family) (x : ℕ) (v w : ℤ) → x < length F → IsStable (refutes (is_value x v)) F → has F x w ≡ true → w ≡ v
+value_is_one F x v w l s h = elim (int_eq w v) as (λ b. int_eq w v ≡ b → w ≡ v) [
+  | true ↦ λ e. grind (arith, ints)
+  | false ↦ λ e. absurd (let d = dead_other F x v w s.full l (λ q. let r = ap (λ u. int_eq u v) q in let t : int_eq v v ≡ true = grind (arith, ints) in cc) in let a = s.each x w l h in cc)
+] refl
+
+not_there : (F : Family) (x : ℕ) → length F ≤ x → set_of F x ≡ []
+unfolding set_of
+not_there [] x l = refl
+not_there (vs ∷ F) zero l = absurd (omega arith)
+not_there (vs ∷ F) (suc x) l = not_there F x (omega arith)
+
+pub value_rests : (x : ℕ) (v : ℤ) (F G : Family) → IsStable (refutes (is_value x v)) F → Full G → Below G F → IsStable (refutes (is_value x v)) G
+value_rests x v F G s g b = elim (cases_lt x (length F)) [
+  | inl l ↦
+      let k : x < length G = omega (arith, l, b.same) in
+      let r = g x k in
+      let one : (w : ℤ) → has G x w ≡ true → w ≡ v = λ w h. value_is_one F x v w l s (b.sub x w h) in
+      single_stable G x v g k (subst (λ w. has G x w ≡ true) (one r.0 r.1) r.1) one
+  | inr l ↦ stable_moves (is_value x v) F G s g b (λ y h. let e : y ≡ x = same_number x y h in subst (λ z. set_of G z ≡ set_of F z) (sym e) (not_there G x (omega (arith, l, b.same)) ∙ sym (not_there F x l)))
+]

@@ -1,11 +1,12 @@
 -- Who is woken.
-use Rattle.std.proofs.Common.{◌≡◌, ◌∙◌, ℕ, zero, suc, ◌+◌, ◌<◌, ◌≤◌, ◌⊎◌, Bool, true, false, ◌||◌, cond, refl, List, [], ◌∷◌, ◌++◌, length, get_or, set, take, ℤ, ◌≤ℤ◌, ◌<ℤ◌, ap, sym, subst, arith, inl, inr}
-use Rattle.std.specs.Prelude.{nat_eq, int_lt, int_le}
+use Rattle.std.proofs.Common.{append-nil, add-one, map, replicate, ◌≡◌, ◌∙◌, ℕ, zero, suc, ◌+◌, ◌<◌, ◌≤◌, ◌⊎◌, Bool, true, false, ◌||◌, cond, refl, List, [], ◌∷◌, ◌++◌, length, get_or, set, take, ℤ, ◌≤ℤ◌, ◌<ℤ◌, ap, sym, subst, arith, inl, inr}
+use Rattle.std.specs.Prelude.{◌-◌, nat_eq, int_lt, int_le, slice_get, Option, Some, None}
+use Rattle.std.specs.Option.{option_to_list}
 use Rattle.std.specs.List.{filter}
 use Rattle.std.proofs.lemmas.Int.{ints}
-use Rattle.std.proofs.lemmas.Bool.{cases_eq}
+use Rattle.std.proofs.lemmas.Bool.{cases_eq, cases_lt}
 use Rattle.std.proofs.lemmas.Bool.Decides.{nat_tests}
-use Rattle.std.proofs.lemmas.List.{get_or-set_same, get_or-set_other, take_more}
+use Rattle.std.proofs.lemmas.List.{get_or-set_same, get_or-set_other, length-append, length-map, map-set, take_more}
 use Rattle.opl_domain.specs.Family.{Family, member, is_outside, outside, set_of, cut_of, IsLeastAbove}
 use Rattle.opl_domain.proofs.Members.{member_cases, member_first, member_later}
 use Rattle.opl_domain.proofs.Sets.{cut_here, cut_there}
@@ -39,10 +40,15 @@ wake_one w i j l = elim (cases_eq i j) [
   | inr n ↦ get_or-set_other w j i true false n ∙ sym (or_false (waits w i) (nat_eq i j) (grind (arith, nat_tests)))
 ]
 
-pub wake_more : (old now new : List Bool) (js : List ℕ) (k i : ℕ) → k < length js → waits now i ≡ (waits old i || lists (take k js) i) → get_or js k 0 < length now → new ≡ set now (get_or js k 0) true → waits new i ≡ (waits old i || lists (take (k + 1) js) i)
-wake_more old now new js k i l h b e =
-    ap (λ w. waits w i) e ∙ wake_one now i (get_or js k 0) b ∙ ap (λ c. c || nat_eq i (get_or js k 0)) h ∙ or_or (waits old i) (lists (take k js) i) (nat_eq i (get_or js k 0))
+-- one more of the list is woken, and so each before it
+pub wake_more : (old now new : List Bool) (js : List ℕ) (k i : ℕ) → k < length js → waits now i ≡ (waits old i || lists (take k js) i) → waits new i ≡ (waits now i || nat_eq i (get_or js k 0)) → waits new i ≡ (waits old i || lists (take (k + 1) js) i)
+wake_more old now new js k i l h e =
+    e ∙ ap (λ c. c || nat_eq i (get_or js k 0)) h ∙ or_or (waits old i) (lists (take k js) i) (nat_eq i (get_or js k 0))
     ∙ ap (λ c. waits old i || c) (sym (listed_push (take k js) (get_or js k 0) i) ∙ ap (λ ks. lists ks i) (sym (take_more js k 0 l)))
+
+-- a number that is none of the members wakes nobody
+pub wake_nobody : (w : List Bool) (i j : ℕ) → i < length w → length w ≤ j → waits w i ≡ (waits w i || nat_eq i j)
+wake_nobody w i j l m = sym (or_false (waits w i) (nat_eq i j) (grind (arith, nat_tests)))
 
 or_parts : (a b : Bool) → (a || b) ≡ false → (a ≡ false) × (b ≡ false)
 or_parts true b h = cc
@@ -125,7 +131,7 @@ all_pass p [] h = refl
 all_pass p (v ∷ vs) h = rw (h v (member_first v vs), all_pass p vs (λ u m. h u (member_later u v vs m))) refl
 
 -- a set loses a value, and who watches it is woken
-pub wakes_cut : (watchers : List (List ℕ)) (old new : List Bool) (F : Family) (x : ℕ) (lo hi : ℤ) → x < length F → Between (set_of F x) lo hi true → length new ≡ length old → ((i : ℕ) → waits new i ≡ (waits old i || watches watchers i x)) → Wakes (watches watchers) old F new (cut_of F x lo hi)
+pub wakes_cut : (watchers : List (List ℕ)) (old new : List Bool) (F : Family) (x : ℕ) (lo hi : ℤ) → x < length F → Between (set_of F x) lo hi true → length new ≡ length old → ((i : ℕ) → i < length old → waits new i ≡ (waits old i || watches watchers i x)) → Wakes (watches watchers) old F new (cut_of F x lo hi)
 unfolding cut_of
 wakes_cut watchers old new F x lo hi l b s w =
     let k = size_set F x (outside lo hi (set_of F x)) l in
@@ -134,8 +140,8 @@ wakes_cut watchers old new F x lo hi l b s w =
       same = s;
       below = cut_below F x lo hi;
       smaller = omega (arith, k, m);
-      woken = λ i h. let e : (waits old i || watches watchers i x) ≡ false = sym (w i) ∙ h in let p = or_parts (waits old i) (watches watchers i x) e in
-          (p.0, λ y q. elim (cases_eq y x) [ inl j ↦ absurd (let r = subst (λ z. watches watchers i z ≡ true) j q in cc) | inr n ↦ cut_there F x y lo hi n ]);
+      woken = λ i n h. let e : (waits old i || watches watchers i x) ≡ false = sym (w i n) ∙ h in let p = or_parts (waits old i) (watches watchers i x) e in
+          (p.0, λ y q. elim (cases_eq y x) [ inl j ↦ absurd (let r = subst (λ z. watches watchers i z ≡ true) j q in cc) | inr d ↦ cut_there F x y lo hi d ]);
       ends = inl (omega (arith, k, m));
     }
 
@@ -150,6 +156,98 @@ wakes_none watchers w F x lo hi l b =
       same = refl;
       below = cut_below F x lo hi;
       smaller = omega (arith, k, n);
-      woken = λ i h. (h, λ y q. elim (cases_eq y x) [ inl j ↦ subst (λ z. set_of (cut_of F x lo hi) z ≡ set_of F z) (sym j) (cut_here F x lo hi l ∙ e) | inr n ↦ cut_there F x y lo hi n ]);
+      woken = λ i m h. (h, λ y q. elim (cases_eq y x) [ inl j ↦ subst (λ z. set_of (cut_of F x lo hi) z ≡ set_of F z) (sym j) (cut_here F x lo hi l ∙ e) | inr n ↦ cut_there F x y lo hi n ]);
       ends = inr refl;
     }
+
+-- ---- lists that grow and shrink at their ends
+
+last_at : (js : List ℕ) (v : ℕ) → slice_get (js ++ v ∷ []) (length js) ≡ Some v
+last_at [] v = refl
+last_at (j ∷ js) v = last_at js v
+
+last_is : (js : List ℕ) (v last n : ℕ) → n ≡ length js → Some last ≡ slice_get (js ++ v ∷ []) n → last ≡ v
+last_is js v last n e h = let k : Some last ≡ Some v = h ∙ ap (slice_get (js ++ v ∷ [])) e ∙ last_at js v in cc
+
+first_of_two : (a b : Bool) → (a || b) ≡ true → b ≡ false → a ≡ true
+first_of_two true b h k = refl
+first_of_two false b h k = absurd (let e = sym k ∙ h in cc)
+
+-- one who doesn't come before i has gone from the end
+pub popped : (old new : List ℕ) (r : Option ℕ) (last i j : ℕ) → old ≡ new ++ option_to_list r → Some last ≡ slice_get old (length old - 1) → i ≤ last → j < i → lists old j ≡ true → lists new j ≡ true
+popped old new None last i j e a b l h = subst (λ js. lists js j ≡ true) (e ∙ append-nil new) h
+popped old new (Some v) last i j e a b l h =
+    let n : length old - 1 ≡ length new = omega (arith, ap length e, length-append new (v ∷ [])) in
+    let k : last ≡ v = last_is new v last (length old - 1) n (a ∙ ap (λ js. slice_get js (length old - 1)) e) in
+    first_of_two (lists new j) (nat_eq j v) (sym (listed_push new v j) ∙ sym (ap (λ js. lists js j) e) ∙ h) (grind (arith, nat_tests))
+
+pub put_last : (js : List ℕ) (i : ℕ) → lists (js ++ i ∷ []) i ≡ true
+put_last js i = listed_push js i i ∙ or_true (lists js i) (nat_eq i i) (grind (arith, nat_tests))
+
+pub put_before : (js : List ℕ) (i j : ℕ) → lists js j ≡ true → lists (js ++ i ∷ []) j ≡ true
+put_before js i j h = listed_push js i j ∙ ap (λ b. b || nat_eq j i) h
+
+pub map_push : {A B : Type 0} (f : A → B) (xs : List A) (x : A) (ys : List B) (y : B) → map f xs ≡ ys → f x ≡ y → map f (xs ++ x ∷ []) ≡ ys ++ y ∷ []
+map_push f [] x ys y e h = ap (λ z. z ∷ []) h ∙ ap (λ zs. zs ++ y ∷ []) e
+map_push f (w ∷ xs) x ys y e h = ap (λ zs. f w ∷ zs) (map_push f xs x (map f xs) y refl h) ∙ ap (λ zs. zs ++ y ∷ []) e
+
+pub replicate_push : {A : Type 0} (n : ℕ) (y : A) → replicate n y ++ y ∷ [] ≡ replicate (n + 1) y
+replicate_push n y = grown n ∙ ap (λ m. replicate m y) (sym (add-one n))
+  where
+    grown : (n : ℕ) → replicate n y ++ y ∷ [] ≡ replicate (suc n) y
+    grown zero = refl
+    grown (suc n) = ap (λ zs. y ∷ zs) (grown n)
+
+-- one list is another now: who comes before i is still listed
+pub lists_kept : (ls : List (List ℕ)) (js : List ℕ) (x i j y : ℕ) → ((k : ℕ) → k < i → lists (get_or ls x []) k ≡ true → lists js k ≡ true) → j < i → watches ls j y ≡ true → watches (set ls x js) j y ≡ true
+lists_kept ls js x i j y k l h = elim (cases_eq y x) [
+  | inl e ↦ elim (cases_lt x (length ls)) [
+    | inl b ↦ subst (λ z. lists (get_or (set ls x js) z []) j ≡ true) (sym e) (subst (λ zs. lists zs j ≡ true) (sym (get_or-set_same ls x js [] b)) (k j l (subst (λ z. lists (get_or ls z []) j ≡ true) e h)))
+    | inr b ↦ subst (λ zs. lists (get_or zs y []) j ≡ true) (sym (set_past ls x js b)) h
+  ]
+  | inr n ↦ subst (λ zs. lists zs j ≡ true) (sym (get_or-set_other ls x y js [] n)) h
+]
+  where
+    set_past : (ls : List (List ℕ)) (x : ℕ) (js : List ℕ) → length ls ≤ x → set ls x js ≡ ls
+    set_past [] x js b = refl
+    set_past (l ∷ ls) zero js b = absurd (omega arith)
+    set_past (l ∷ ls) (suc x) js b = ap (λ zs. l ∷ zs) (set_past ls x js (omega arith))
+
+-- and i itself is where it was put
+pub lists_put : (ls : List (List ℕ)) (js : List ℕ) (x i y : ℕ) → x < length ls → lists js i ≡ true → (watches ls i y ≡ true → watches (set ls x js) i y ≡ true) × (watches (set ls x js) i x ≡ true)
+lists_put ls js x i y b h =
+    let here : watches (set ls x js) i x ≡ true = subst (λ zs. lists zs i ≡ true) (sym (get_or-set_same ls x js [] b)) h in (
+      λ k. elim (cases_eq y x) [
+        | inl e ↦ subst (λ z. watches (set ls x js) i z ≡ true) (sym e) here
+        | inr n ↦ subst (λ zs. lists zs i ≡ true) (sym (get_or-set_other ls x y js [] n)) k
+      ],
+      here,
+    )
+
+get_map : {V : Type 0} (vs : List V) (f : V → List ℕ) (d : V) (x : ℕ) → x < length vs → get_or (map f vs) x [] ≡ f (get_or vs x d)
+get_map [] f d x b = absurd (omega arith)
+get_map (v ∷ vs) f d zero b = refl
+get_map (v ∷ vs) f d (suc x) b = get_map vs f d x (omega arith)
+
+-- the same of lists that are parts of something
+pub vec_kept : {V : Type 0} (vs : List V) (f : V → List ℕ) (d v : V) (x i j y : ℕ) → x < length vs → ((k : ℕ) → k < i → lists (f (get_or vs x d)) k ≡ true → lists (f v) k ≡ true) → j < i → watches (map f vs) j y ≡ true → watches (map f (set vs x v)) j y ≡ true
+vec_kept vs f d v x i j y b g l h =
+    subst (λ ls. watches ls j y ≡ true) (sym (map-set f vs x v))
+    (lists_kept (map f vs) (f v) x i j y (λ k m q. g k m (subst (λ js. lists js k ≡ true) (get_map vs f d x b) q)) l h)
+
+pub vec_put : {V : Type 0} (vs : List V) (f : V → List ℕ) (v : V) (x i y : ℕ) → x < length vs → lists (f v) i ≡ true → (watches (map f vs) i y ≡ true → watches (map f (set vs x v)) i y ≡ true) × (watches (map f (set vs x v)) i x ≡ true)
+vec_put vs f v x i y b h =
+    let p = lists_put (map f vs) (f v) x i y (omega (arith, b, length-map vs f)) h in (
+      λ k. subst (λ ls. watches ls i y ≡ true) (sym (map-set f vs x v)) (p.0 k),
+      subst (λ ls. watches ls i x ≡ true) (sym (map-set f vs x v)) p.1,
+    )
+
+pub listed_more : (js : List ℕ) (k i : ℕ) → k < length js → lists (take (k + 1) js) i ≡ true → (lists (take k js) i ≡ true) ⊎ (i ≡ get_or js k 0)
+listed_more js k i l h = elim (or_some (lists (take k js) i) (nat_eq i (get_or js k 0)) (sym (listed_push (take k js) (get_or js k 0) i) ∙ ap (λ ks. lists ks i) (sym (take_more js k 0 l)) ∙ h)) [
+  | inl e ↦ inl e
+  | inr e ↦ inr (grind (arith, nat_tests))
+]
+  where
+    or_some : (a b : Bool) → (a || b) ≡ true → (a ≡ true) ⊎ (b ≡ true)
+    or_some true b h = inl refl
+    or_some false b h = inr h

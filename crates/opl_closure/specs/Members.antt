@@ -1,17 +1,14 @@
 -- Lists of constraints, the members, and which of them wait.
-use Rattle.std.specs.Prelude.{◌≡◌, ℕ, Bool, true, false, List, [], length, slice_get, slice_index_or, Some, None}
+use Rattle.std.specs.Prelude.{◌≡◌, ℕ, Bool, true, false, List, [], length, slice_get, Some, None}
 use Rattle.std.specs.List.{list_any}
 use Rattle.opl_domain.specs.Family.{Family, Full}
-use Rattle.opl_expr.specs.declared.model.Core.{Core}
 use Rattle.opl_expr.specs.Forms.{Fact}
-use Rattle.opl_expr.specs.Sound.{IsSoundFact}
 use Rattle.opl_expr.specs.Range.{is_refuted}
 use Rattle.opl_trace.specs.Stable.{IsStable}
 use Rattle.opl_trace.specs.Closure.{closure}
 use Rattle.opl_filter.specs.declared.outcome.Outcome.{Outcome}
 use Rattle.opl_filter.specs.declared.outcome.Outcome.TheVariants as outcome
 use Rattle.opl_filter.specs.Filtering.{refutes}
-use Rattle.opl_filter.specs.Mentions.{mentions, lists}
 use Rattle.opl_closure.specs.Waits.{waits, watches}
 
 -- the family refutes one of the constraints
@@ -22,17 +19,9 @@ refutes_one members F = list_any (is_refuted F) members
 abbrev pub Each : {A : Type 0} → (ℕ → A → Type 0) → List A → Type 0
 Each {A} good xs = (i : ℕ) (a : A) → slice_get xs i ≡ Some a → good i a
 
--- each constraint is sound
-abbrev pub AreSoundIn : Core → List Fact → Type 0
-AreSoundIn core members = Each (λ i c. IsSoundFact core.sets c) members
-
--- the variables that member i mentions are among those that are listed for it
-abbrev pub AreNamed : List (List ℕ) → List Fact → Type 0
-AreNamed variables members = Each (λ i c. (x : ℕ) → mentions c x ≡ true → lists (slice_index_or variables i []) x ≡ true) members
-
--- each member watches the variables that it mentions
-abbrev pub AreWatched : List (List ℕ) → List Fact → Type 0
-AreWatched watchers members = Each (λ i c. (x : ℕ) → mentions c x ≡ true → watches watchers i x ≡ true) members
+-- each member watches the variables that wake it
+abbrev pub AreWatched : List (List ℕ) → List (ℕ → Bool) → Type 0
+AreWatched watchers members = Each (λ i woken_by. (x : ℕ) → woken_by x ≡ true → watches watchers i x ≡ true) members
 
 -- each member waits, or the family is stable for it
 abbrev pub WaitOrAreStable : List Fact → List Bool → Family → Type 0

@@ -18,10 +18,6 @@ Takes old new (Some i) = (i < length old) × (waits old i ≡ true) × (new ≡ 
 abbrev pub watches : List (List ℕ) → ℕ → ℕ → Bool
 watches watchers i x = lists (slice_index_or watchers x []) i
 
--- each that is listed is one of m members
-abbrev pub AreMembers : List (List ℕ) → ℕ → Type 0
-AreMembers watchers m = (i x : ℕ) → watches watchers i x ≡ true → i < m
-
 -- some number of the list lies between lo and hi, or none does
 abbrev pub Between : List ℤ → ℤ → ℤ → Bool → Type 0
 Between vs lo hi true = (v : ℤ) × (member v vs ≡ true) × (is_outside lo hi v ≡ false)
@@ -31,7 +27,7 @@ Between vs lo hi false = (v : ℤ) → member v vs ≡ true → is_outside lo hi
 pub record Wakes (watches : ℕ → ℕ → Bool) (old : List Bool) (F : Family) (new : List Bool) (G : Family) : Type 0 where
   pub same : length new ≡ length old
   pub below : Below G F
-  pub woken : (i : ℕ) → waits new i ≡ false → (waits old i ≡ false) × ((x : ℕ) → watches i x ≡ true → set_of G x ≡ set_of F x)
+  pub woken : (i : ℕ) → i < length old → waits new i ≡ false → (waits old i ≡ false) × ((x : ℕ) → watches i x ≡ true → set_of G x ≡ set_of F x)
   pub smaller : size G ≤ size F
   pub ends : (size G < size F) ⊎ (new ≡ old)
 
@@ -39,14 +35,14 @@ pub below_self : (F : Family) → Below F F
 below_self F = record { sub = λ x v h. h; same = refl }
 
 pub wakes_self : (watches : ℕ → ℕ → Bool) (w : List Bool) (F : Family) → Wakes watches w F w F
-wakes_self watches w F = record { same = refl; below = below_self F; woken = λ i h. (h, λ x k. refl); ends = inr refl; smaller = omega arith }
+wakes_self watches w F = record { same = refl; below = below_self F; woken = λ i n h. (h, λ x k. refl); ends = inr refl; smaller = omega arith }
 
 pub wakes_join : (ls ks : List (List ℕ)) → ks ≡ ls → (u : List Bool) (F : Family) (v : List Bool) (G : Family) (w : List Bool) (H : Family) → Wakes (watches ls) u F v G → Wakes (watches ks) v G w H → Wakes (watches ls) u F w H
 wakes_join ls ks e u F v G w H a b = record {
   same = b.same ∙ a.same;
   below = record { sub = λ x z h. a.below.sub x z (b.below.sub x z h); same = b.below.same ∙ a.below.same };
   smaller = omega (arith, a.smaller, b.smaller);
-  woken = λ i h. let k = b.woken i h in let l = a.woken i k.0 in (l.0, λ x m. k.1 x (subst (λ cs. watches cs i x ≡ true) (sym e) m) ∙ l.1 x m);
+  woken = λ i n h. let k = b.woken i (omega (arith, n, a.same)) h in let l = a.woken i n k.0 in (l.0, λ x m. k.1 x (subst (λ cs. watches cs i x ≡ true) (sym e) m) ∙ l.1 x m);
   ends = elim a.ends [
     | inl l ↦ inl (omega (arith, l, b.smaller))
     | inr l ↦ elim b.ends [ inl m ↦ inl (omega (arith, m, a.smaller)) | inr m ↦ inr (m ∙ l) ]

@@ -3,11 +3,16 @@
 
 pub mod laws;
 mod propagation;
+mod propagator;
+mod queue;
 mod value;
 mod waiting;
 mod watched;
+mod watchers;
 
 pub use propagation::propagate;
+pub use propagator::Propagator;
 pub use value::keep_value;
 pub use waiting::Waiting;
 pub use watched::Watched;
+pub use watchers::Watchers;

@@ -1,30 +1,24 @@
 //! A store that wakes members as sets lose values.
-ghost use Rattle.std.specs.Prelude.{◌≡◌, ◌||◌, ℕ, ◌<◌, true, length};
+ghost use Rattle.std.specs.Prelude.{◌≡◌, ◌<◌, length};
 ghost use Rattle.std.proofs.Common.{refl, ◌∙◌};
 ghost use Rattle.opl_domain.specs.Family.{Family, has, set_of, cut_of};
-ghost use Rattle.opl_closure.specs.Waits.{waits, Wakes, AreMembers, watches, wakes_self, wakes_join, Between};
+ghost use Rattle.opl_closure.specs.Waits.{Wakes, watches, wakes_self, wakes_join, Between};
 
 use crate::waiting::Waiting;
+use crate::watchers::Watchers;
 use opl_domain::{Narrow, View};
-use opl_list::Seq;
 
-/// A store, and those who wait. `watchers` lists for each variable the members that are woken by it.
+/// A store, and those who wait: each cut wakes the members that watch its variable.
 #[derive(Drop)]
 pub struct Watched<'a, N> {
     inner: &'a mut N,
     waiting: &'a mut Waiting,
-    watchers: &'a [Seq<u32>],
-    ghost listed: { AreMembers watchers.now (length waiting.now) },
+    watchers: &'a Watchers,
 }
 
 impl<'a, N: Narrow> Watched<'a, N> {
     /// The store `inner`, which wakes those who wait.
-    pub fn new(
-        inner: &'a mut N,
-        waiting: &'a mut Waiting,
-        watchers: &'a [Seq<u32>],
-    ) -> Watched<'a, N>
-        requires { AreMembers watchers.now (length waiting.old) }
+    pub fn new(inner: &'a mut N, waiting: &'a mut Waiting, watchers: &'a Watchers) -> Watched<'a, N>
         ensures inner { (result.inner.ghost_name ≡ inner.entry.ghost_name) × (result.inner.now ≡ inner.old) }
         ensures waiting { (result.waiting.ghost_name ≡ waiting.entry.ghost_name) × (result.waiting.now ≡ waiting.old) }
         ensures watchers { result.watchers.now ≡ watchers.now }
@@ -77,19 +71,8 @@ impl<'a, N: Narrow> Narrow for Watched<'a, N> {
             self.inner.cut(x, lo, hi);
             return;
         }
-        wake_by(&mut *self.waiting, self.watchers, x);
+        self.watchers.wake(x, &mut *self.waiting);
         self.inner.cut(x, lo, hi);
-    }
-}
-
-/// Lets all members wait that watch `x`.
-fn wake_by(waiting: &mut Waiting, watchers: &[Seq<u32>], x: u32)
-    requires { AreMembers watchers.now (length waiting.old) }
-    ensures long { length waiting.new ≡ length waiting.old }
-    ensures woken { (i : ℕ) → waits waiting.new i ≡ (waits waiting.old i || watches watchers.now i x) }
-{
-    if let Some(members) = watchers.get(x as usize) {
-        waiting.wake_all(members.as_slice());
     }
 }
 

@@ -2,7 +2,7 @@ pub mod Removals
 pub mod Runs
 pub mod Unmentioned
 mod Adding
-mod Mentioned
+pub mod Mentioned
 mod Trying
 mod Outcomes
 pub mod Refuting

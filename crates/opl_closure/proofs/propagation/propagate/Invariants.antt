@@ -7,13 +7,15 @@ use Rattle.opl_closure.proofs.propagation.propagate.Given as goal
 
 abbrev pub invariant-loop-i : goal.invariant-loop-i
 invariant-loop-i g l = record {
-  left : IsLeftOf (refutes_one (map (λ f. g.F.Filter.constraint f l.fn.core) l.fn.filters)) (g.N.View.family l.fn.n) (g.N.View.family l.n);
-  same : map (λ f. g.F.Filter.constraint f l.fn.core) l.filters ≡ map (λ f. g.F.Filter.constraint f l.fn.core) l.fn.filters;
-  made : Each (λ i f. g.F.Filter.is_made_with f l.fn.core) l.filters;
-  fresh : Each (λ i f. WasFresh (g.F.Filter.fresh f) (length (g.N.View.family l.n))) l.filters;
+  left : IsLeftOf (refutes_one (map (λ f. g.F.Propagator.constraint f l.fn.core) l.fn.filters)) (g.N.View.family l.fn.n) (g.N.View.family l.n);
+  same : map (λ f. g.F.Propagator.constraint f l.fn.core) l.filters ≡ map (λ f. g.F.Propagator.constraint f l.fn.core) l.fn.filters;
+  woken_by : map g.F.Propagator.woken_by l.filters ≡ map g.F.Propagator.woken_by l.fn.filters;
+  kinds : map g.F.Propagator.kind l.filters ≡ map g.F.Propagator.kind l.fn.filters;
+  made : Each (λ i f. g.F.Propagator.is_made_with f l.fn.core) l.filters;
+  fresh : Each (λ i f. WasFresh (g.F.Propagator.fresh f) (length (g.N.View.family l.n))) l.filters;
   long : length l.filters ≡ length l.fn.filters;
   waits : length l.waiting ≡ length l.fn.waiting;
-  wait : WaitOrAreStable (map (λ f. g.F.Filter.constraint f l.fn.core) l.fn.filters) l.waiting (g.N.View.family l.n);
+  wait : WaitOrAreStable (map (λ f. g.F.Propagator.constraint f l.fn.core) l.fn.filters) l.waiting (g.N.View.family l.n);
   leads : g.N.Narrow.leads_to l.fn.n l.n;
 }
 

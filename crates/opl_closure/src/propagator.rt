@@ -1,0 +1,54 @@
+//! Propagators: filters of constraints, each of which tells which variables wake it.
+ghost use Rattle.std.specs.Prelude.{◌≡◌, ℕ, Bool, true, length};
+ghost use Rattle.opl_domain.specs.Family.{Family, Full, Below, set_of};
+ghost use Rattle.opl_expr.specs.declared.model.Core.{Core};
+ghost use Rattle.opl_expr.specs.Forms.{Fact};
+ghost use Rattle.opl_expr.specs.Solutions.{declared};
+ghost use Rattle.opl_trace.specs.Stable.{IsStable};
+ghost use Rattle.opl_filter.specs.Filtering.{refutes, IsBetween, Filters};
+
+use opl_domain::Narrow;
+use opl_expr::Core;
+use opl_filter::Outcome;
+
+/// A filter of one constraint, which has to run again only after a set of a variable that wakes it has lost a value. Contracts
+/// see the constraint as it reads in a core, and whether a core is the one with which the propagator was made.
+pub trait Propagator {
+    ghost constraint: { Self → Core → Fact };
+
+    ghost is_made_with: { Self → Core → Type 0 };
+
+    ghost fresh: { Self → Family → Type 0 };
+
+    /// The variables that wake it.
+    ghost woken_by: { Self → ℕ → Bool };
+
+    /// A number that its work leaves as it is, as that of its kind.
+    ghost kind: { Self → ℕ };
+
+    /// Removes values that the constraint refutes alone at that moment, one after another, until the family is stable for
+    /// the constraint, or until none within the first family can be. All values must be declared. It takes no memory.
+    fn filter<N: Narrow>(&mut self, core: &Core, n: &mut N) -> Outcome
+        requires core { is_made_with self.old core.now }
+        requires fresh { fresh self.old (N.family n.old) }
+        requires declared { Below (N.family n.old) (declared core.now) }
+        ensures between { IsBetween (refutes (constraint self.old core.now)) (N.family n.old) (N.family n.new) }
+        ensures outcome { Filters (refutes (constraint self.old core.now)) (N.family n.old) (N.family n.new) result }
+        ensures leads_to { N.leads_to n.old n.new }
+        ensures fresh { fresh self.new (N.family n.new) }
+        ensures constraint { (d : Core) → constraint self.new d ≡ constraint self.old d }
+        ensures core { (d : Core) → is_made_with self.old d → is_made_with self.new d }
+        ensures woken_by { (x : ℕ) → woken_by self.new x ≡ woken_by self.old x }
+        ensures kind { kind self.new ≡ kind self.old };
+
+    /// Tells that the sets of all its variables may have changed. It takes no memory.
+    fn refresh(&mut self, core: &Core)
+        requires { is_made_with self.old core.now }
+        ensures fresh { (F G : Family) → Full F → Full G → length F ≡ length G → fresh self.old F → fresh self.new G }
+        ensures constraint { (d : Core) → constraint self.new d ≡ constraint self.old d }
+        ensures core { (d : Core) → is_made_with self.old d → is_made_with self.new d }
+        ensures woken_by { (x : ℕ) → woken_by self.new x ≡ woken_by self.old x }
+        ensures kind { kind self.new ≡ kind self.old };
+
+    ghost rests: { (s : Self) (d : Core) (F G : Family) → is_made_with s d → IsStable (refutes (constraint s d)) F → Full G → Below G F → ((x : ℕ) → woken_by s x ≡ true → set_of G x ≡ set_of F x) → IsStable (refutes (constraint s d)) G };
+}
