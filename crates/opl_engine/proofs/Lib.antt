@@ -1,0 +1,8 @@
+mod Beaten
+mod Changes
+mod Crowds
+pub mod Fitting
+pub mod Holding
+mod Lists
+mod Made
+pub mod Resting

@@ -1,0 +1,47 @@
+use Rattle.std.proofs.Common.{◌∙◌, length, reverse, ap, subst, arith}
+use Rattle.opl_expr.specs.Forms.{fact}
+use Rattle.opl_engine.specs.declared.member.Member.TheVariants as member
+use Rattle.opl_engine.specs.States.{Parts, seen}
+use Rattle.opl_engine.proofs.Made.{member_there, posted_made}
+use Rattle.opl_engine.proofs.Changes.{posts, posts_keep, stays, stays_engine}
+use Rattle.opl_engine.proofs.engine.Engine.post.Goals as goal
+
+pub invariant_of-self : goal.invariant_of-self
+invariant_of-self c =
+    let s = c.self.inside in
+    stays_engine s.core.value s.best s.members c.add.new.self (reverse s.openings.items) c.in_err-add.ensures.err c.self.invariant
+
+pub returns-in_err-add-clause-same : goal.returns-in_err-add-clause-same
+returns-in_err-add-clause-same c =
+    let s = c.self.inside in
+    (stays s.core.value s.best s.members c.add.new.self (reverse s.openings.items) c.args.self.now c.in_err-add.ensures.err c.self.view_is).same
+
+pub returns-in_err-add-clause-fits : goal.returns-in_err-add-clause-fits
+returns-in_err-add-clause-fits c =
+    let s = c.self.inside in
+    (stays s.core.value s.best s.members c.add.new.self (reverse s.openings.items) c.args.self.now c.in_err-add.ensures.err c.self.view_is).fits
+
+pub returns-clause-same : goal.returns-clause-same
+returns-clause-same c =
+    let s = c.self.inside in
+    (posts s.core.value s.best s.members c.add.new.self (reverse s.openings.items) (member.Posted c.args.c c.in_ok-variables.variables) (seen c.args.self.now) c.self.invariant (ap seen c.self.view_is) c.in_ok-add.ensures.ok c.add.ensures.long).same
+
+pub returns-clause-fits : goal.returns-clause-fits
+returns-clause-fits c =
+    let s = c.self.inside in
+    (posts s.core.value s.best s.members c.add.new.self (reverse s.openings.items) (member.Posted c.args.c c.in_ok-variables.variables) (seen c.args.self.now) c.self.invariant (ap seen c.self.view_is) c.in_ok-add.ensures.ok c.add.ensures.long).fits
+
+pub add-requires : goal.add-requires
+add-requires c = λ x h.
+    let s = c.self.inside in
+    let xs = c.in_ok-variables.variables in
+    let m = posted_made s.core.value c.args.self.now.core c.as_ref.result.now c.args.c.value c.as_ref-2.result.now xs (ap (λ (p : Parts). p.core) c.self.view_is) c.as_ref.ensures c.as_ref-2.ensures c.requires c.in_ok-variables.ensures in
+    let l = member_there s.core.value (member.Posted c.args.c xs) x m h in
+    omega (arith, l, c.self.invariant.variables)
+
+pub invariant_of-self-2 : goal.invariant_of-self-2
+invariant_of-self-2 c =
+    let s = c.self.inside in
+    let xs = c.in_ok-variables.variables in
+    let m = posted_made s.core.value c.args.self.now.core c.as_ref.result.now c.args.c.value c.as_ref-2.result.now xs (ap (λ (p : Parts). p.core) c.self.view_is) c.as_ref.ensures c.as_ref-2.ensures c.requires c.in_ok-variables.ensures in
+    posts_keep s.core.value s.best s.members c.add.new.self (reverse s.openings.items) (member.Posted c.args.c xs) c.self.invariant m c.in_ok-add.ensures.ok

@@ -1,0 +1,25 @@
+-- Crowds: members over some variables, some of whom wait.
+use Rattle.std.specs.Prelude.{◌≡◌, ℕ, ◌<◌, ◌^◌, Bool, true, List, map, length}
+use Rattle.opl_closure.specs.Members.{AreWatched}
+use Rattle.opl_engine.specs.Members.{wakes_on}
+use Rattle.opl_engine.specs.declared.member.Member.{Member}
+use Rattle.opl_engine.specs.declared.member.Member.TheVariants as member
+
+-- how many variables there are, the members, and for each whether it waits
+pub record Crowd : Type 0 where
+  pub variables : ℕ
+  pub members : List Member
+  pub waits : List Bool
+
+-- each member watches the variables that wake it
+pub record IsCrowd (members : List Member) (watchers : List (List ℕ)) (waits : List Bool) : Type 0 where
+  pub few : length members < 2 ^ 32
+  pub same : length waits ≡ length members
+  pub watched : AreWatched watchers (map wakes_on members)
+
+-- the kinds of members
+abbrev pub kind_of : Member → ℕ
+kind_of (member.Bound best variables) = 0
+kind_of (member.Declared k variables) = 1
+kind_of (member.Posted c variables) = 2
+kind_of (member.Value x v) = 3

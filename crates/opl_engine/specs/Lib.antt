@@ -1,0 +1,6 @@
+pub mod Crowds
+pub mod Engines
+pub mod Laws
+pub mod Members
+pub mod Resting
+pub mod States

@@ -1,0 +1,67 @@
+-- Members: the constraints that an engine filters, and the variables that wake them.
+use Rattle.std.specs.Prelude.{◌≡◌, ℕ, ◌<◌, Bool, true, false, List, length, slice_get, ℤ, Option, Some, None}
+use Rattle.opl_expr.specs.declared.model.Core.{Core}
+use Rattle.opl_expr.specs.declared.model.Goal.{Goal}
+use Rattle.opl_expr.specs.declared.forms.Cons.{Cons}
+use Rattle.opl_expr.specs.Forms.{Term, Fact, term, fact}
+use Rattle.opl_expr.specs.Sound.{IsSoundTerm, IsSoundFact}
+use Rattle.opl_filter.specs.Mentions.{lists, term_mentions, AreVariables}
+use Rattle.opl_trace.specs.Answers.{is_value}
+use Rattle.opl_trace.specs.Marks.{objective}
+use Rattle.opl_trace.specs.Objective.{Objective, better_than}
+use Rattle.opl_engine.specs.declared.member.Member.{Member}
+use Rattle.opl_engine.specs.declared.member.Member.TheVariants as member
+
+-- an objective as plain data
+abbrev pub goal_in : Core → Goal → Objective
+goal_in core g = record { is_most = g.maximize; term = term core.tables core.resources g.value }
+
+-- the bound that a best value sets, as one constraint; it always holds where there is no objective, or no best value yet
+abbrev pub bound_fact : Option Objective → Option ℤ → Fact
+bound_fact None b = Fact.fixed true
+bound_fact (Some g) None = Fact.fixed true
+bound_fact (Some g) (Some b) = better_than g b
+
+-- a constraint of a core
+abbrev pub fact_at : Core → Option Cons → Fact
+fact_at core None = Fact.fixed true
+fact_at core (Some c) = fact core.tables core.resources c
+
+-- the constraint that a member stands for
+abbrev pub fact_of : Core → Member → Fact
+fact_of core (member.Bound best variables) = bound_fact (objective core) best
+fact_of core (member.Declared k variables) = fact_at core (slice_get core.cons k)
+fact_of core (member.Posted c variables) = fact core.tables core.resources c.value
+fact_of core (member.Value x v) = is_value x v
+
+-- the variables that wake a member: those that its constraint mentions. The value of a variable, once it is there, stays.
+abbrev pub wakes_on : Member → ℕ → Bool
+wakes_on (member.Bound best variables) x = lists variables x
+wakes_on (member.Declared k variables) x = lists variables x
+wakes_on (member.Posted c variables) x = lists variables x
+wakes_on (member.Value y v) x = false
+
+-- the list has the variables of an expression, and no others
+abbrev pub AreVariablesOf : List ℕ → Term → Type 0
+AreVariablesOf variables t = (x : ℕ) → lists variables x ≡ term_mentions t x
+
+-- a sound constraint, with its variables
+pub record IsListed (core : Core) (c : Fact) (variables : List ℕ) : Type 0 where
+  pub sound : IsSoundFact core.sets c
+  pub named : AreVariables variables c
+
+-- a sound objective, with its variables
+pub record IsGoal (core : Core) (g : Objective) (variables : List ℕ) : Type 0 where
+  pub sound : IsSoundTerm core.sets g.term
+  pub named : AreVariablesOf variables g.term
+
+-- each of the list is a variable of the core
+abbrev pub AreThere : Core → List ℕ → Type 0
+AreThere core variables = (x : ℕ) → lists variables x ≡ true → x < length core.sets
+
+-- a member of a core
+abbrev pub IsMember : Core → Member → Type 0
+IsMember core (member.Bound best variables) = AreThere core variables × ((g : Objective) → objective core ≡ Some g → IsGoal core g variables)
+IsMember core (member.Declared k variables) = (k < length core.cons) × IsListed core (fact_at core (slice_get core.cons k)) variables
+IsMember core (member.Posted c variables) = IsListed core (fact core.tables core.resources c.value) variables
+IsMember core (member.Value x v) = x < length core.sets

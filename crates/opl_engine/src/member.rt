@@ -1,0 +1,118 @@
+//! The members of an engine.
+ghost use Rattle.std.specs.Prelude.{◌≡◌, ℕ, true, Some};
+ghost use Rattle.opl_domain.specs.Family.{Below};
+ghost use Rattle.opl_expr.specs.Forms.{Fact};
+ghost use Rattle.opl_expr.specs.Solutions.{declared};
+ghost use Rattle.opl_filter.specs.Mentions.{lists};
+ghost use Rattle.opl_filter.specs.Filtering.{refutes, IsBetween, Filters};
+ghost use Rattle.opl_trace.specs.Marks.{objective};
+ghost use Rattle.opl_trace.specs.Objective.{Objective};
+ghost use Rattle.opl_engine.specs.Members.{bound_fact, fact_of, wakes_on, AreThere, IsGoal, IsMember};
+
+use crate::bound::keep_better;
+use opl_closure::{Propagator, keep_value};
+use opl_domain::Narrow;
+use opl_expr::{Cons, Core};
+use opl_filter::{Outcome, sweep};
+use opl_list::Seq;
+use std::rc::Rc;
+
+/// A constraint that an engine filters, by its kind. A kind with a filter of its own is one more variant, with its arm in
+/// `filter_by` and in the definitions of what a member stands for.
+#[derive(Drop)]
+pub enum Member {
+    /// To be better than a best value, with the variables of the objective. Without an objective, or a best value yet, it asks nothing.
+    Bound(Option<i128>, Seq<u32>),
+    /// A constraint of the core, by its place, with its variables.
+    Declared(u32, Seq<u32>),
+    /// A constraint that was posted, with its variables.
+    Posted(Rc<Cons>, Seq<u32>),
+    /// A variable has a value. After two cuts it is stable for good: it has no variables that wake it.
+    Value(u32, i64),
+}
+
+impl Member {
+    /// The variables that wake it.
+    pub fn variables(&self) -> &[u32]
+        ensures { (x : ℕ) → lists result.now x ≡ wakes_on self.now x }
+    {
+        match self {
+            Member::Bound(_best, variables) => variables.as_slice(),
+            Member::Declared(_place, variables) => variables.as_slice(),
+            Member::Posted(_constraint, variables) => variables.as_slice(),
+            Member::Value(_x, _v) => &[],
+        }
+    }
+}
+
+/// The filter of a constraint that always holds.
+fn keep_all<N: Narrow>(n: &mut N) -> Outcome
+    ensures between { IsBetween (refutes (Fact.fixed true)) (N.family n.old) (N.family n.new) }
+    ensures outcome { Filters (refutes (Fact.fixed true)) (N.family n.old) (N.family n.new) result }
+    ensures leads_to { N.leads_to n.old n.new }
+{
+    // No set is empty: a view says so with its number of variables.
+    let _vars = n.vars();
+    Outcome::Stable
+}
+
+/// The filter of the bound.
+fn filter_bound<N: Narrow>(core: &Core, best: Option<i128>, variables: &[u32], n: &mut N) -> Outcome
+    requires there { AreThere core.now variables.now }
+    requires goal { (g : Objective) → objective core.now ≡ Some g → IsGoal core.now g variables.now }
+    requires declared { Below (N.family n.old) (declared core.now) }
+    ensures between { IsBetween (refutes (bound_fact (objective core.now) best)) (N.family n.old) (N.family n.new) }
+    ensures outcome { Filters (refutes (bound_fact (objective core.now) best)) (N.family n.old) (N.family n.new) result }
+    ensures leads_to { N.leads_to n.old n.new }
+{
+    match best {
+        None => keep_all(n),
+        Some(best) => match &core.goal {
+            None => keep_all(n),
+            Some(goal) => keep_better(core, goal, best, variables, n),
+        },
+    }
+}
+
+/// What a member's filter does.
+fn filter_by<N: Narrow>(member: &Member, core: &Core, n: &mut N) -> Outcome
+    requires made { IsMember core.now member.now }
+    requires declared { Below (N.family n.old) (declared core.now) }
+    ensures between { IsBetween (refutes (fact_of core.now member.now)) (N.family n.old) (N.family n.new) }
+    ensures outcome { Filters (refutes (fact_of core.now member.now)) (N.family n.old) (N.family n.new) result }
+    ensures leads_to { N.leads_to n.old n.new }
+{
+    match member {
+        Member::Bound(best, variables) => filter_bound(core, *best, variables.as_slice(), n),
+        Member::Declared(place, variables) => match core.cons.get(*place as usize) {
+            None => keep_all(n),
+            Some(c) => sweep(core, c, variables.as_slice(), n),
+        },
+        Member::Posted(c, variables) => sweep(core, c.as_ref(), variables.as_slice(), n),
+        Member::Value(x, v) => keep_value(n, *x, *v),
+    }
+}
+
+impl Propagator for Member {
+    ghost use Rattle.opl_engine.specs.Members.{fact_of, wakes_on, IsMember};
+    ghost use Rattle.opl_engine.specs.Crowds.{kind_of};
+    ghost use Rattle.opl_engine.specs.Resting.{member_rests};
+
+    ghost constraint = { λ s core. fact_of core s };
+
+    ghost is_made_with = { λ s core. IsMember core s };
+
+    ghost fresh = { λ s F. Unit {0} };
+
+    ghost woken_by = { wakes_on };
+
+    ghost kind = { kind_of };
+
+    fn filter<N: Narrow>(&mut self, core: &Core, n: &mut N) -> Outcome {
+        filter_by(&*self, core, n)
+    }
+
+    fn refresh(&mut self, _core: &Core) {}
+
+    ghost rests = { λ s d F G made. member_rests d s F G made };
+}

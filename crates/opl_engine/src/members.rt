@@ -1,0 +1,174 @@
+//! The members of an engine, those who watch variables, and those who wait.
+ghost use Rattle.std.specs.Prelude.{◌≡◌, ℕ, ℤ, List, Option, ◌<◌, ◌≤◌, ◌≢◌, [], ◌∷◌, ◌++◌, true, false, map, take, length, slice_get, slice_set, Some, IfOk, OnOk, OnErr};
+ghost use Rattle.opl_domain.specs.Family.{Family, Below};
+ghost use Rattle.opl_expr.specs.Solutions.{declared};
+ghost use Rattle.opl_trace.specs.Removals.{Kept};
+ghost use Rattle.opl_closure.specs.Members.{refutes_one, Each, WaitOrAreStable, Rest, Closes};
+ghost use Rattle.opl_closure.specs.Waits.{waits};
+ghost use Rattle.opl_engine.specs.Crowds.{kind_of};
+ghost use Rattle.opl_engine.specs.Members.{fact_of, wakes_on, IsMember};
+ghost use Rattle.opl_engine.specs.declared.member.Member.TheVariants as variant;
+
+use crate::member::Member;
+use opl_closure::{Waiting, Watchers, propagate};
+use opl_domain::{Narrow, OutOfMemory};
+use opl_expr::Core;
+use opl_filter::Outcome;
+use std::alloc::Global;
+use std::marker::Model;
+
+/// Members over some variables, the first of whom is the bound.
+#[derive(Drop)]
+pub struct Members {
+    members: Vec<Member>,
+    watchers: Watchers,
+    waiting: Waiting,
+}
+
+impl Model for Members {
+    ghost use Rattle.std.specs.Prelude.{length};
+    ghost use Rattle.std.specs.Coded.{codes};
+    ghost use Rattle.opl_engine.specs.contracts.member.Member as kinds;
+    ghost use Rattle.opl_engine.specs.Crowds.{Crowd};
+
+    ghost Value = { Crowd };
+
+    ghost coded = { Prim.hlevel (codes, kinds.the_row.coded) };
+
+    ghost use Rattle.opl_engine.specs.Crowds.{IsCrowd};
+
+    ghost view = { λ m. record { variables = length m.watchers; members = m.members.items; waits = m.waiting } };
+
+    ghost invariant = { λ m. IsCrowd m.members.items m.watchers m.waiting };
+}
+
+impl Members {
+    /// Nobody, over so many variables.
+    pub fn new(alloc: Global, variables: u32) -> Result<Members, OutOfMemory>
+        ensures { IfOk result (λ m. m ≡ record { variables = variables; members = []; waits = [] }) }
+    {
+        Ok(Members {
+            members: Vec::new(alloc),
+            watchers: Watchers::new(alloc, variables)?,
+            waiting: Waiting::new(alloc),
+        })
+    }
+
+    /// The number of members.
+    pub fn len(&self) -> u32
+        ensures { result ≡ length self.now.members }
+    {
+        self.members.len() as u32
+    }
+
+    /// One more member, who waits. Where memory is wanting, all stays as it was.
+    pub fn add(&mut self, member: Member) -> Result<(), OutOfMemory>
+        requires { (x : ℕ) → wakes_on member x ≡ true → x < self.old.variables }
+        ensures ok { OnOk result (self.new ≡ record self.old { members = self.old.members ++ member ∷ []; waits = self.old.waits ++ true ∷ [] }) }
+        ensures err { OnErr result (self.new ≡ self.old) }
+        ensures long { length self.old.waits ≡ length self.old.members }
+    {
+        let place = self.members.len();
+        if place >= u32::MAX as usize {
+            return Err(OutOfMemory);
+        }
+        self.members.reserve(1)?;
+        self.watchers.add(member.variables(), place as u32)?;
+        self.waiting.push()?;
+        self.members.push_reserved(member);
+        Ok(())
+    }
+
+    /// Lets member `i` wait.
+    pub fn wake(&mut self, i: u32)
+        requires { i < length self.old.members }
+        ensures is { self.new ≡ record self.old { waits = slice_set self.old.waits i true } }
+        ensures woken { waits self.new.waits i ≡ true }
+    {
+        self.waiting.wake(i);
+    }
+
+    /// Lets everybody wait.
+    pub fn wake_everybody(&mut self)
+        ensures variables { self.new.variables ≡ self.old.variables }
+        ensures members { self.new.members ≡ self.old.members }
+        ensures woken { (i : ℕ) → i < length self.old.members → waits self.new.waits i ≡ true }
+    {
+        self.waiting.wake_everybody();
+    }
+
+    /// Whether nobody waits but perhaps the first member.
+    pub fn is_calm(&self) -> bool
+        requires { 0 < length self.now.members }
+        ensures { result ≡ true → (i : ℕ) → i ≢ 0 → waits self.now.waits i ≡ false }
+    {
+        self.waiting.is_calm()
+    }
+
+    /// Whether member `i` waits.
+    pub fn waits(&self, i: u32) -> bool
+        requires { i < length self.now.members }
+        ensures { result ≡ waits self.now.waits i }
+    {
+        self.waiting.waits(i)
+    }
+
+    /// The first so many members are left, and none of them waits. It takes no memory.
+    pub fn keep(&mut self, members: u32)
+        requires { members ≤ length self.old.members }
+        ensures variables { self.new.variables ≡ self.old.variables }
+        ensures members { self.new.members ≡ take members self.old.members }
+        ensures rest { (i : ℕ) → waits self.new.waits i ≡ false }
+    {
+        self.members.truncate(members as usize);
+        self.waiting.rest(members);
+    }
+
+    /// The first member, who is the bound, has another best value, and waits. It takes no memory.
+    pub fn set_best(&mut self, best: Option<i128>)
+        requires { 0 < length self.old.members }
+        ensures variables { self.new.variables ≡ self.old.variables }
+        ensures bound { (b : Option ℤ) (xs : List ℕ) → slice_get self.old.members 0 ≡ Some (variant.Bound b xs) → self.new.members ≡ slice_set self.old.members 0 (variant.Bound best xs) }
+        ensures waits { self.new.waits ≡ slice_set self.old.waits 0 true }
+        ensures long { length self.old.waits ≡ length self.old.members }
+    {
+        set_bound(&mut self.members[0], best);
+        self.waiting.wake(0);
+    }
+
+    /// Narrows sets until no member can remove more, or until one fails. Members who don't wait must be stable. It takes no memory.
+    pub fn propagate<N: Narrow>(&mut self, core: &Core, n: &mut N) -> Outcome
+        requires made { Each (λ i m. IsMember core.now m) self.old.members }
+        requires declared { Below (N.family n.old) (declared core.now) }
+        requires wait { WaitOrAreStable (map (fact_of core.now) self.old.members) self.old.waits (N.family n.old) }
+        ensures closes { (D : Family) → Kept (refutes_one (map (fact_of core.now) self.old.members)) D (N.family n.old) → Closes (refutes_one (map (fact_of core.now) self.old.members)) D (N.family n.new) result }
+        ensures kept { (D : Family) → Kept (refutes_one (map (fact_of core.now) self.old.members)) D (N.family n.old) → Kept (refutes_one (map (fact_of core.now) self.old.members)) D (N.family n.new) }
+        ensures leads_to { N.leads_to n.old n.new }
+        ensures variables { self.new.variables ≡ self.old.variables }
+        ensures facts { map (fact_of core.now) self.new.members ≡ map (fact_of core.now) self.old.members }
+        ensures kinds { map kind_of self.new.members ≡ map kind_of self.old.members }
+        ensures made { Each (λ i m. IsMember core.now m) self.new.members }
+        ensures wait { WaitOrAreStable (map (fact_of core.now) self.old.members) self.new.waits (N.family n.new) }
+        ensures rest { Rest self.new.waits result }
+    {
+        // No set is empty: a view says so with its number of variables.
+        let _vars = n.vars();
+        propagate(
+            core,
+            self.members.as_mut_slice(),
+            &self.watchers,
+            &mut self.waiting,
+            n,
+        )
+    }
+}
+
+/// Gives a bound another best value.
+fn set_bound(member: &mut Member, best: Option<i128>)
+    ensures bound { (b : Option ℤ) (xs : List ℕ) → member.old ≡ variant.Bound b xs → member.new ≡ variant.Bound best xs }
+    ensures woken { (x : ℕ) → wakes_on member.new x ≡ wakes_on member.old x }
+{
+    if let Member::Bound(old, _variables) = member {
+        *old = best;
+    }
+}
