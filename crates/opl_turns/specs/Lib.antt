@@ -1,0 +1,4 @@
+pub mod Coming
+pub mod Weights
+pub mod Covered
+pub mod Laws
