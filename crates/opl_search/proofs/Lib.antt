@@ -1,0 +1,9 @@
+pub mod Parts
+pub mod Values
+pub mod Levels
+pub mod Places
+pub mod Covers
+pub mod Moments
+pub mod Start
+pub mod Along
+pub mod Empties
