@@ -27,7 +27,7 @@ use Rattle.opl_domain.specs.Span.{values}
 use Rattle.opl_expr.specs.Solutions.{base}
 use Rattle.opl_expr.specs.Sound.{IsSoundFact, var_magnitude}
 use Rattle.opl_trace.specs.SoundCores.{IsSoundSet}
-use Rattle.opl_reference_labelling.proofs.AnswersSound.{small_value}
+use Rattle.opl_choices.proofs.AnswersSound.{small_value}
 use Rattle.std.proofs.lemmas.List.Elements.{All-get_or}
 use Rattle.std.specs.Prelude.{int_le}
 use Rattle.std.proofs.Common.{max, ◌^◌, lit≤}

@@ -128,21 +128,3 @@ moment_is core P Q b D e i = ap (λ R. closure (λ F. list_any (is_refuted F) R)
 pub below_declared : (core : Core) (F D : Family) → D ≡ map values_between core.sets → Below F D → Below F (declared core)
 unfolding declared
 below_declared core F D e b = subst (λ G. Below F G) e b
-
--- ---- conditions and keys
-
-pub met_is : (F : Family) (c d : Fact) (r : Bool) (o : Option Span) → d ≡ answered F c → o ≡ fact_range F d → r ≡ is_some_point (pos 1) o → r ≡ is_met F c
-unfolding is_met
-met_is F c d r o e i j = j ∙ ap (is_some_point (pos 1)) (i ∙ ap (fact_range F) e)
-
-pub decided_is : (F : Family) (c : Fact) (r s : Bool) (o p : Option Span) → o ≡ fact_range F c → r ≡ is_some_point (pos 0) o → p ≡ fact_range F c → s ≡ is_some_point (pos 1) p → (r || s) ≡ is_decided F c
-unfolding is_decided
-decided_is F c r s o p i j k l = ap (λ b. b || s) (j ∙ ap (is_some_point (pos 0)) i) ∙ ap (λ b. is_some_point (pos 0) (fact_range F c) || b) (l ∙ ap (is_some_point (pos 1)) k)
-
-pub no_key : (F : Family) (key : Option Term) → key ≡ None → None ≡ key_value F key
-unfolding key_value
-no_key F key e = sym (ap (bind1 (λ t. lift1 (λ a. a.low) (range F (answered_term F t)))) e)
-
-pub key_is : (F : Family) (key : Option Term) (t u : Term) (o : Option Span) → key ≡ Some t → u ≡ answered_term F t → o ≡ range F u → lift1 (λ a. a.low) o ≡ key_value F key
-unfolding key_value
-key_is F key t u o e i j = ap (lift1 (λ a. a.low)) (j ∙ ap (range F) i) ∙ sym (ap (bind1 (λ v. lift1 (λ a. a.low) (range F (answered_term F v)))) e)

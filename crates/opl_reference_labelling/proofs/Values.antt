@@ -7,7 +7,7 @@ use Rattle.opl_domain.specs.Family.{Family, IsFamily, IsRising, IsLeast, IsNext,
 use Rattle.opl_domain.proofs.Members.{member_cases, member_first, member_later, between_is}
 use Rattle.opl_domain.proofs.Sets.{first_is_least, is_le, not_le}
 use Rattle.opl_trace.specs.Run.{values_of}
-use Rattle.opl_reference_labelling.proofs.AnswerParts.{some_values}
+use Rattle.opl_choices.proofs.AnswerParts.{some_values}
 
 -- the values from one on, or none
 abbrev pub from_on : Option ℤ → List ℤ → List ℤ

@@ -11,11 +11,12 @@ ghost use Rattle.opl_reference_labelling.specs.Labelling.{labelling, values_then
 ghost use Rattle.opl_trace.specs.SoundCores.{facts_in, AreSound, IsBest};
 ghost use Rattle.opl_reference_labelling.specs.Outcomes.{IsMade};
 
+use crate::constraints;
 use crate::mark::Mark;
 use crate::moment::Search;
 use crate::outcome::Outcome;
 use crate::ranges::Ranges;
-use crate::{answers, constraints};
+use opl_choices::is_single;
 use opl_domain::View;
 use opl_expr::{Cons, OutOfMemory, value};
 use opl_list::Seq;
@@ -128,7 +129,7 @@ impl<'a, R: Ranges> Search<'a, R> {
                     Ok(outcome)
                 }
                 Some((x, others)) => {
-                    if answers::is_single(&sets, *x) {
+                    if is_single(&sets, *x) {
                         let outcome = self.label(alloc, others, posted, best, left)?;
                         Ok(outcome)
                     } else {

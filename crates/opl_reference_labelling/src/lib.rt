@@ -1,7 +1,6 @@
 //! The marks of a search, by a plain program that computes the sets of each moment anew.
 #![tactic(auto)]
 
-mod answers;
 mod constraints;
 mod core_ranges;
 mod labelling;
@@ -11,7 +10,6 @@ mod moment;
 mod outcome;
 mod ranges;
 
-pub use answers::{answered, answered_term, is_single};
 pub use constraints::{copies, with_value};
 pub use core_ranges::CoreRanges;
 pub use mark::Mark;

@@ -1,24 +1,19 @@
 //! What a search asks at one of its moments.
-ghost use Rattle.std.specs.Prelude.{◌≡◌, ◌++◌, ℤ, List, pos, int_lt, map, IfOk, Option};
+ghost use Rattle.std.specs.Prelude.{◌≡◌, ◌++◌, ℤ, List, int_lt, IfOk};
 ghost use Rattle.std.specs.List.{list_any};
 ghost use Rattle.opl_domain.specs.Family.{Below};
-ghost use Rattle.opl_expr.specs.Forms.{term, fact};
-ghost use Rattle.opl_expr.specs.Options.{lift1};
 ghost use Rattle.opl_expr.specs.Range.{is_refuted};
 ghost use Rattle.opl_expr.specs.Solutions.{declared, goal_term};
-ghost use Rattle.opl_expr.specs.Sound.{IsSoundFact};
-ghost use Rattle.opl_trace.specs.Answers.{is_some_point, is_met, is_decided, key_value};
 ghost use Rattle.opl_trace.specs.Marks.{objective};
 ghost use Rattle.opl_trace.specs.Objective.{bound};
-ghost use Rattle.opl_trace.specs.Questions.{IsOpenFact};
-ghost use Rattle.opl_trace.specs.SoundCores.{IsSoundCore, IsOpenKey};
+ghost use Rattle.opl_trace.specs.SoundCores.{IsSoundCore};
 ghost use Rattle.opl_trace.specs.Moments.{core_sets};
 ghost use Rattle.opl_trace.specs.SoundCores.{facts_in, AreSound, IsBest};
 
+use crate::constraints;
 use crate::ranges::Ranges;
-use crate::{answers, constraints};
-use opl_domain::{Interval, View};
-use opl_expr::{Cons, Core, Expr, OutOfMemory};
+use opl_domain::View;
+use opl_expr::{Cons, Core, OutOfMemory};
 use opl_list::Seq;
 use opl_trace::{Sets, Test, closed};
 use std::alloc::Global;
@@ -93,16 +88,6 @@ fn members(
     }
 }
 
-/// Whether an interval is there, and has the number `k` alone.
-fn is_some_point(range: Option<Interval>, k: i128) -> bool
-    ensures { result ≡ is_some_point k range }
-{
-    match range {
-        None => false,
-        Some(range) => range.lo() == k && range.hi() == k,
-    }
-}
-
 impl<'a, R: Ranges> Search<'a, R> {
     /// The sets of a moment, by its constraints and its best value; none where there are none.
     pub fn sets(
@@ -127,51 +112,5 @@ impl<'a, R: Ranges> Search<'a, R> {
             members: members.as_slice(),
         };
         Ok(closed(&test, sets))
-    }
-
-    /// Whether a condition holds.
-    pub fn is_met<V: View>(&self, alloc: Global, view: &V, c: &Cons) -> Result<bool, OutOfMemory>
-        requires open { IsOpenFact self.now.core.now.sets (fact self.now.core.now.tables self.now.core.now.resources c.now) }
-        requires within { Below (V.family view.now) (declared self.now.core.now) }
-        ensures { IfOk result (λ b. b ≡ is_met (V.family view.now) (fact self.now.core.now.tables self.now.core.now.resources c.now)) }
-    {
-        let c = answers::answered(alloc, self.core, view, c)?;
-        let _ = view.vars();
-        Ok(is_some_point(self.ranges.cons_range(self.core, c.get(), view), 1))
-    }
-
-    /// Whether a constraint is decided.
-    pub fn is_decided<V: View>(&self, view: &V, c: &Cons) -> bool
-        requires sound { IsSoundFact self.now.core.now.sets (fact self.now.core.now.tables self.now.core.now.resources c.now) }
-        requires within { Below (V.family view.now) (declared self.now.core.now) }
-        ensures { result ≡ is_decided (V.family view.now) (fact self.now.core.now.tables self.now.core.now.resources c.now) }
-    {
-        let never = is_some_point(self.ranges.cons_range(self.core, c, view), 0);
-        let always = is_some_point(self.ranges.cons_range(self.core, c, view), 1);
-        never || always
-    }
-
-    /// The value of a key; none where there is no key or it is undefined.
-    pub fn key_value<V: View>(
-        &self,
-        alloc: Global,
-        view: &V,
-        key: &Option<Expr>,
-    ) -> Result<Option<i128>, OutOfMemory>
-        requires open { IsOpenKey self.now.core.now.sets (lift1 (term self.now.core.now.tables self.now.core.now.resources) key.now) }
-        requires within { Below (V.family view.now) (declared self.now.core.now) }
-        ensures { IfOk result (λ o. o ≡ key_value (V.family view.now) (lift1 (term self.now.core.now.tables self.now.core.now.resources) key.now)) }
-    {
-        match key {
-            None => Ok(None),
-            Some(key) => {
-                let key = answers::answered_term(alloc, self.core, view, key)?;
-                let _ = view.vars();
-                match self.ranges.range(self.core, key.get(), view) {
-                    None => Ok(None),
-                    Some(range) => Ok(Some(range.lo())),
-                }
-            }
-        }
     }
 }

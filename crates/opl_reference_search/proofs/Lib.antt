@@ -1,4 +1,3 @@
-pub mod ElementLists
 pub mod SoundSteps
 pub mod Orders
 pub mod StatementForms

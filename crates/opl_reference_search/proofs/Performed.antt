@@ -17,9 +17,10 @@ use Rattle.opl_steps.specs.Tasks.Task.{act, values, orders, elements, turns}
 use Rattle.opl_steps.specs.Steps.{Way, Next, on, acts_then, each_then, element_of, elements_of, bodies_then, first_then, performed, visited}
 use Rattle.opl_steps.specs.Steps.Next.{go, choose, commit}
 use Rattle.opl_steps.specs.Picked.{without, place_in}
-use Rattle.opl_reference_search.specs.Tasks.{statement_in, element, acts}
-use Rattle.opl_reference_search.specs.Sound.{AreSoundElements}
-use Rattle.opl_reference_search.proofs.ElementLists.{length_mapped, picked_at}
+use Rattle.opl_choices.specs.Branches.{statement_in, element}
+use Rattle.opl_reference_search.specs.Tasks.{acts}
+use Rattle.opl_choices.specs.Branches.{AreSoundElements}
+use Rattle.opl_choices.proofs.ElementLists.{length_mapped, picked_at}
 use Rattle.opl_reference_search.proofs.SoundSteps.{elements_sound, taken_sound}
 use Rattle.opl_reference_search.proofs.StatementForms.{br, branch_is, statement_Post, statement_Block, statement_Try, statement_TryAll, statement_ForAll, statement_Select, statement_Once, statement_While, statement_If, statement_Generate, statement_Rank}
 
@@ -89,12 +90,10 @@ module _ (core : Core) where
         made_as _ _ (ap (statement_in core) e ∙ statement_Try core.tables core.resources ss)
         (ap choose (j ∙ ap (map (λ s. on P (act (statement_in core s) ∷ ts))) i ∙ sym (each_is P ss ts)))
 
-    pub all_made : {X : Type 0} (f : X → Arm Statement) (bs cs : List code.Branch) (tk tk2 od od2 : List X) (ws : List Way) → step ≡ S.TryAll bs → cs ≡ bs → map f tk ≡ taken C (map (element core) cs) → tk2 ≡ tk → map f od ≡ ordered C (length tk2) (map f tk2) → od2 ≡ od → ws ≡ bodies_then P (map f od2) ts → choose ws ≡ performed C P n (statement_in core step) ts
-    all_made f bs cs tk tk2 od od2 ws e i j k l m o =
-        let ready = j ∙ ap (λ as'. taken C (map (element core) as')) i ∙ ap (taken C) (sym (elements_is bs)) in
-        let order =
-        l ∙ ap (λ as'. ordered C (length as') (map f as')) k ∙ ap (λ d. ordered C d (map f tk)) (sym (length_mapped f tk))
-        ∙ ap (λ as'. ordered C (length as') as') ready in
+    pub all_made : {X : Type 0} (f : X → Arm Statement) (bs cs : List code.Branch) (od od2 : List X) (ws : List Way) → step ≡ S.TryAll bs → cs ≡ bs → map f od ≡ ordered C (length (taken C (map (element core) cs))) (taken C (map (element core) cs)) → od2 ≡ od → ws ≡ bodies_then P (map f od2) ts → choose ws ≡ performed C P n (statement_in core step) ts
+    all_made f bs cs od od2 ws e i l m o =
+        let ready = ap (λ as'. taken C (map (element core) as')) i ∙ ap (taken C) (sym (elements_is bs)) in
+        let order = l ∙ ap (λ as'. ordered C (length as') as') ready in
         made_as _ _ (ap (statement_in core) e ∙ statement_TryAll core.tables core.resources bs)
         (ap choose (o ∙ ap (λ as'. bodies_then P (map f as') ts) m ∙ ap (λ as'. bodies_then P as' ts) order))
 

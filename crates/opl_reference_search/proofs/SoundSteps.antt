@@ -23,9 +23,10 @@ use Rattle.opl_steps.specs.Tasks.{Task}
 use Rattle.opl_steps.specs.Tasks.Task.{act, values, orders, elements, turns}
 use Rattle.opl_steps.specs.Steps.{Next, on, on_value, acts_then, each_then, elements_of, bodies_then, first_then, performed, labelled, both_then, ranked, visited, turned, started, next_step}
 use Rattle.opl_steps.specs.Steps.Next.{finished, nothing, spent, go, choose, commit}
-use Rattle.opl_reference_labelling.proofs.AnswersSound.{are_bounded, fact_sound}
+use Rattle.opl_choices.proofs.AnswersSound.{are_bounded, fact_sound}
 use Rattle.opl_reference_labelling.proofs.Labels.{magnitude_small, value_sound}
-use Rattle.opl_reference_search.specs.Sound.{AreSoundElements, IsSoundTask, AreSoundTasks, IsSoundWay, AreSoundWays}
+use Rattle.opl_choices.specs.Branches.{AreSoundElements}
+use Rattle.opl_reference_search.specs.Sound.{IsSoundTask, AreSoundTasks, IsSoundWay, AreSoundWays}
 
 abbrev pub IsSoundNext : Core → Next → Type 0
 IsSoundNext core finished = Unit {0}

@@ -1,26 +1,20 @@
 -- What sound tasks keep.
 use Rattle.std.specs.Prelude.{List, [], ◌∷◌, ℤ}
 use Rattle.opl_expr.specs.declared.model.Core.{Core}
-use Rattle.opl_trace.specs.Elements.{Arm}
-use Rattle.opl_trace.specs.Statements.{Statement}
 use Rattle.opl_trace.specs.Questions.{IsOpenFact}
-use Rattle.opl_trace.specs.SoundCores.{AreThere, ArePairs, IsOpenKey, IsSoundStatement}
+use Rattle.opl_trace.specs.SoundCores.{AreThere, ArePairs, IsSoundStatement}
 use Rattle.opl_trace.specs.SoundCores.{AreSound}
+use Rattle.opl_choices.specs.Branches.{AreSoundElements}
 use Rattle.opl_steps.specs.Tasks.{Task}
 use Rattle.opl_steps.specs.Tasks.Task.{act, values, orders, elements, turns}
 use Rattle.opl_steps.specs.Steps.{Way}
 
 module _ (sets : List (ℤ × ℤ)) where
-  -- conditions, keys and bodies are sound
-  abbrev pub AreSoundElements : List (Arm Statement) → Type 0
-  AreSoundElements [] = Unit {0}
-  AreSoundElements (a ∷ others) = (IsOpenFact sets a.when × IsOpenKey sets a.key × IsSoundStatement sets a.body) × AreSoundElements others
-
   abbrev pub IsSoundTask : Task → Type 0
   IsSoundTask (act s) = IsSoundStatement sets s
   IsSoundTask (values xs) = AreThere sets xs
   IsSoundTask (orders ps) = ArePairs sets ps
-  IsSoundTask (elements es) = AreSoundElements es
+  IsSoundTask (elements es) = AreSoundElements sets es
   IsSoundTask (turns m c s) = IsOpenFact sets c × IsSoundStatement sets s
 
   abbrev pub AreSoundTasks : List Task → Type 0

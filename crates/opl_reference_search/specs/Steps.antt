@@ -4,7 +4,8 @@ use Rattle.opl_expr.specs.declared.model.Core.{Core}
 use Rattle.opl_trace.specs.SoundCores.{facts_in}
 use Rattle.opl_steps.specs.Steps.{Way, Next}
 use Rattle.opl_steps.specs.Steps.Next.{finished, nothing, spent, go, choose, commit}
-use Rattle.opl_reference_search.specs.Tasks.{statement_in, tasks_in}
+use Rattle.opl_choices.specs.Branches.{statement_in}
+use Rattle.opl_reference_search.specs.Tasks.{tasks_in}
 use Rattle.opl_reference_search.specs.declared.«next».Way as code
 use Rattle.opl_reference_search.specs.declared.«next».Next as code_next
 

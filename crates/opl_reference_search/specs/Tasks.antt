@@ -1,15 +1,12 @@
 -- The tasks of the program as plain data, and what they make in the search of a core.
 use Rattle.std.specs.Prelude.{List, map}
 use Rattle.opl_expr.specs.declared.model.Core.{Core}
-use Rattle.opl_expr.specs.declared.search.Branch.{Branch}
 use Rattle.opl_expr.specs.declared.search.Step.{Step}
-use Rattle.opl_expr.specs.Forms.{term, fact}
-use Rattle.opl_expr.specs.Options.{lift1}
-use Rattle.opl_trace.specs.Elements.{Arm}
+use Rattle.opl_expr.specs.Forms.{fact}
 use Rattle.opl_trace.specs.Marks.{objective}
 use Rattle.opl_trace.specs.Moments.{core_sets}
 use Rattle.opl_trace.specs.Run.{Rest}
-use Rattle.opl_trace.specs.Statements.{Statement, statement}
+use Rattle.opl_choices.specs.Branches.{element, statement_in}
 use Rattle.opl_steps.specs.Tasks as steps
 use Rattle.opl_steps.specs.Tasks.{Task, End}
 use Rattle.opl_steps.specs.Tasks.Task.{act, values, orders, elements, turns}
@@ -25,14 +22,6 @@ end_in (ends.TheVariants.Inner) = inner
 -- what tasks make, by the objective and the sets of a core
 abbrev pub doing : Core → ends.End → List Task → Rest
 doing core end ts = steps.doing (objective core) (core_sets core) (end_in end) ts
-
--- a statement
-abbrev pub statement_in : Core → Step → Statement
-statement_in core s = statement core.tables core.resources s
-
--- an element of a statement
-abbrev pub element : Core → Branch → Arm Statement
-element core b = record { when = fact core.tables core.resources b.when; key = lift1 (term core.tables core.resources) b.key; rising = b.rising; body = statement_in core b.body }
 
 -- a task
 abbrev pub task_of : Core → code.Task → Task

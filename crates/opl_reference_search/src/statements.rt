@@ -9,16 +9,18 @@ ghost use Rattle.opl_trace.specs.Questions.{IsOpenFact};
 ghost use Rattle.opl_trace.specs.SoundCores.{IsSoundStatement};
 ghost use Rattle.opl_steps.specs.Tasks.Task.{act};
 ghost use Rattle.opl_steps.specs.Steps.{on, bodies_then, first_then, performed};
-ghost use Rattle.opl_reference_search.specs.Sound.{AreSoundElements};
-ghost use Rattle.opl_reference_search.specs.Tasks.{element, statement_in, task_of, tasks_in, acts};
+ghost use Rattle.opl_choices.specs.Branches.{AreSoundElements};
+ghost use Rattle.opl_choices.specs.Branches.{element, statement_in};
+ghost use Rattle.opl_reference_search.specs.Tasks.{task_of, tasks_in, acts};
 ghost use Rattle.opl_reference_search.specs.Steps.{way_of, ways_in, next_of};
 
-use crate::elements::{ordered, place, taken};
+use crate::elements::{ordered, taken};
 use crate::next::{Next, Way};
 use crate::task::{Task, before, one_before, steps_before};
+use opl_choices::{answered, is_met, place};
 use opl_expr::{Branch, Cons, Core, OutOfMemory, Step};
 use opl_list::Seq;
-use opl_reference_labelling::{Ranges, Search, answered, copies};
+use opl_reference_labelling::{Ranges, Search, copies};
 use opl_trace::Sets;
 use std::alloc::Global;
 
@@ -145,7 +147,7 @@ fn first_body<'a, R: Ranges>(
     if elements.is_empty() {
         return Ok(Next::Nothing);
     }
-    let at = place(alloc, search, sets, elements)?;
+    let at = place(alloc, search.core, sets, elements)?;
     let way = with_task(
         alloc,
         search.core,
@@ -169,7 +171,7 @@ fn decide<'a, R: Ranges>(
     requires within { Below sets.now (declared search.now.core.now) }
     ensures { IfOk result (λ t. task_of search.now.core.now t ≡ act (cond (is_met sets.now (fact search.now.core.now.tables search.now.core.now.resources c.now)) (statement_in search.now.core.now then.now) (statement_in search.now.core.now or.now))) }
 {
-    if search.is_met(alloc, sets, c)? {
+    if is_met(alloc, search.core, sets, c)? {
         Ok(Task::Perform(then))
     } else {
         Ok(Task::Perform(or))
@@ -202,16 +204,15 @@ pub fn perform<'a, R: Ranges>(
             posted,
         )?)),
         Step::TryAll(elements) => {
-            let taken = taken(alloc, search, sets, elements.as_slice())?;
-            let ordered = ordered(alloc, search, sets, taken.as_slice())?;
+            let ordered = ordered(alloc, core, sets, elements.as_slice())?;
             Ok(Next::Choose(each_body(alloc, core, ordered.as_slice(), others, posted)?))
         }
         Step::ForAll(elements) => {
-            let taken = taken(alloc, search, sets, elements.as_slice())?;
+            let taken = taken(alloc, core, sets, elements.as_slice())?;
             Ok(Next::Go(with_task(alloc, core, Task::Visit(taken), others, posted)?))
         }
         Step::Select(elements) => {
-            let taken = taken(alloc, search, sets, elements.as_slice())?;
+            let taken = taken(alloc, core, sets, elements.as_slice())?;
             let next = first_body(alloc, search, sets, taken.as_slice(), others, posted)?;
             Ok(next)
         }

@@ -9,18 +9,20 @@ ghost use Rattle.opl_trace.specs.SoundCores.{IsSoundCore, AreThere, ArePairs};
 ghost use Rattle.opl_steps.specs.Tasks.Task.{values, orders};
 ghost use Rattle.opl_steps.specs.Steps.{on, on_value, turned, labelled, ranked, visited, next_step};
 ghost use Rattle.opl_steps.specs.Steps.Next.{go};
-ghost use Rattle.opl_reference_search.specs.Sound.{AreSoundElements, AreSoundTasks};
-ghost use Rattle.opl_reference_search.specs.Tasks.{element, statement_in, tasks_in};
+ghost use Rattle.opl_choices.specs.Branches.{AreSoundElements};
+ghost use Rattle.opl_reference_search.specs.Sound.{AreSoundTasks};
+ghost use Rattle.opl_choices.specs.Branches.{element, statement_in};
+ghost use Rattle.opl_reference_search.specs.Tasks.{tasks_in};
 ghost use Rattle.opl_reference_search.specs.Steps.{way_of, ways_in, next_of};
 
-use crate::elements::{place, without};
 use crate::next::{Next, Way};
 use crate::statements::{perform, with_task, without_task};
 use crate::task::{Task, one_before};
+use opl_choices::{is_decided, is_met, is_single, place, without};
 use opl_domain::View;
 use opl_expr::{Branch, Cons, Core, Expr, Op, OutOfMemory, Step};
 use opl_list::{Boxed, Seq};
-use opl_reference_labelling::{Ranges, Search, copies, is_single, with_value};
+use opl_reference_labelling::{Ranges, Search, copies, with_value};
 use opl_trace::Sets;
 use std::alloc::Global;
 
@@ -164,7 +166,7 @@ fn is_settled<R: Ranges>(
 {
     let mut order = Seq::new(alloc);
     order.push(precedes(alloc, search.core, x, y)?)?;
-    Ok(search.is_decided(sets, &order.as_slice()[0]))
+    Ok(is_decided(search.core, sets, &order.as_slice()[0]))
 }
 
 /// An order for each pair.
@@ -217,7 +219,7 @@ fn visit<'a, R: Ranges>(
         let done = without_task(alloc, core, others, posted)?;
         return Ok(done);
     }
-    let at = place(alloc, search, sets, elements)?;
+    let at = place(alloc, core, sets, elements)?;
     let left = without(alloc, elements, at)?;
     let rest = one_before(alloc, Task::Visit(left), others)?;
     let way = with_task(
@@ -290,7 +292,7 @@ pub fn next_step<'a, R: Ranges>(
                 posted,
             )?)),
             Task::Loop(turns, c, body) => {
-                if search.is_met(alloc, sets, c)? {
+                if is_met(alloc, core, sets, c)? {
                     let next = turn(alloc, core, *turns, c, body, others, posted)?;
                     Ok(next)
                 } else {

@@ -13,7 +13,8 @@ use Rattle.opl_reference_labelling.proofs.Labels.{IsUnderWay, below_at}
 use Rattle.opl_reference_search.specs.Made.{rests, once_then}
 use Rattle.opl_reference_search.specs.Sound.{AreSoundTasks, AreSoundWays}
 use Rattle.opl_reference_search.specs.Steps.{way_of, ways_in, next_of}
-use Rattle.opl_reference_search.specs.Tasks.{end_in, doing, statement_in, tasks_in}
+use Rattle.opl_choices.specs.Branches.{statement_in}
+use Rattle.opl_reference_search.specs.Tasks.{end_in, doing, tasks_in}
 use Rattle.opl_reference_search.proofs.Running.{is_next, run_of, run_as, nothing_run, spent_run, drop_here, way_sound, chosen_less, choice_less, leaf_sound, entered_run, turn_cut, turn_next, turn_sound, turn_fewer}
 use Rattle.opl_reference_search.proofs.run.+running.Goals as goal
 

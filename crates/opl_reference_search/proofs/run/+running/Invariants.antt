@@ -4,7 +4,8 @@ use Rattle.opl_reference_labelling.specs.Outcomes.{outcome}
 use Rattle.opl_reference_labelling.proofs.Labels.{IsUnderWay}
 use Rattle.opl_reference_search.specs.Made.{rests}
 use Rattle.opl_reference_search.specs.Steps.{ways_in}
-use Rattle.opl_reference_search.specs.Tasks.{statement_in, tasks_in}
+use Rattle.opl_choices.specs.Branches.{statement_in}
+use Rattle.opl_reference_search.specs.Tasks.{tasks_in}
 use Rattle.opl_reference_search.proofs.run.+running.Given as goal
 
 abbrev pub decreases-run : goal.decreases-run

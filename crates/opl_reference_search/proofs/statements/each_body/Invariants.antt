@@ -1,7 +1,8 @@
 use Rattle.std.proofs.Common.{◌≡◌, map, take}
 use Rattle.opl_trace.specs.SoundCores.{facts_in}
 use Rattle.opl_steps.specs.Steps.{bodies_then}
-use Rattle.opl_reference_search.specs.Tasks.{element, tasks_in}
+use Rattle.opl_choices.specs.Branches.{element}
+use Rattle.opl_reference_search.specs.Tasks.{tasks_in}
 use Rattle.opl_reference_search.specs.Steps.{ways_in}
 use Rattle.opl_reference_search.proofs.statements.each_body.Given as goal
 

@@ -2,7 +2,8 @@ use Rattle.std.proofs.Common.{◌≡◌, ◌∷◌, map, take}
 use Rattle.opl_trace.specs.SoundCores.{facts_in}
 use Rattle.opl_steps.specs.Tasks.Task.{act}
 use Rattle.opl_steps.specs.Steps.{on}
-use Rattle.opl_reference_search.specs.Tasks.{statement_in, tasks_in}
+use Rattle.opl_choices.specs.Branches.{statement_in}
+use Rattle.opl_reference_search.specs.Tasks.{tasks_in}
 use Rattle.opl_reference_search.specs.Steps.{ways_in}
 use Rattle.opl_reference_search.proofs.statements.each_step.Given as goal
 

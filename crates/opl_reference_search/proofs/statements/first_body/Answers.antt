@@ -1,7 +1,8 @@
 use Rattle.std.specs.Prelude.{slice_index_or}
 use Rattle.std.proofs.Common.{refl, ◌<◌, length, arith}
 use Rattle.opl_trace.specs.SoundCores.{facts_in}
-use Rattle.opl_reference_search.specs.Tasks.{element, tasks_in}
+use Rattle.opl_choices.specs.Branches.{element}
+use Rattle.opl_reference_search.specs.Tasks.{tasks_in}
 use Rattle.opl_reference_search.proofs.Performed.{first_made}
 use Rattle.opl_reference_search.proofs.statements.first_body.Goals as goal
 

@@ -1,20 +1,15 @@
 use Rattle.std.proofs.Common.{◌++◌, ap, ◌∙◌}
 use Rattle.opl_trace.specs.SoundCores.{facts_in}
-use Rattle.opl_reference_search.specs.Tasks.{element, tasks_in}
+use Rattle.opl_choices.specs.Branches.{element}
+use Rattle.opl_reference_search.specs.Tasks.{tasks_in}
 use Rattle.opl_reference_search.proofs.Performed.{all_sound, for_sound, select_sound, if_sound, taken_are_sound, post_made, block_made, try_made, all_made, for_made, select_made, once_made, while_made, if_made, generate_made, rank_made}
 use Rattle.opl_reference_search.proofs.statements.perform.Goals as goal
 
-pub taken-requires-clause-sound : goal.taken-requires-clause-sound
-taken-requires-clause-sound g c = all_sound c.args.search.now.core.now c.args.step.now c.in-TryAll.elements _ c.in-TryAll.is c.as_slice-in-TryAll.ensures c.requires.sound
-
 pub ordered-requires-clause-sound : goal.ordered-requires-clause-sound
-ordered-requires-clause-sound g c =
-    let core = c.args.search.now.core.now in
-    taken_are_sound core c.args.sets.now (λ e. element core e.now) _ c.in_ok-taken-in-TryAll.taken _
-    (all_sound core c.args.step.now c.in-TryAll.elements _ c.in-TryAll.is c.as_slice-in-TryAll.ensures c.requires.sound) c.in_ok-taken-in-TryAll.ensures c.as_slice-in-TryAll-2.ensures
+ordered-requires-clause-sound g c = all_sound c.args.search.now.core.now c.args.step.now c.in-TryAll.elements _ c.in-TryAll.is c.as_slice-in-TryAll.ensures c.requires.sound
 
-pub taken-requires-in-ForAll-clause-sound : goal.taken-requires-in-ForAll-clause-sound
-taken-requires-in-ForAll-clause-sound g c = for_sound c.args.search.now.core.now c.args.step.now c.in-ForAll.elements _ c.in-ForAll.is c.as_slice-in-ForAll.ensures c.requires.sound
+pub taken-requires-clause-sound : goal.taken-requires-clause-sound
+taken-requires-clause-sound g c = for_sound c.args.search.now.core.now c.args.step.now c.in-ForAll.elements _ c.in-ForAll.is c.as_slice-in-ForAll.ensures c.requires.sound
 
 pub taken-requires-in-Select-clause-sound : goal.taken-requires-in-Select-clause-sound
 taken-requires-in-Select-clause-sound g c = select_sound c.args.search.now.core.now c.args.step.now c.in-Select.elements _ c.in-Select.is c.as_slice-in-Select.ensures c.requires.sound
@@ -47,8 +42,8 @@ pub returns-in_ok-each_body-in-TryAll : goal.returns-in_ok-each_body-in-TryAll
 returns-in_ok-each_body-in-TryAll g c =
     let core = c.args.search.now.core.now in
     all_made core c.args.sets.now (facts_in core c.args.posted.now) c.args.left (tasks_in core c.args.others.now) c.args.step.now (λ e. element core e.now) c.in-TryAll.elements c.as_slice-in-TryAll.result.now
-    c.in_ok-taken-in-TryAll.taken c.as_slice-in-TryAll-2.result.now c.in_ok-ordered-in-TryAll.ordered c.as_slice-in-TryAll-3.result.now _
-    c.in-TryAll.is c.as_slice-in-TryAll.ensures c.in_ok-taken-in-TryAll.ensures c.as_slice-in-TryAll-2.ensures c.in_ok-ordered-in-TryAll.ensures c.as_slice-in-TryAll-3.ensures c.in_ok-each_body-in-TryAll.ensures
+    c.in_ok-ordered-in-TryAll.ordered c.as_slice-in-TryAll-2.result.now _
+    c.in-TryAll.is c.as_slice-in-TryAll.ensures c.in_ok-ordered-in-TryAll.ensures c.as_slice-in-TryAll-2.ensures c.in_ok-each_body-in-TryAll.ensures
 
 pub returns-in_ok-with_task-in-ForAll : goal.returns-in_ok-with_task-in-ForAll
 returns-in_ok-with_task-in-ForAll g c =

@@ -1,7 +1,8 @@
 use Rattle.std.proofs.Common.{◌∷◌, map, ap, sym, ◌∙◌}
 use Rattle.opl_trace.specs.SoundCores.{facts_in}
 use Rattle.opl_steps.specs.Steps.{visited, next_step}
-use Rattle.opl_reference_search.specs.Tasks.{element, tasks_in}
+use Rattle.opl_choices.specs.Branches.{element}
+use Rattle.opl_reference_search.specs.Tasks.{tasks_in}
 use Rattle.opl_reference_search.proofs.step.next_step.Goals as goal
 
 pub returns-in_ok-visit-in-Visit : goal.returns-in_ok-visit-in-Visit

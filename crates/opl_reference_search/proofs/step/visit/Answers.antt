@@ -3,7 +3,8 @@ use Rattle.std.proofs.Common.{refl, ◌<◌, ◌∷◌, length, map, ap, ◌∙�
 use Rattle.opl_trace.specs.SoundCores.{facts_in}
 use Rattle.opl_steps.specs.Tasks.Task.{act, elements}
 use Rattle.opl_steps.specs.Steps.{on}
-use Rattle.opl_reference_search.specs.Tasks.{element, statement_in, tasks_in}
+use Rattle.opl_choices.specs.Branches.{element, statement_in}
+use Rattle.opl_reference_search.specs.Tasks.{tasks_in}
 use Rattle.opl_reference_search.proofs.Performed.{visit_made}
 use Rattle.opl_reference_search.proofs.step.visit.Goals as goal
 

@@ -12,7 +12,7 @@ use Rattle.opl_trace.specs.SoundCores.{AreThere}
 use Rattle.opl_reference_labelling.specs.Labelling.{labelling, values_then}
 use Rattle.opl_trace.specs.SoundCores.{facts_in, AreSound}
 use Rattle.opl_reference_labelling.specs.Outcomes.{outcome, IsSoundOut}
-use Rattle.opl_reference_labelling.proofs.AnswersSound.{same_length}
+use Rattle.opl_choices.proofs.AnswersSound.{same_length}
 use Rattle.opl_reference_labelling.proofs.Labels.{below_at, single_label, values_label, IsUnderWay, begun, spent_way, cut_way, next_way, sound_turn, made_of, nothing_made, made_as, value_sound}
 use Rattle.opl_reference_labelling.proofs.Values.{from_on, from_least, above, rest_is, from_next, IsIn, next_in, shorter}
 use Rattle.opl_reference_labelling.proofs.moment.Search.+labelling.Goals as goal
