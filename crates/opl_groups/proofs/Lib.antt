@@ -1,0 +1,3 @@
+pub mod Courses
+pub mod Leads
+pub mod Steps

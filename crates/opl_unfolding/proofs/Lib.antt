@@ -1,0 +1,7 @@
+mod Lists
+mod Onto
+mod Folds
+pub mod Forms
+mod Visits
+mod Instances
+mod Posted

@@ -1,0 +1,4 @@
+pub mod Onto
+pub mod Unrolling
+pub mod Posted
+pub mod Laws
