@@ -1,0 +1,4 @@
+pub mod Declared
+pub mod Items
+pub mod Laws
+pub mod Mentions
