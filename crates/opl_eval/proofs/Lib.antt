@@ -4,6 +4,7 @@ pub mod Different
 pub mod Evals
 pub mod Examples
 pub mod Keys
+pub mod Items
 pub mod Known
 pub mod Latest
 pub mod Loops

@@ -10,6 +10,7 @@ use Rattle.opl_eval.specs.declared.fault.EvalFault.{EvalFault}
 use Rattle.opl_eval.specs.declared.fault.EvalFault.TheVariants.{OutOfMemory}
 use Rattle.opl_eval.specs.declared.held.Held.{Held}
 use Rattle.opl_eval.specs.declared.held.Held.TheVariants.{Borrowed, Owned}
+use Rattle.opl_eval.specs.declared.item.Item as items
 use Rattle.opl_eval.specs.declared.positions.Positions.{Positions}
 use Rattle.opl_eval.specs.Evaluation.{Item, Parameter, Environment, Found, found}
 
@@ -44,6 +45,10 @@ position_in ps place = or_else (get_by (nat_eq place) ps.places)
 
 abbrev pub item_of : Entry → Item
 item_of e = record { name = e.name; value = e.value; declaration = e.declaration }
+
+-- a declared name that is lent
+abbrev pub lent : items.Item → Item
+lent i = record { name = i.name.now; value = i.value.now; declaration = i.declaration }
 
 abbrev pub parameter_of : parameters.Parameter → Parameter
 parameter_of p = record { name = p.name.now; value = p.value.now }
