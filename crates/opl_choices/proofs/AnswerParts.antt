@@ -12,7 +12,7 @@ use Rattle.opl_expr.specs.declared.forms.Cons.TheVariants as C
 use Rattle.opl_expr.specs.declared.tables.Table.{Table}
 use Rattle.opl_expr.specs.declared.tables.Resource.{Resource}
 use Rattle.opl_expr.specs.declared.tables.Use.{Use}
-use Rattle.opl_expr.specs.Forms.{Term, Terms, Fact, terms_of, facts_of, constant_value, product, compared, defined, all_different, demand_at, capacity_at, term, fact}
+use Rattle.opl_expr.specs.Forms.{Term, Terms, Fact, terms_of, facts_of, constant_value, product, compared, demand_at, capacity_at, term, fact}
 use Rattle.opl_expr.specs.Forms.Facts.{no_facts, more_facts}
 use Rattle.opl_expr.specs.Forms.Relation.{equal, at_most}
 use Rattle.opl_expr.proofs.Plain.{term_Const, term_Var, term_Sum, term_Neg, term_Mul, term_Div, term_Rem, term_Abs, term_Min, term_Max, term_At, term_Truth, term_Ask, fact_Fixed, fact_Cmp, fact_And, fact_Or, fact_Imp, fact_Iff, fact_Not, fact_AllDifferent, fact_Capacity, fact_Bound}
@@ -45,32 +45,6 @@ compared_answered F Lt s t = refl
 compared_answered F Le s t = refl
 compared_answered F Gt s t = refl
 compared_answered F Ge s t = refl
-
--- ---- expressions that differ
-
-append_answered : (F : Family) (cs ds : List Fact) → map (answered F) (cs ++ ds) ≡ map (answered F) cs ++ map (answered F) ds
-append_answered F [] ds = refl
-append_answered F (c ∷ cs) ds = ap (λ es. answered F c ∷ es) (append_answered F cs ds)
-
-unequal_answered : (F : Family) (a : Term) (ts : List Term) → map (λ b. Fact.not (Fact.cmp equal (answered_term F a) b)) (map (answered_term F) ts) ≡ map (answered F) (map (λ b. Fact.not (Fact.cmp equal a b)) ts)
-unequal_answered F a [] = refl
-unequal_answered F a (t ∷ ts) = ap (λ es. answered F (Fact.not (Fact.cmp equal a t)) ∷ es) (unequal_answered F a ts)
-
-different_answered : (F : Family) (ts : List Term) → all_different (map (answered_term F) ts) ≡ map (answered F) (all_different ts)
-different_answered F [] = refl
-different_answered F (t ∷ ts) =
-    ap (λ es. answered F (defined t) ∷ es)
-    (ap (λ es. es ++ all_different (map (answered_term F) ts)) (unequal_answered F t ts)
-    ∙ ap (λ es. map (answered F) (map (λ b. Fact.not (Fact.cmp equal t b)) ts) ++ es) (different_answered F ts)
-    ∙ sym (append_answered F (map (λ b. Fact.not (Fact.cmp equal t b)) ts) (all_different ts)))
-
-facts_mapped : (F : Family) (cs : List Fact) → facts_of (map (answered F) cs) ≡ all_answered F (facts_of cs)
-facts_mapped F [] = refl
-facts_mapped F (c ∷ cs) = ap (more_facts (answered F c)) (facts_mapped F cs)
-
-map_twice : {X Y Z : Type 0} (f : X → Y) (g : Y → Z) (xs : List X) → map (λ x. g (f x)) xs ≡ map g (map f xs)
-map_twice f g [] = refl
-map_twice f g (x ∷ xs) = ap (λ ys. g (f x) ∷ ys) (map_twice f g xs)
 
 -- ---- capacities, which ask nothing
 
@@ -245,9 +219,7 @@ module _ (tables : List Table) (resources : List Resource) (F : Family) where
   pub made_AllDifferent : (c : Cons) (es gs rs : List Expr) → c ≡ C.AllDifferent es → gs ≡ es → map tm rs ≡ map (λ e. answered_term F (tm e)) gs → ft (C.AllDifferent rs) ≡ answered F (ft c)
   made_AllDifferent c es gs rs i j p =
       fact_AllDifferent tables resources rs
-      ∙ ap (λ ts. Fact.and (facts_of (all_different ts))) (p ∙ ap (λ zs. map (λ e. answered_term F (tm e)) zs) j ∙ map_twice tm (answered_term F) es)
-      ∙ ap (λ ds. Fact.and (facts_of ds)) (different_answered F (map tm es))
-      ∙ ap Fact.and (facts_mapped F (all_different (map tm es)))
+      ∙ ap Fact.different (parts es gs rs j p)
       ∙ sym (ap (answered F) (ap ft i ∙ fact_AllDifferent tables resources es))
 
   pub made_Capacity : (c : Cons) (r : ℕ) (t u : ℤ) → c ≡ C.Capacity r t → u ≡ t → ft (C.Capacity r u) ≡ answered F (ft c)

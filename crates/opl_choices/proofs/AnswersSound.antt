@@ -9,7 +9,7 @@ use Rattle.opl_domain.specs.Family.{Family, IsFamily, IsRising, Below, set_of, h
 use Rattle.opl_expr.specs.declared.forms.Ask.{Ask}
 use Rattle.opl_expr.specs.declared.forms.Ask.TheVariants.{Size, Least, Greatest}
 use Rattle.opl_expr.specs.Forms.{Term, Terms, Fact, Facts, product}
-use Rattle.opl_expr.specs.Sound.{IsSmall, IsSome, set_magnitude, var_magnitude, term_magnitude, sum_magnitude, greatest_magnitude, FitDimensions, IsSoundTerm, AreSoundTerms, IsSoundFact, AreSoundFacts}
+use Rattle.opl_expr.specs.Sound.{IsSmall, IsSome, set_magnitude, var_magnitude, term_magnitude, sum_magnitude, greatest_magnitude, FitDimensions, AreComparable, IsSoundTerm, AreSoundTerms, IsSoundFact, AreSoundFacts}
 use Rattle.opl_expr.proofs.Parts.{product_cases}
 use Rattle.opl_trace.specs.Answers.{answer, answered_term, answered_terms, answered, all_answered}
 use Rattle.opl_expr.specs.declared.model.Core.{Core}
@@ -18,7 +18,7 @@ use Rattle.opl_domain.proofs.Members.{member_first, member_later, from_values, c
 use Rattle.opl_domain.proofs.Sets.{hull_made, first_is_least, last_is_greatest}
 use Rattle.opl_choices.proofs.AnswerParts.{some_values}
 use Rattle.std.proofs.Common.{zero, ◌-◌, map, get_or, neg_ℤ}
-use Rattle.opl_trace.specs.Questions.{ask_magnitude, open_magnitude, open_sum, open_greatest, FitOpen, IsOpenTerm, AreOpenTerms, IsOpenFact, AreOpenFacts}
+use Rattle.opl_trace.specs.Questions.{ask_magnitude, open_magnitude, open_sum, open_greatest, FitOpen, AreOpenComparable, IsOpenTerm, AreOpenTerms, IsOpenFact, AreOpenFacts}
 
 -- no answer is greater than the magnitude of its question
 pub record AreBounded (sets : List (ℤ × ℤ)) (F : Family) : Type 0 where
@@ -79,6 +79,10 @@ module _ (sets : List (ℤ × ℤ)) (F : Family) (bounded : AreBounded sets F) w
     greatest_answers Terms.no_terms s = omega arith
     greatest_answers (Terms.more_terms t ts) s = let a = term_answer t s.0 in omega (arith, a.small, greatest_answers ts s.1)
 
+    comparable_answers : (ts : Terms) → AreOpenComparable sets ts → AreOpenTerms sets ts → AreComparable sets (answered_terms F ts)
+    comparable_answers Terms.no_terms f s = tt
+    comparable_answers (Terms.more_terms t ts) f s = let a = term_answer t s.0 in (omega (arith, a.small, greatest_answers ts s.1, f.0), comparable_answers ts f.1 s.1)
+
     fit_dimensions : (dims : List (List ℤ)) (ts : Terms) → FitOpen sets dims ts → AreOpenTerms sets ts → FitDimensions sets dims (answered_terms F ts)
     fit_dimensions [] Terms.no_terms f s = tt
     fit_dimensions [] (Terms.more_terms t ts) f s = absurd f
@@ -92,6 +96,7 @@ module _ (sets : List (ℤ × ℤ)) (F : Family) (bounded : AreBounded sets F) w
     fact_sound (Fact.or cs) s = facts_sound cs s
     fact_sound (Fact.iff c d) s = (fact_sound c s.0, fact_sound d s.1)
     fact_sound (Fact.not c) s = fact_sound c s
+    fact_sound (Fact.different ts) s = (comparable_answers ts s.0 s.1, terms_sound ts s.1)
     fact_sound (Fact.bound x) s = tt
 
     facts_sound : (cs : Facts) → AreOpenFacts sets cs → AreSoundFacts sets (all_answered F cs)

@@ -1,25 +1,24 @@
 -- No value of a sound expression is greater in absolute value than its magnitude.
-use Rattle.std.proofs.Common.{◌≡◌, ◌≢◌, ◌⊎◌, ℕ, zero, suc, ◌+◌, ◌*◌, ◌/◌, ◌%◌, ◌≤◌, ◌<◌, ◌^◌, max, Bool, true, false, cond, ◌&&◌, refl, List, [], ◌∷◌, map, length, ℤ, pos, negsuc, ◌+ℤ◌, ◌*ℤ◌, neg_ℤ, ◌≤ℤ◌, ap, sym, ◌∙◌, subst, arith, inl, inr}
+use Rattle.std.proofs.Common.{◌≡◌, ℕ, zero, suc, ◌+◌, ◌*◌, ◌≤◌, ◌<◌, max, Bool, true, false, cond, ◌&&◌, refl, List, [], ◌∷◌, map, length, ℤ, pos, negsuc, ◌+ℤ◌, ◌*ℤ◌, neg_ℤ, ◌≤ℤ◌, ap, sym, ◌∙◌, arith, inl, inr}
 use Rattle.std.specs.Prelude.{int_le, int_div, int_rem, unsigned_abs, slice_index_or, Option, Some, None}
 use Rattle.std.specs.Ordering.{int_eq}
 use Rattle.std.specs.List.{list_all}
 use Rattle.std.proofs.lemmas.Bool.{ltb-true}
 use Rattle.std.proofs.Math.Nat.{mul-le-mul, div-le_self, mod-le}
 use Rattle.std.proofs.lemmas.Int.{ints, unsigned_abs-mul}
-use Rattle.opl_domain.specs.Span.{Span, IsWithin, smaller, larger, values}
+use Rattle.opl_domain.specs.Span.{smaller, larger, values}
 use Rattle.opl_domain.specs.Family.{Family, member}
 use Rattle.opl_domain.proofs.Numbers.{smaller_tells, larger_tells}
 use Rattle.opl_domain.proofs.Members.{from_values}
 use Rattle.opl_expr.specs.declared.model.Core.{Core}
-use Rattle.opl_expr.specs.declared.tables.Table.{Table}
 use Rattle.opl_expr.specs.declared.tables.Cell.{Cell}
 use Rattle.opl_expr.specs.declared.tables.Cell.TheVariants as cell
-use Rattle.opl_expr.specs.Forms.{Relation, Term, Terms, Fact, Facts}
-use Rattle.opl_expr.specs.Options.{lift1, bind1, lift, bind, lift_all, lift_more, lift_some, combined, joined}
-use Rattle.opl_expr.specs.Range.{chosen, taken, masks, look_up}
+use Rattle.opl_expr.specs.Forms.{Term, Terms}
+use Rattle.opl_expr.specs.Options.{lift1, lift, bind, lift_all, lift_some, combined, joined}
+use Rattle.opl_expr.specs.Range.{chosen, taken, masks}
 use Rattle.opl_expr.specs.Holds.{bit, value_at, quotient, remainder, is_index, cell_value, value, all_values, holds}
 use Rattle.opl_expr.specs.Solutions.{declared, is_among}
-use Rattle.opl_expr.specs.Sound.{IsSmall, set_magnitude, var_magnitude, cell_magnitude, cells_magnitude, table_magnitude, term_magnitude, sum_magnitude, greatest_magnitude, IsSoundTerm, AreSoundTerms, is_there}
+use Rattle.opl_expr.specs.Sound.{IsSmall, set_magnitude, var_magnitude, cell_magnitude, cells_magnitude, term_magnitude, sum_magnitude, greatest_magnitude, IsSoundTerm, AreSoundTerms, is_there}
 
 -- ---- results that are there
 

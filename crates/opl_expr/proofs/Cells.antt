@@ -1,94 +1,50 @@
 -- The cell that subscripts name, and the pairs of an `alldifferent`, as the code finds them.
-use Rattle.std.proofs.Common.{◌≡◌, ◌≢◌, ◌⊎◌, cond, max, ℕ, zero, suc, ◌+◌, ◌-◌, ◌*◌, ◌/◌, ◌≤◌, ◌<◌, Bool, true, false, ◌&&◌, ◌||◌, refl, List, [], ◌∷◌, ◌++◌, map, length, get_or, take, drop, ℤ, pos, negsuc, ◌+ℤ◌, ◌*ℤ◌, ap, sym, ◌∙◌, subst, arith, add-one, length-append, inl, inr}
+use Rattle.std.proofs.Common.{◌≡◌, ◌⊎◌, cond, max, ℕ, zero, suc, ◌+◌, ◌-◌, ◌*◌, ◌/◌, ◌≤◌, ◌<◌, Bool, true, false, ◌&&◌, refl, List, [], ◌∷◌, ◌++◌, map, length, get_or, take, drop, ℤ, pos, negsuc, ◌+ℤ◌, ◌*ℤ◌, ap, sym, ◌∙◌, subst, arith, length-append, inl, inr}
 use Rattle.std.specs.List.{list_all, flat_map}
 use Rattle.std.specs.Prelude.{Option, Some, None, not, int_le, int_lt}
 use Rattle.std.specs.Ordering.{int_eq}
 use Rattle.std.proofs.Math.Nat.{mul-le-mul_right, mul-div_cancel_left}
 use Rattle.std.proofs.lemmas.Int.{ints}
-use Rattle.std.proofs.lemmas.Bool.Decides.{Decides-int_eq}
 use Rattle.opl_domain.specs.Family.{member}
 use Rattle.opl_domain.proofs.Members.{same_int}
-use Rattle.opl_expr.specs.declared.forms.Op.{Op}
 use Rattle.opl_expr.specs.declared.forms.Op.TheVariants.{Ne}
-use Rattle.opl_expr.specs.declared.tables.Table.{Table}
 use Rattle.opl_expr.specs.declared.tables.Cell.{Cell}
 use Rattle.opl_expr.specs.declared.tables.Use.{Use}
 use Rattle.opl_expr.specs.declared.tables.Resource.{Resource}
-use Rattle.opl_expr.specs.Forms.{Relation, Term, Terms, Fact, Facts, terms_of, facts_of, defined, all_different, demand_at, capacity_at}
-use Rattle.opl_expr.specs.Forms.Relation.{equal}
+use Rattle.opl_expr.specs.Forms.{Relation, Term, Fact, terms_of, demand_at, capacity_at}
 use Rattle.opl_expr.specs.Options.{lift, lift1, lift_all, lift_onto, joined}
-use Rattle.opl_expr.specs.Range.{taken, chosen, masks}
-use Rattle.opl_expr.specs.Holds.{value, holds, all_values, all_hold, op_relates, is_index, cell_value, place_in, relates, bit, value_at, demand_of, total_demand, is_active}
+use Rattle.opl_expr.specs.Range.{taken, chosen, masks, pairwise}
+use Rattle.opl_expr.specs.Holds.{value, holds, all_values, op_relates, is_index, cell_value, place_in, relates, bit, value_at, demand_of, total_demand}
 use Rattle.opl_expr.specs.Laws.{all_differ}
-use Rattle.opl_expr.specs.Sound.{IsSmall, IsSoundTerm, AreSoundTerms, IsSoundFact, AreSoundFacts, FitDimensions, keys, is_there, sum_magnitude, UsesThere, demands}
-use Rattle.opl_expr.proofs.SingleValues.{none, none_append, not_any, same_all, flat_none, chosen_none, absent, none_index, not_true, both}
+use Rattle.opl_expr.specs.Sound.{IsSmall, AreSoundTerms, IsSoundFact, FitDimensions, keys, is_there, sum_magnitude, UsesThere, demands}
+use Rattle.opl_expr.proofs.SingleValues.{none, not_any, same_all, flat_none, chosen_none, absent, none_index, not_true, both}
 use Rattle.opl_expr.proofs.Parts.{drop_at, one_less}
 
 -- ---- pairs
 
-hold_list : (a : List ℤ) (cs : List Fact) → all_hold a (facts_of cs) ≡ map (holds a) cs
-hold_list a [] = refl
-hold_list a (c ∷ cs) = ap (λ r. holds a c ∷ r) (hold_list a cs)
-
-onto_append : {A : Type 0} (f : A → A → A) (e : A) (xs ys : List (Option A)) → lift_all f e (xs ++ ys) ≡ lift_onto f xs (lift_all f e ys)
+pub onto_append : {A : Type 0} (f : A → A → A) (e : A) (xs ys : List (Option A)) → lift_all f e (xs ++ ys) ≡ lift_onto f xs (lift_all f e ys)
 onto_append f e [] ys = refl
 onto_append f e (x ∷ xs) ys = ap (lift f x) (onto_append f e xs ys)
 
-map_append : {A B : Type 0} (f : A → B) (xs ys : List A) → map f (xs ++ ys) ≡ map f xs ++ map f ys
-map_append f [] ys = refl
-map_append f (x ∷ xs) ys = ap (λ r. f x ∷ r) (map_append f xs ys)
+values_mapped : {B : Type 0} (f : Option ℤ → B) (a : List ℤ) (ts : List Term) → map f (all_values a (terms_of ts)) ≡ map (λ b. f (value a b)) ts
+values_mapped f a [] = refl
+values_mapped f a (t ∷ ts) = ap (λ r. f (value a t) ∷ r) (values_mapped f a ts)
 
-ne_is : (o p : Option ℤ) → lift1 not (lift (relates equal) o p) ≡ lift (op_relates Ne) o p
-ne_is None p = refl
-ne_is (Some u) None = refl
-ne_is (Some u) (Some v) = refl
-
-zero_times : (v : ℤ) → int_eq (pos 0 *ℤ v) (pos 0) ≡ true
-zero_times v = (Decides-int_eq (pos 0 *ℤ v) (pos 0)).1 (nothing v)
-  where
-    nothing : (v : ℤ) → pos 0 *ℤ v ≡ pos 0
-    nothing (pos m) = omega (arith, ints)
-    nothing (negsuc m) = omega (arith, ints)
-
-defined_is : (a : List ℤ) (t : Term) → holds a (defined t) ≡ lift1 (λ v. true) (value a t)
-defined_is a t = cases (value a t)
-  where
-    cases : (o : Option ℤ) → lift (relates equal) (lift1 (λ v. pos 0 *ℤ v) o) (Some (pos 0)) ≡ lift1 (λ v. true) o
-    cases None = refl
-    cases (Some v) = ap Some (zero_times v)
-
-pairs_are : (a : List ℤ) (t : Term) (ts : List Term) → map (holds a) (map (λ b. Fact.not (Fact.cmp equal t b)) ts) ≡ map (λ b. lift (op_relates Ne) (value a t) (value a b)) ts
-pairs_are a t [] = refl
-pairs_are a t (b ∷ ts) = rw (ne_is (value a t) (value a b), pairs_are a t ts) refl
-
-pub differ_more : (a : List ℤ) (t : Term) (ts : List Term) → holds a (Fact.and (facts_of (all_different (t ∷ ts))))
-    ≡ lift (λ b c. b && c) (lift1 (λ v. true) (value a t)) (lift_onto (λ b c. b && c) (map (λ b. lift (op_relates Ne) (value a t) (value a b)) ts) (holds a (Fact.and (facts_of (all_different ts)))))
+pub differ_more : (a : List ℤ) (t : Term) (ts : List Term) → holds a (Fact.different (terms_of (t ∷ ts)))
+    ≡ lift (λ b c. b && c) (lift1 (λ v. true) (value a t)) (lift_onto (λ b c. b && c) (map (λ b. lift (op_relates Ne) (value a t) (value a b)) ts) (holds a (Fact.different (terms_of ts))))
 differ_more a t ts =
-    rw (
-      hold_list a (map (λ b. Fact.not (Fact.cmp equal t b)) ts ++ all_different ts),
-      defined_is a t,
-      map_append (holds a) (map (λ b. Fact.not (Fact.cmp equal t b)) ts) (all_different ts),
-      onto_append (λ b c. b && c) true (map (holds a) (map (λ b. Fact.not (Fact.cmp equal t b)) ts)) (map (holds a) (all_different ts)),
-      pairs_are a t ts,
-      sym (hold_list a (all_different ts)),
-    ) refl
-
-sound_right : (sets : List (ℤ × ℤ)) (xs ys : List Fact) → AreSoundFacts sets (facts_of (xs ++ ys)) → AreSoundFacts sets (facts_of ys)
-sound_right sets [] ys s = s
-sound_right sets (x ∷ xs) ys s = sound_right sets xs ys s.1
-
-pub sound_different : (sets : List (ℤ × ℤ)) (ts : List Term) → AreSoundFacts sets (facts_of (all_different ts)) → AreSoundTerms sets (terms_of ts)
-sound_different sets [] s = tt
-sound_different sets (t ∷ ts) s = (s.0.1.2, sound_different sets ts (sound_right sets (map (λ b. Fact.not (Fact.cmp equal t b)) ts) (all_different ts) s.1))
+    ap (lift (λ b c. b && c) (lift1 (λ v. true) (value a t)))
+    (onto_append (λ b c. b && c) true (map (lift (op_relates Ne) (value a t)) (all_values a (terms_of ts))) (pairwise (lift1 (λ v. true)) (lift (op_relates Ne)) (all_values a (terms_of ts)))
+    ∙ ap (λ ps. lift_onto (λ b c. b && c) ps (holds a (Fact.different (terms_of ts)))) (values_mapped (lift (op_relates Ne) (value a t)) a ts))
 
 map_map : {A B C : Type 0} (g : B → C) (f : A → B) (xs : List A) → map g (map f xs) ≡ map (λ x. g (f x)) xs
 map_map g f [] = refl
 map_map g f (x ∷ xs) = ap (λ r. g (f x) ∷ r) (map_map g f xs)
 
 pub differ_step : {X : Type 0} (a : List ℤ) (f : X → Term) (xs : List X) (L : ℕ) (x : X) (ys : List X) → 0 < L → L ≤ length xs → x ≡ get_or xs (L - 1) x → ys ≡ drop L xs → (q s : Option Bool)
-    → (r : Option ℤ) → r ≡ value a (f x) → q ≡ holds a (Fact.and (facts_of (all_different (map f (drop L xs)))))
+    → (r : Option ℤ) → r ≡ value a (f x) → q ≡ holds a (Fact.different (terms_of (map f (drop L xs))))
     → s ≡ lift (λ b c. b && c) (lift1 (λ v. true) r) (lift_onto (λ b c. b && c) (map (λ e. lift (op_relates Ne) r (value a (f e))) ys) q)
-    → s ≡ holds a (Fact.and (facts_of (all_different (map f (drop (L - 1) xs)))))
+    → s ≡ holds a (Fact.different (terms_of (map f (drop (L - 1) xs))))
 differ_step a f xs L x ys p h e y q s r i j k =
     let d = subst (λ k. drop (L - 1) xs ≡ x ∷ drop k xs) (one_less L p) (drop_at xs (L - 1) x (omega arith) e) in
     let m = differ_more a (f x) (map f (drop L xs)) in

@@ -10,7 +10,7 @@ use Rattle.opl_expr.specs.declared.tables.Table.{Table}
 use Rattle.opl_expr.specs.declared.tables.Cell.TheVariants as cell
 use Rattle.opl_expr.specs.declared.tables.Use.{Use}
 use Rattle.opl_expr.specs.declared.tables.Resource.{Resource}
-use Rattle.opl_expr.specs.Forms.{Term, Fact, terms_of, facts_of, compared, all_different, capacity_at, product}
+use Rattle.opl_expr.specs.Forms.{Term, Fact, terms_of, facts_of, compared, capacity_at, product}
 use Rattle.opl_expr.specs.Forms.Relation.{equal, at_most, below}
 use Rattle.opl_expr.specs.Forms.Term.{const, var, neg, scale, mul, div, rem, abs, truth, asked}
 use Rattle.opl_expr.specs.Forms.Fact.{fixed, cmp, iff, not, bound}
@@ -172,7 +172,7 @@ connectives : map (fact_range family) (
 unfolding set_of hull hull_of smaller larger span_add span_neg span_div span_min span_max values flip same_truth span_scale with_variables never_zero compare
 connectives = refl
 
-differences : map (λ ts. fact_range family (and (all_different ts))) (
+differences : map (λ ts. fact_range family (Fact.different (terms_of ts))) (
     [] ∷ (x ∷ []) ∷ (undefined ∷ []) ∷ (x ∷ y ∷ []) ∷ (x ∷ w ∷ []) ∷ (z ∷ u ∷ []) ∷ (x ∷ y ∷ w ∷ []) ∷ (x ∷ undefined ∷ []) ∷ [])
     ≡ from 1 1 ∷ from 1 1 ∷ None ∷ from 1 1 ∷ from 0 1 ∷ from 0 0 ∷ from 0 1 ∷ None ∷ []
 unfolding set_of hull hull_of smaller larger span_add span_neg span_div span_min values flip span_scale with_variables never_zero compare

@@ -12,7 +12,7 @@ use Rattle.opl_expr.specs.declared.tables.Cell.TheVariants as cell
 use Rattle.opl_expr.specs.Forms.{Relation, Term, Terms, Fact, Facts}
 use Rattle.opl_expr.specs.Forms.Relation.{equal}
 use Rattle.opl_expr.specs.Options.{lift1, bind1, lift, bind, lift_all, lift_more, lift_some, combined, joined}
-use Rattle.opl_expr.specs.Range.{flip, same_truth, is_possible, span_scale, Linear, constant, minus, with_variables, range_of_linear, compare, compare_of, taken, chosen, masks, look_up, cell_range, coef, pure, all_pure, ends, may_be, rest, linears, fact_range, fact_ranges}
+use Rattle.opl_expr.specs.Range.{flip, same_truth, is_possible, span_scale, Linear, constant, minus, with_variables, range_of_linear, compare, compare_of, taken, chosen, masks, look_up, cell_range, pairwise, defined_range, differ_range, coef, pure, all_pure, ends, may_be, rest, linears, fact_range, fact_ranges}
 use Rattle.opl_expr.specs.Laws.{Monotony}
 use Rattle.opl_expr.proofs.Inside.{In, to_inside, of_inside, same_in, add_in, neg_in, flip_in, min_in, max_in, hull_in_hull, in_hull_right, in_hull_left, scale_in, mul_in, abs_in, div_in, rem_in, is_point_in}
 use Rattle.opl_expr.proofs.Comparisons.{hull_in, variables_in, compare_in, same_truth_in}
@@ -165,6 +165,35 @@ range_of_linear_in F G f b e e' l =
     two (Some r) None i = i
     two (Some r) (Some r') i = to_inside (with_variables F e.coef (length F) r) (with_variables G e.coef (length F) r') (variables_in F G f b e.coef (length F) r r' (of_inside r r' i))
 
+-- ---- pairs
+
+zip_append : {A B : Type 0} (R : A → B → Type 0) (xs us : List A) (ys vs : List B) → Zip R xs ys → Zip R us vs → Zip R (xs ++ us) (ys ++ vs)
+zip_append R [] us [] vs z w = w
+zip_append R [] us (y ∷ ys) vs z w = absurd z
+zip_append R (x ∷ xs) us [] vs z w = absurd z
+zip_append R (x ∷ xs) us (y ∷ ys) vs z w = (z.0, zip_append R xs us ys vs z.1 w)
+
+-- what relates each one and each two relates all pairs
+pub zip_pairs : {A B C D : Type 0} (R : A → B → Type 0) (S : C → D → Type 0) (one : A → C) (one' : B → D) (two : A → A → C) (two' : B → B → D)
+    → ((a : A) (b : B) → R a b → S (one a) (one' b)) → ((a c : A) (b d : B) → R a b → R c d → S (two a c) (two' b d))
+    → (xs : List A) (ys : List B) → Zip R xs ys → Zip S (pairwise one two xs) (pairwise one' two' ys)
+zip_pairs R S one one' two two' h k [] [] z = tt
+zip_pairs R S one one' two two' h k [] (y ∷ ys) z = z
+zip_pairs R S one one' two two' h k (x ∷ xs) [] z = z
+zip_pairs R S one one' two two' h k (x ∷ xs) (y ∷ ys) z = (
+  h x y z.0,
+  zip_append S (map (two x) xs) (pairwise one two xs) (map (two' y) ys) (pairwise one' two' ys)
+      (zip_map R S (two x) (two' y) (λ c d r. k x c y d z.0 r) xs ys z.1)
+      (zip_pairs R S one one' two two' h k xs ys z.1),
+)
+
+defined_in : (e e' : Linear) → LinearIn e e' → IsInside (defined_range e) (defined_range e')
+defined_in e e' l = lift1_in (λ r. point (pos 1)) (λ a a' i. same_in (pos 1)) e.rest e'.rest l.inside
+
+differ_in : (F G : Family) → Full F → Below F G → (d e d' e' : Linear) → LinearIn d d' → LinearIn e e' → IsInside (differ_range F d e) (differ_range G d' e')
+differ_in F G f b d e d' e' l m =
+    lift1_in flip flip_in (compare_of equal F (minus d e)) (compare_of equal G (minus d' e')) (compare_of_in equal F G f b (minus d e) (minus d' e') (minus_in d d' e e' l m))
+
 -- ---- tables
 
 pub possible_in : (r r' : Option Span) → IsInside r r' → is_possible r ≡ true → is_possible r' ≡ true
@@ -193,12 +222,6 @@ masks_in F G f b (dim ∷ dims) [] [] z = tt
 masks_in F G f b (dim ∷ dims) [] (e' ∷ es') z = absurd z
 masks_in F G f b (dim ∷ dims) (e ∷ es) [] z = absurd z
 masks_in F G f b (dim ∷ dims) (e ∷ es) (e' ∷ es') z = (zip_same Implies (may_be F e) (may_be G e') (may_be_in F G f b e e' z.0) dim, masks_in F G f b dims es es' z.1)
-
-zip_append : {A B : Type 0} (R : A → B → Type 0) (xs us : List A) (ys vs : List B) → Zip R xs ys → Zip R us vs → Zip R (xs ++ us) (ys ++ vs)
-zip_append R [] us [] vs z w = w
-zip_append R [] us (y ∷ ys) vs z w = absurd z
-zip_append R (x ∷ xs) us [] vs z w = absurd z
-zip_append R (x ∷ xs) us (y ∷ ys) vs z w = (z.0, zip_append R xs us ys vs z.1 w)
 
 and_implies : (b b' c c' : Bool) → Implies b b' → Implies c c' → Implies (b && c) (b' && c')
 and_implies true b' true c' p q e = rw (p refl, q refl) refl
@@ -332,6 +355,9 @@ module _ (F G : Family) (f : Full F) (b : Below F G) where
     fact_in (Fact.or cs) = all_in span_max max_in (point (pos 0)) (point (pos 0)) (same_in (pos 0)) (fact_ranges F cs) (fact_ranges G cs) (facts_in cs)
     fact_in (Fact.iff c d) = lift_in same_truth same_truth_in (fact_range F c) (fact_range G c) (fact_range F d) (fact_range G d) (fact_in c) (fact_in d)
     fact_in (Fact.not c) = lift1_in flip flip_in (fact_range F c) (fact_range G c) (fact_in c)
+    fact_in (Fact.different ts) =
+        all_in span_min min_in (point (pos 1)) (point (pos 1)) (same_in (pos 1)) _ _
+        (zip_pairs LinearIn IsInside defined_range defined_range (differ_range F) (differ_range G) defined_in (differ_in F G f b) (linears F ts) (linears G ts) (linears_in ts))
     fact_in (Fact.bound x) = tt
 
     pub facts_in : (cs : Facts) → Zip IsInside (fact_ranges F cs) (fact_ranges G cs)

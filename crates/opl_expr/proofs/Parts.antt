@@ -1,15 +1,15 @@
 -- The parts of an expression or a constraint, as the code reads them, and the steps of its loops.
-use Rattle.std.proofs.Common.{◌≡◌, ◌≢◌, cond, to_z, of_z, ℕ, zero, suc, ◌+◌, ◌-◌, ◌≤◌, ◌<◌, Bool, true, false, ◌&&◌, ◌||◌, refl, List, [], ◌∷◌, map, length, get_or, drop, ℤ, pos, ◌*◌, ◌+ℤ◌, ◌*ℤ◌, ap, sym, ◌∙◌, subst, arith, add-one}
+use Rattle.std.proofs.Common.{◌≡◌, ◌≢◌, cond, to_z, of_z, ℕ, zero, suc, ◌+◌, ◌-◌, ◌≤◌, ◌<◌, Bool, true, false, ◌||◌, refl, List, [], ◌∷◌, map, length, get_or, drop, ℤ, pos, ◌*◌, ◌+ℤ◌, ◌*ℤ◌, ap, sym, ◌∙◌, subst, arith, add-one}
 use Rattle.std.specs.Prelude.{Option, Some, None, FitsSigned, not, unsigned_abs, int_lt, int_le}
 use Rattle.std.specs.Ordering.{int_eq}
 use Rattle.std.proofs.lemmas.Int.{ints, to_z-of_z}
 use Rattle.std.proofs.Math.IntN.{*ℤ_comm}
 use Rattle.opl_domain.specs.Span.{smaller, larger}
-use Rattle.opl_expr.specs.Forms.{Relation, Term, Terms, Fact, Facts, terms_of, facts_of, constant_value, product_by, product, compared}
+use Rattle.opl_expr.specs.Forms.{Term, Fact, terms_of, facts_of, constant_value, product_by, product, compared}
 use Rattle.opl_expr.specs.declared.forms.Op.{Op}
 use Rattle.opl_expr.specs.declared.forms.Op.TheVariants.{Eq, Ne, Lt, Le, Gt, Ge}
-use Rattle.opl_expr.specs.Options.{lift, lift1, lift_all, lift_more, lift_some}
-use Rattle.opl_expr.specs.Holds.{value, holds, all_values, all_hold, op_relates, is_active, demand_of, total_demand, place_in}
+use Rattle.opl_expr.specs.Options.{lift, lift1}
+use Rattle.opl_expr.specs.Holds.{value, holds, op_relates, is_active, demand_of, total_demand, place_in}
 use Rattle.opl_expr.specs.declared.tables.Use.{Use}
 use Rattle.std.proofs.lemmas.Bool.Decides.{Decides-int_eq}
 use mir.Syntax.{w128}

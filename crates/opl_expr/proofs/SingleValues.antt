@@ -15,13 +15,14 @@ use Rattle.opl_domain.proofs.Rows.{rem_none, rem_one}
 use Rattle.opl_expr.specs.declared.tables.Table.{Table}
 use Rattle.opl_expr.specs.declared.tables.Cell.{Cell}
 use Rattle.opl_expr.specs.declared.tables.Cell.TheVariants as cell
+use Rattle.opl_expr.specs.declared.forms.Op.TheVariants.{Ne}
 use Rattle.opl_expr.specs.Forms.{Relation, Term, Terms, Fact, Facts}
 use Rattle.opl_expr.specs.Forms.Relation.{equal, at_most, below}
 use Rattle.opl_expr.specs.Options.{lift1, bind1, lift, bind, lift_all, lift_more, lift_some, joined}
-use Rattle.opl_expr.specs.Range.{verdict, flip, same_truth, is_possible, span_scale, Linear, constant, minus, weighted, with_variables, range_of_linear, is_one_or_two, has_zero, misses_zero, never_zero, compare, compare_of, taken, chosen, masks, look_up, cell_range, coef, coefs, pure, may_be, rest, linears, fact_range, fact_ranges}
-use Rattle.opl_expr.specs.Holds.{bit, value_at, quotient, remainder, relates, is_index, cell_value, same, value, all_values, holds, all_hold}
+use Rattle.opl_expr.specs.Range.{verdict, flip, same_truth, is_possible, span_scale, Linear, constant, minus, weighted, with_variables, range_of_linear, is_one_or_two, has_zero, misses_zero, never_zero, compare, compare_of, taken, chosen, masks, look_up, cell_range, pairwise, defined_range, differ_range, coef, coefs, pure, may_be, rest, linears, fact_range, fact_ranges}
+use Rattle.opl_expr.specs.Holds.{bit, value_at, quotient, remainder, relates, op_relates, is_index, cell_value, same, value, all_values, holds, all_hold}
 use Rattle.opl_expr.specs.Laws.{singles, all_differ, is_clear, clear, all_clear, clear_fact, clear_facts, Singles, NoneRefuted}
-use Rattle.opl_expr.proofs.Narrower.{scale_point, Zip, possible_in, monotony}
+use Rattle.opl_expr.proofs.Narrower.{scale_point, Zip, zip_pairs, possible_in, monotony}
 use Rattle.opl_expr.proofs.Ring.{plus_times, neg_times, times_times}
 
 -- ---- sets of one value
@@ -492,6 +493,38 @@ truths_flipped : (o : Option Bool) → lift1 flip (lift1 truth_point o) ≡ lift
 truths_flipped None = refl
 truths_flipped (Some b) = ap Some (flip_bit b)
 
+-- ---- pairs
+
+known_single : (a : List ℤ) (e : Linear) (o : Option ℤ) → IsSingle a e o → defined_range e ≡ lift1 truth_point (lift1 (λ v. true) o)
+known_single a e o h = ap (lift1 (λ r. point (pos 1))) h.rests ∙ cases o
+  where
+    cases : (o : Option ℤ) → lift1 (λ r. point (pos 1)) (less a e.coef o) ≡ lift1 truth_point (lift1 (λ v. true) o)
+    cases None = refl
+    cases (Some v) = refl
+
+differ_single : (a : List ℤ) (d e : Linear) (o p : Option ℤ) → IsSingle a d o → IsSingle a e p → differ_range (singles a) d e ≡ lift1 truth_point (lift (op_relates Ne) o p)
+differ_single a d e o p h k = ap (lift1 flip) (compare_of_single equal a d e o p h k) ∙ cases o p
+  where
+    cases : (o p : Option ℤ) → lift1 flip (lift1 truth_point (lift (relates equal) o p)) ≡ lift1 truth_point (lift (op_relates Ne) o p)
+    cases None p = refl
+    cases (Some u) None = refl
+    cases (Some u) (Some v) = ap Some (flip_bit (int_eq u v))
+
+-- the intervals are those of the truths
+abbrev AreTruths : Option Span → Option Bool → Type 0
+AreTruths r o = r ≡ lift1 truth_point o
+
+zip_truths : (rs : List (Option Span)) (os : List (Option Bool)) → Zip AreTruths rs os → rs ≡ map (lift1 truth_point) os
+zip_truths [] [] z = refl
+zip_truths [] (o ∷ os) z = absurd z
+zip_truths (r ∷ rs) [] z = absurd z
+zip_truths (r ∷ rs) (o ∷ os) z = rw (z.0, zip_truths rs os z.1) refl
+
+pairs_single : (a : List ℤ) (es : List Linear) (os : List (Option ℤ)) → Zip (IsSingle a) es os
+    → pairwise defined_range (differ_range (singles a)) es ≡ map (lift1 truth_point) (pairwise (lift1 (λ v. true)) (lift (op_relates Ne)) os)
+pairs_single a es os z =
+    zip_truths _ _ (zip_pairs (IsSingle a) AreTruths defined_range (lift1 (λ v. true)) (differ_range (singles a)) (lift (op_relates Ne)) (known_single a) (λ d e o p. differ_single a d e o p) es os z)
+
 module _ (a : List ℤ) where
   mutual
     pub rest_single : (t : Term) → clear t ≡ true → rest (singles a) t ≡ less a (coef t) (value a t)
@@ -547,6 +580,9 @@ module _ (a : List ℤ) where
     fact_single (Fact.or cs) d = rw (facts_single cs d) (all_truths span_max (λ b c. b || c) false max_bits (all_hold a cs))
     fact_single (Fact.iff b c) d = let e = both (clear_fact b) (clear_fact c) d in rw (fact_single b e.0, fact_single c e.1) (two_truths same_truth same same_bits (holds a b) (holds a c))
     fact_single (Fact.not c) d = rw (fact_single c d) (truths_flipped (holds a c))
+    fact_single (Fact.different ts) d =
+        ap (lift_all span_min (point (pos 1))) (pairs_single a (linears (singles a) ts) (all_values a ts) (linears_single ts d))
+        ∙ all_truths span_min (λ b c. b && c) true min_bits (pairwise (lift1 (λ v. true)) (lift (op_relates Ne)) (all_values a ts))
     fact_single (Fact.bound x) d = refl
 
     pub facts_single : (cs : Facts) → clear_facts cs ≡ true → fact_ranges (singles a) cs ≡ map (lift1 truth_point) (all_hold a cs)

@@ -1,6 +1,6 @@
 -- Ground expressions and constraints as plain data, on which their ranges and their meaning are defined. The forms that
--- are short for others, as `<>`, `=>`, `alldifferent` and a capacity, are written out here.
-use Rattle.std.specs.Prelude.{ℕ, Bool, true, List, [], ◌∷◌, ◌++◌, map, ℤ, pos, Option, Some, None, slice_get}
+-- are short for others, as `<>`, `=>` and a capacity, are written out here.
+use Rattle.std.specs.Prelude.{ℕ, Bool, List, [], ◌∷◌, map, ℤ, pos, Option, Some, None, slice_get}
 use Rattle.opl_expr.specs.declared.forms.Ask.{Ask}
 use Rattle.opl_expr.specs.declared.forms.Op.{Op}
 use Rattle.opl_expr.specs.declared.forms.Op.TheVariants.{Eq, Ne, Lt, Le, Gt, Ge}
@@ -40,7 +40,7 @@ mutual
     no_terms : Terms
     more_terms : Term → Terms → Terms
 
-  -- a constraint
+  -- a constraint; `different` says that expressions are defined and differ pairwise
   pub data Fact : Type 0 where
     fixed : Bool → Fact
     cmp : Relation → Term → Term → Fact
@@ -48,6 +48,7 @@ mutual
     or : Facts → Fact
     iff : Fact → Fact → Fact
     not : Fact → Fact
+    different : Terms → Fact
     bound : ℕ → Fact
 
   pub data Facts : Type 0 where
@@ -74,15 +75,6 @@ compared Lt a b = cmp below a b
 compared Le a b = cmp at_most a b
 compared Gt a b = cmp below b a
 compared Ge a b = cmp at_most b a
-
--- holds wherever a has a value
-abbrev pub defined : Term → Fact
-defined a = cmp equal (scale (pos 0) a) (const (pos 0))
-
--- each expression is defined, and differs from each later one
-abbrev pub all_different : List Term → List Fact
-all_different [] = []
-all_different (a ∷ others) = defined a ∷ (map (λ b. not (cmp equal a b)) others ++ all_different others)
 
 -- the number that an expression is, if it is one
 abbrev pub constant_value : Term → Option ℤ
@@ -135,7 +127,7 @@ module _ (tables : List Table) (resources : List Resource) where
   fact_layer (Cons-F.Imp a b) = or (more_facts (not a) (more_facts b no_facts))
   fact_layer (Cons-F.Iff a b) = iff a b
   fact_layer (Cons-F.Not a) = not a
-  fact_layer (Cons-F.AllDifferent parts) = and (facts_of (all_different parts))
+  fact_layer (Cons-F.AllDifferent parts) = different (terms_of parts)
   fact_layer (Cons-F.Capacity r t) = capacity_at (slice_get resources r) t
   fact_layer (Cons-F.Bound x) = bound x
 

@@ -10,7 +10,7 @@ use Rattle.opl_expr.specs.declared.tables.Cell.TheVariants as cell
 use Rattle.opl_expr.specs.Forms.{Relation, Term, Terms, Fact, Facts}
 use Rattle.opl_expr.specs.Forms.Relation.{equal, at_most, below}
 use Rattle.opl_expr.specs.Options.{lift1, lift, bind, lift_all, lift_some}
-use Rattle.opl_expr.specs.Range.{look_up}
+use Rattle.opl_expr.specs.Range.{look_up, pairwise}
 
 -- a truth as a number
 abbrev pub bit : Bool → ℤ
@@ -101,6 +101,7 @@ module _ (a : List ℤ) where
     holds (Fact.or cs) = lift_all (λ b c. b || c) false (all_hold cs)
     holds (Fact.iff c d) = lift same (holds c) (holds d)
     holds (Fact.not c) = lift1 not (holds c)
+    holds (Fact.different ts) = lift_all (λ b c. b && c) true (pairwise (lift1 (λ v. true)) (lift (op_relates Ne)) (all_values ts))
     holds (Fact.bound x) = None
 
     pub all_hold : Facts → List (Option Bool)

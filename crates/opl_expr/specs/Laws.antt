@@ -57,6 +57,7 @@ abbrev mutual
   clear_fact (Fact.or cs) = clear_facts cs
   clear_fact (Fact.iff c d) = clear_fact c && clear_fact d
   clear_fact (Fact.not c) = clear_fact c
+  clear_fact (Fact.different ts) = all_clear ts
   clear_fact (Fact.bound x) = true
 
   pub clear_facts : Facts → Bool

@@ -1,5 +1,5 @@
 -- The range of an expression or a constraint over a family: an interval, or none where it is surely undefined.
-use Rattle.std.specs.Prelude.{ℕ, zero, suc, ◌+◌, Bool, true, false, cond, ◌&&◌, ◌||◌, List, [], ◌∷◌, map, length, ℤ, pos, negsuc, ◌+ℤ◌, ◌*ℤ◌, neg_ℤ, int_le, int_lt, nat_eq, Option, Some, None}
+use Rattle.std.specs.Prelude.{ℕ, zero, suc, ◌+◌, Bool, true, false, cond, ◌&&◌, ◌||◌, List, [], ◌∷◌, ◌++◌, map, length, ℤ, pos, negsuc, ◌+ℤ◌, ◌*ℤ◌, neg_ℤ, int_le, int_lt, nat_eq, Option, Some, None}
 use Rattle.std.specs.List.{list_any, flat_map}
 use Rattle.std.specs.Ordering.{int_eq}
 use Rattle.opl_domain.specs.Span.{Span, smaller, larger, point, is_point}
@@ -126,6 +126,21 @@ abbrev pub cell_range : Family → Cell → Span
 cell_range F (cell.Const k) = point k
 cell_range F (cell.Var x) = hull F x
 
+-- ---- pairs
+
+-- what each of a list gives alone, and then with each later one
+abbrev pub pairwise : {E R : Type 0} → (E → R) → (E → E → R) → List E → List R
+pairwise alone two [] = []
+pairwise alone two (e ∷ others) = alone e ∷ (map (two e) others ++ pairwise alone two others)
+
+-- 1 where an expression has a range
+abbrev pub defined_range : Linear → Option Span
+defined_range e = lift1 (λ r. point (pos 1)) e.rest
+
+-- the range of two expressions being different
+abbrev pub differ_range : Family → Linear → Linear → Option Span
+differ_range F d e = lift1 flip (compare_of equal F (minus d e))
+
 -- ---- the coefficient of a variable in an expression, and whether the expression has no part that isn't linear
 
 abbrev mutual
@@ -196,6 +211,7 @@ module _ (F : Family) where
     fact_range (Fact.or cs) = lift_all span_max (point (pos 0)) (fact_ranges cs)
     fact_range (Fact.iff a b) = lift same_truth (fact_range a) (fact_range b)
     fact_range (Fact.not c) = lift1 flip (fact_range c)
+    fact_range (Fact.different ts) = lift_all span_min (point (pos 1)) (pairwise defined_range (differ_range F) (linears ts))
     fact_range (Fact.bound x) = None
 
     pub fact_ranges : Facts → List (Option Span)

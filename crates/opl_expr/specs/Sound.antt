@@ -1,12 +1,12 @@
 -- Magnitudes of expressions, and what a sound expression or constraint keeps: its magnitudes are below 2^127, it names
 -- variables, tables and resources that are there, and no question stands in it.
-use Rattle.std.specs.Prelude.{◌≡◌, ℕ, zero, suc, ◌+◌, ◌*◌, ◌^◌, ◌<◌, ◌≤◌, max, Bool, true, false, cond, ◌&&◌, List, [], ◌∷◌, length, ℤ, pos, int_le, unsigned_abs, nat_lt, slice_index_or, Option, Some, None}
+use Rattle.std.specs.Prelude.{◌≡◌, ℕ, ◌+◌, ◌*◌, ◌^◌, ◌<◌, max, Bool, true, cond, List, [], ◌∷◌, length, ℤ, pos, int_le, unsigned_abs, nat_lt, slice_index_or, Option, Some, None}
 use Rattle.std.specs.List.{list_all}
 use Rattle.opl_expr.specs.declared.tables.Table.{Table}
 use Rattle.opl_expr.specs.declared.tables.Cell.{Cell}
 use Rattle.opl_expr.specs.declared.tables.Use.{Use}
 use Rattle.opl_expr.specs.declared.tables.Cell.TheVariants as cell
-use Rattle.opl_expr.specs.Forms.{Relation, Term, Terms, Fact, Facts}
+use Rattle.opl_expr.specs.Forms.{Term, Terms, Fact, Facts}
 use Rattle.opl_expr.specs.Laws.{is_clear}
 
 -- the greatest magnitude is 2^127 - 1
@@ -94,6 +94,11 @@ module _ (sets : List (ℤ × ℤ)) where
   IsSome Terms.no_terms = ⊥
   IsSome (Terms.more_terms t ts) = Unit {0}
 
+  -- each two of the expressions can be compared
+  abbrev pub AreComparable : Terms → Type 0
+  AreComparable Terms.no_terms = Unit {0}
+  AreComparable (Terms.more_terms t ts) = IsSmall (term_magnitude t + greatest_magnitude ts) × AreComparable ts
+
   abbrev mutual
     pub IsSoundTerm : Term → Type 0
     IsSoundTerm (Term.const k) = IsSmall (unsigned_abs k)
@@ -122,6 +127,7 @@ module _ (sets : List (ℤ × ℤ)) where
     IsSoundFact (Fact.or cs) = AreSoundFacts cs
     IsSoundFact (Fact.iff c d) = IsSoundFact c × IsSoundFact d
     IsSoundFact (Fact.not c) = IsSoundFact c
+    IsSoundFact (Fact.different ts) = AreComparable ts × AreSoundTerms ts
     IsSoundFact (Fact.bound x) = ⊥
 
     pub AreSoundFacts : Facts → Type 0

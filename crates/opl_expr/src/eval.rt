@@ -2,7 +2,7 @@
 ghost use Rattle.std.specs.Prelude.{◌≡◌, ◌<◌, ◌≤◌, ◌*◌, true, ℤ, ℕ, map, length, ◌&&◌, ◌||◌, false, not, IsTrue, Option, Some, slice_get, take, drop};
 ghost use Rattle.std.specs.List.{list_all};
 ghost use Rattle.opl_expr.specs.Options.{joined};
-ghost use Rattle.opl_expr.specs.Forms.{Term, Fact, Facts, term, fact, terms_of, facts_of, all_different};
+ghost use Rattle.opl_expr.specs.Forms.{Term, Fact, Facts, term, fact, terms_of, facts_of};
 ghost use Rattle.opl_expr.specs.Range.{chosen, taken, masks};
 ghost use Rattle.opl_expr.specs.Holds.{value, holds, all_values, all_hold, cell_value, is_index, place_in, is_active, total_demand};
 ghost use Rattle.opl_expr.specs.Solutions.{declared, is_among};
@@ -240,7 +240,7 @@ fn some_hold(core: &Core, parts: &[Cons], values: &[i64]) -> Option<bool>
 fn all_differ(core: &Core, parts: &[Expr], values: &[i64]) -> Option<bool>
     requires sound { AreSoundTerms core.now.sets (terms_of (map (term core.now.tables core.now.resources) parts.now)) }
     requires among { is_among values.now (declared core.now) ≡ true }
-    ensures { result ≡ holds values.now (Fact.and (facts_of (all_different (map (term core.now.tables core.now.resources) parts.now)))) }
+    ensures { result ≡ holds values.now (Fact.different (terms_of (map (term core.now.tables core.now.resources) parts.now))) }
 {
     let mut found = Some(true);
     let mut left = parts.len();

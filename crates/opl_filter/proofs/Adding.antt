@@ -9,7 +9,7 @@ use Rattle.opl_expr.specs.declared.forms.Op.TheVariants.{Eq, Ne, Lt, Le, Gt, Ge}
 use Rattle.opl_expr.specs.declared.tables.Use.{Use}
 use Rattle.opl_expr.specs.declared.tables.Cell.{Cell}
 use Rattle.opl_expr.specs.declared.tables.Resource.{Resource}
-use Rattle.opl_expr.specs.Forms.{Relation, Term, Terms, Fact, Facts, terms_of, facts_of, compared, product, defined, all_different, demand_at, capacity_at}
+use Rattle.opl_expr.specs.Forms.{Relation, Term, Terms, Fact, Facts, terms_of, facts_of, compared, product, demand_at, capacity_at}
 use Rattle.opl_expr.specs.Forms.Relation.{equal}
 use Rattle.opl_expr.specs.Forms.Facts.{no_facts, more_facts}
 use Rattle.opl_expr.proofs.Parts.{product_cases, any_default}
@@ -149,31 +149,6 @@ in_compared Ge s t y = or_turned (term_mentions s y) (term_mentions t y)
 
 pub in_implied : (c d : Fact) (y : ℕ) → (mentions c y || mentions d y) ≡ mentions (Fact.or (more_facts (Fact.not c) (more_facts d no_facts))) y
 in_implied c d y = ap (λ b. mentions c y || b) (or_none (mentions d y))
-
-facts_append : (cs ds : List Fact) (y : ℕ) → facts_mention (facts_of (cs ++ ds)) y ≡ (facts_mention (facts_of cs) y || facts_mention (facts_of ds) y)
-facts_append [] ds y = refl
-facts_append (c ∷ cs) ds y = ap (λ b. mentions c y || b) (facts_append cs ds y) ∙ sym (or_again (mentions c y) (facts_mention (facts_of cs) y) (facts_mention (facts_of ds) y))
-
-in_pairs : (s : Term) (others : List Term) (y : ℕ) → term_mentions s y ≡ false → facts_mention (facts_of (map (λ t. Fact.not (Fact.cmp equal s t)) others)) y ≡ terms_mention (terms_of others) y
-in_pairs s [] y h = refl
-in_pairs s (t ∷ others) y h = ap (λ b. (b || term_mentions t y) || facts_mention (facts_of (map (λ t. Fact.not (Fact.cmp equal s t)) others)) y) h ∙ ap (λ b. term_mentions t y || b) (in_pairs s others y h)
-
-or_self : (b : Bool) → (b || b) ≡ b
-or_self true = refl
-or_self false = refl
-
-by_first : (m : Bool) (z t : Bool) → (m ≡ false → z ≡ t) → ((m || false) || z) ≡ (m || t)
-by_first true z t h = refl
-by_first false z t h = h refl
-
-pub in_different : (ts : List Term) (y : ℕ) → terms_mention (terms_of ts) y ≡ mentions (Fact.and (facts_of (all_different ts))) y
-in_different [] y = refl
-in_different (s ∷ others) y =
-    sym (by_first (term_mentions s y) (facts_mention (facts_of (map (λ t. Fact.not (Fact.cmp equal s t)) others ++ all_different others)) y) (terms_mention (terms_of others) y) (λ h.
-    facts_append (map (λ t. Fact.not (Fact.cmp equal s t)) others) (all_different others) y
-    ∙ ap (λ b. b || facts_mention (facts_of (all_different others)) y) (in_pairs s others y h)
-    ∙ ap (λ b. terms_mention (terms_of others) y || b) (sym (in_different others y))
-    ∙ or_self (terms_mention (terms_of others) y)))
 
 active : (s d : Bool) → (s || d) ≡ ((s || false) || ((false || (s || (d || false))) || false))
 active true d = refl

@@ -69,6 +69,7 @@ module _ (sets : List (ℤ × ℤ)) (x : ℕ) where
     fact_there (Fact.or cs) s h = facts_there cs s h
     fact_there (Fact.iff c d) s h = elim (or_cases (mentions c x) (mentions d x) h) [ inl e ↦ fact_there c s.0 e | inr k ↦ fact_there d s.1 k ]
     fact_there (Fact.not c) s h = fact_there c s h
+    fact_there (Fact.different ts) s h = terms_there ts s.1 h
     fact_there (Fact.bound y) s h = absurd s
 
     facts_there : (cs : Facts) → AreSoundFacts sets cs → facts_mention cs x ≡ true → x < length sets

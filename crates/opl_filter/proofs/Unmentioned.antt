@@ -1,5 +1,5 @@
 -- The range of a constraint over two families that differ in a variable that it doesn't mention.
-use Rattle.std.proofs.Common.{◌≡◌, ◌≢◌, ◌∙◌, ℕ, zero, suc, ◌<◌, ◌≤◌, Bool, true, false, ◌||◌, refl, List, [], ◌∷◌, map, length, ℤ, pos, ◌+ℤ◌, ◌*ℤ◌, neg_ℤ, inl, inr, ap, sym, subst, arith, eqb}
+use Rattle.std.proofs.Common.{◌≡◌, ◌≢◌, ◌∙◌, ℕ, zero, suc, ◌<◌, ◌≤◌, Bool, true, false, ◌||◌, refl, List, [], ◌∷◌, ◌++◌, map, length, ℤ, pos, ◌+ℤ◌, ◌*ℤ◌, neg_ℤ, inl, inr, ap, sym, subst, arith, eqb}
 use Rattle.std.specs.Prelude.{Option, Some, None, nat_eq}
 use Rattle.std.specs.List.{list_any}
 use Rattle.std.proofs.lemmas.Int.{ints}
@@ -15,7 +15,7 @@ use Rattle.opl_expr.specs.declared.tables.Cell.TheVariants as cell
 use Rattle.opl_expr.specs.Forms.{Relation, Term, Terms, Fact, Facts}
 use Rattle.opl_expr.specs.Forms.Relation.{equal, at_most, below}
 use Rattle.opl_expr.specs.Options.{lift1, bind1, lift, bind, lift_all, lift_some, joined}
-use Rattle.opl_expr.specs.Range.{verdict, flip, same_truth, is_possible, span_scale, Linear, constant, minus, weighted, with_variables, range_of_linear, has_zero, never_zero, compare, compare_of, taken, chosen, masks, look_up, cell_range, coef, coefs, pure, ends, may_be, rest, linears, fact_range, fact_ranges}
+use Rattle.opl_expr.specs.Range.{verdict, flip, same_truth, is_possible, span_scale, Linear, constant, minus, weighted, with_variables, range_of_linear, has_zero, never_zero, compare, compare_of, taken, chosen, masks, look_up, cell_range, pairwise, defined_range, differ_range, coef, coefs, pure, ends, may_be, rest, linears, fact_range, fact_ranges}
 use Rattle.opl_trace.proofs.Families.{only_full}
 use Rattle.opl_filter.specs.Mentions.{cell_mentions, cells_mention, table_mentions, term_mentions, terms_mention, mentions, facts_mention}
 use Rattle.opl_filter.specs.Fresh.{DifferAt}
@@ -164,6 +164,21 @@ look_same x F G d (Some t) h es a =
     ap (joined span_hull)
     (ap (λ ms. map (cell_range F) (chosen (taken ms) t.cells)) (masks_same x F G d t.dims es a) ∙ cells_same x F G d (taken (masks (may_be G) t.dims es)) t.cells h)
 
+-- ---- pairs
+
+difference_none : (j k : ℤ) → j ≡ pos 0 → k ≡ pos 0 → j +ℤ neg_ℤ k ≡ pos 0
+difference_none j k h i = ap (λ l. l +ℤ neg_ℤ k) h ∙ ap (λ l. pos 0 +ℤ neg_ℤ l) i
+
+differ_same : (x : ℕ) (F G : Family) → DifferAt x F G → (d e : Linear) → d.coef x ≡ pos 0 → e.coef x ≡ pos 0 → differ_range F d e ≡ differ_range G d e
+differ_same x F G a d e h i = ap (lift1 flip) (compare_of_same equal x F G a (minus d e) (difference_none (d.coef x) (e.coef x) h i))
+
+pairs_same : (x : ℕ) (F G : Family) → DifferAt x F G → (es : List Linear) → AllFree x es → pairwise defined_range (differ_range F) es ≡ pairwise defined_range (differ_range G) es
+unfolding AllFree
+pairs_same x F G d [] a = refl
+pairs_same x F G d (e ∷ es) a =
+    ap (λ rs. defined_range e ∷ (rs ++ pairwise defined_range (differ_range F) es)) (map_free x (differ_range F e) (differ_range G e) (λ l h. differ_same x F G d e l a.0 h) es a.1)
+    ∙ ap (λ rs. defined_range e ∷ (map (differ_range G e) es ++ rs)) (pairs_same x F G d es a.1)
+
 -- ---- coefficients
 
 mutual
@@ -203,7 +218,7 @@ abbrev linear : Term → Option Span → Linear
 linear t r = record { coef = coef t; pure = pure t; rest = r }
 
 difference_free : (x : ℕ) (s t : Term) → term_mentions s x ≡ false → term_mentions t x ≡ false → coef s x +ℤ neg_ℤ (coef t x) ≡ pos 0
-difference_free x s t h k = ap (λ j. j +ℤ neg_ℤ (coef t x)) (coef_free x s h) ∙ ap (λ j. pos 0 +ℤ neg_ℤ j) (coef_free x t k)
+difference_free x s t h k = difference_none (coef s x) (coef t x) (coef_free x s h) (coef_free x t k)
 
 both : {A B C : Type 0} (f : A → B → C) (a a' : A) (b b' : B) → a ≡ a' → b ≡ b' → f a b ≡ f a' b'
 both f a a' b b' p q = ap (λ y. f y b) p ∙ ap (f a') q
@@ -260,6 +275,9 @@ module _ (x : ℕ) (F G : Family) (d : DifferAt x F G) where
         let n = neither (mentions a x) (mentions b x) h in
         both (lift same_truth) (fact_range F a) (fact_range G a) (fact_range F b) (fact_range G b) (fact_same a n.0) (fact_same b n.1)
     fact_same (Fact.not c) h = ap (lift1 flip) (fact_same c h)
+    fact_same (Fact.different ts) h =
+        ap (λ es. lift_all span_min (point (pos 1)) (pairwise defined_range (differ_range F) es)) (linears_same ts h)
+        ∙ ap (lift_all span_min (point (pos 1))) (pairs_same x F G d (linears G ts) (linears_free x G ts h))
     fact_same (Fact.bound y) h = refl
 
     facts_same : (cs : Facts) → facts_mention cs x ≡ false → fact_ranges F cs ≡ fact_ranges G cs

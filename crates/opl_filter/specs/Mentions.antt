@@ -61,6 +61,7 @@ abbrev mutual
   mentions (Fact.or cs) x = facts_mention cs x
   mentions (Fact.iff c d) x = mentions c x || mentions d x
   mentions (Fact.not c) x = mentions c x
+  mentions (Fact.different ts) x = terms_mention ts x
   mentions (Fact.bound y) x = nat_eq x y
 
   pub facts_mention : Facts → ℕ → Bool

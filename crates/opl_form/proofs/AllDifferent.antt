@@ -19,7 +19,7 @@ use Rattle.opl_expr.specs.declared.forms.Cons.TheVariants as C
 use Rattle.opl_expr.specs.declared.forms.Expr.TheVariants as E
 use Rattle.opl_expr.specs.declared.forms.Op.TheVariants.{Ne}
 use Rattle.opl_expr.specs.Forms as forms
-use Rattle.opl_expr.specs.Forms.{Fact, Term, facts_of}
+use Rattle.opl_expr.specs.Forms.{Fact, Term, terms_of}
 use Rattle.opl_expr.specs.Holds.{holds, op_relates, value}
 use Rattle.opl_expr.specs.Options.{lift, lift1, lift_onto}
 use Rattle.opl_expr.specs.Sound.{term_magnitude}
@@ -63,7 +63,7 @@ all-apart ns z (t ∷ ts) (w ∷ zs) q h =
     rest-same x y xs ys e = cc
 
 -- where all terms have values
-pub differ-holds : (ns : List ℤ) (ts : List Term) (zs : List ℤ) → map (value ns) ts ≡ map (λ z. Some z) zs → holds ns (Fact.and (facts_of (forms.all_different ts))) ≡ Some (differ zs)
+pub differ-holds : (ns : List ℤ) (ts : List Term) (zs : List ℤ) → map (value ns) ts ≡ map (λ z. Some z) zs → holds ns (Fact.different (terms_of ts)) ≡ Some (differ zs)
 differ-holds ns [] [] h = refl
 differ-holds ns [] (z ∷ zs) h = absurd (cc)
 differ-holds ns (t ∷ ts) [] h = absurd (cc)

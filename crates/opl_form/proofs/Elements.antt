@@ -25,7 +25,7 @@ use Rattle.opl_expr.proofs.Plain.{term_At}
 use Rattle.opl_expr.specs.declared.tables.Cell.TheVariants as cell
 use Rattle.opl_expr.specs.declared.forms.Expr.TheVariants as E
 use Rattle.opl_expr.specs.Options.{lift1, bind1, lift}
-use Rattle.opl_form.specs.Parts.{are_indices, table_of, tables, Form, Sort, alike, all_alike, all_known, cells_of, first_sort, key_layer, key_sort, number_cells, ranked, subscripts_fit}
+use Rattle.opl_form.specs.Parts.{are_indices, table_of, tables, Form, Sort, alike, all_alike, all_known, cells_of, first_sort, indices_of, key_layer, key_sort, number_cells, ranked, subscripts_fit}
 use Rattle.opl_form.specs.Made.{array_of}
 use Rattle.opl_form.specs.Worth.{plain, Worth, hold, some_of, val}
 use Rattle.opl_form.specs.Measures as measures
@@ -33,20 +33,13 @@ use Rattle.opl_form.specs.Nodes as making
 use Rattle.opl_form.specs.Nodes.{Made, element_at, element_node, element_sort, has_positions, indexed, known_node, looked_up, number_node, placed, size, variable_sort, variable_sorts, with_indices}
 use Rattle.opl_form.specs.Parts.Form.{known, number, name, condition, truth}
 use Rattle.opl_form.specs.Parts.Sort.{whole, named, other}
+use Rattle.opl_form.proofs.Indices.{alike-indices, keys-indices, length-map}
 use Rattle.opl_form.proofs.Nodes.{whole-map, AreWorth, counted-made, number-node, sized-made}
 use Rattle.opl_form.proofs.Tables.{cell_at, get-map, ints_place, reached-cell}
 use Rattle.opl_form.proofs.Values.{alike-same, eq-ranks, int-back, name-back}
 use Rattle.opl_form.proofs.Variables.{variable-at, variable-worth, variables-rank}
 use Rattle.opl_form.proofs.Views.{rank-worth}
 use Rattle.opl_form.proofs.Nodes as nodes
-
-length-map : {A B : Type 0} (f : A → B) (xs : List A) → length (map f xs) ≡ length xs
-length-map f [] = refl
-length-map f (x ∷ xs) = ap (λ n. suc n) (length-map f xs)
-
-keys-ranks : (ds : List (List Value)) → keys (map (map rank) ds) ≡ elements ds
-keys-ranks [] = refl
-keys-ranks (d ∷ ds) = λ i. length-map rank d i * keys-ranks ds i
 
 place-ranks : (v : Value) (d : List Value) → all_alike (key_layer (out-Value v)) d ≡ true → places.place_in v d ≡ place_in (rank v) (map rank d)
 place-ranks v [] h = refl
@@ -57,6 +50,10 @@ place-ranks v (w ∷ ws) h =
     mapped : (o : Option ℕ) → option_map suc o ≡ lift1 suc o
     mapped None = refl
     mapped (Some n) = refl
+
+-- the place of a value is that of its rank among the indices
+place-indices : (v : Value) (d : List Value) → all_alike (key_layer (out-Value v)) d ≡ true → places.place_in v d ≡ place_in (rank v) (indices_of d)
+place-indices v d h = place-ranks v d h ∙ ap (place_in (rank v)) (sym (alike-indices (key_layer (out-Value v)) d h))
 
 module _ (sets : List (ℤ × ℤ)) (arrays : List Cells) (item : ℕ) (ns : List ℤ)
     (value-small : (t : Term) (v : ℤ) → value ns t ≡ Some v → unsigned_abs v ≤ term_magnitude sets t)
@@ -74,7 +71,7 @@ module _ (sets : List (ℤ × ℤ)) (arrays : List Cells) (item : ℕ) (ns : Lis
     key-worth (truth c) v w = lift-key values.Bool other (λ b. ap key_layer (values.outs-Bool b)) (hold arrays ns c) v w
 
     -- the place of the values is that of their ranks
-    fit-place : (ds : List (List Value)) (gs : List Form) (vs : List Value) → AreWorth arrays ns (map (λ v. Some v) vs) gs → subscripts_fit ds gs ≡ true → place_of ds vs ≡ ints_place (map (map rank) ds) (map rank vs)
+    fit-place : (ds : List (List Value)) (gs : List Form) (vs : List Value) → AreWorth arrays ns (map (λ v. Some v) vs) gs → subscripts_fit ds gs ≡ true → place_of ds vs ≡ ints_place (map indices_of ds) (map rank vs)
     fit-place [] [] [] w h = refl
     fit-place [] [] (v ∷ vs) w h = absurd w
     fit-place [] (g ∷ gs) vs w h = absurd (cc)
@@ -82,8 +79,8 @@ module _ (sets : List (ℤ × ℤ)) (arrays : List Cells) (item : ℕ) (ns : Lis
     fit-place (d ∷ ds) (g ∷ gs) [] w h = absurd w
     fit-place (d ∷ ds) (g ∷ gs) (v ∷ vs) w h =
         let p = and_parts (all_alike (key_sort g) d) (subscripts_fit ds gs) h in
-        (λ i. joint (elements ds) (place-ranks v d (subst (λ s. all_alike s d ≡ true) (key-worth g v w.0) p.0) i) (fit-place ds gs vs w.1 p.1 i))
-        ∙ ap (λ n. joint n (place_in (rank v) (map rank d)) (ints_place (map (map rank) ds) (map rank vs))) (sym (keys-ranks ds))
+        (λ i. joint (elements ds) (place-indices v d (subst (λ s. all_alike s d ≡ true) (key-worth g v w.0) p.0) i) (fit-place ds gs vs w.1 p.1 i))
+        ∙ ap (λ n. joint n (place_in (rank v) (indices_of d)) (ints_place (map indices_of ds) (map rank vs))) (sym (keys-indices ds))
 
     ranks-worth : (rs : List (Option Value)) (gs : List Form) → AreWorth arrays ns rs gs → map (λ g. val arrays ns (ranked g)) gs ≡ map (lift1 rank) rs
     ranks-worth [] [] w = refl
@@ -114,20 +111,20 @@ module _ (sets : List (ℤ × ℤ)) (arrays : List Cells) (item : ℕ) (ns : Lis
         terms-values [] = refl
         terms-values (g ∷ gs) = ap (λ vs. val arrays ns (ranked g) ∷ vs) (terms-values gs)
 
-        fit-length : (ds : List (List Value)) (gs : List Form) → subscripts_fit ds gs ≡ true → length (map (λ g. val arrays ns (ranked g)) gs) ≡ length (map (map rank) ds)
+        fit-length : (ds : List (List Value)) (gs : List Form) → subscripts_fit ds gs ≡ true → length (map (λ g. val arrays ns (ranked g)) gs) ≡ length (map indices_of ds)
         fit-length [] [] h = refl
         fit-length [] (g ∷ gs) h = absurd (cc)
         fit-length (d ∷ ds) [] h = absurd (cc)
         fit-length (d ∷ ds) (g ∷ gs) h = ap suc (fit-length ds gs (and_parts (all_alike (key_sort g) d) (subscripts_fit ds gs) h).1)
 
         at-value : (k : ℕ) (a : Cells) (gs : List Form) (os : List (Option ℤ)) → slice_get arrays k ≡ Some a → subscripts_fit a.dims gs ≡ true → map (λ g. val arrays ns (ranked g)) gs ≡ os →
-            val arrays ns (E.At k (map ranked gs)) ≡ bind1 (λ is. lift1 (cell_at ns (cells_of a.leaves)) (ints_place (map (map rank) a.dims) is)) (nodes.whole os)
+            val arrays ns (E.At k (map ranked gs)) ≡ bind1 (λ is. lift1 (cell_at ns (cells_of a.leaves)) (ints_place (map indices_of a.dims) is)) (nodes.whole os)
         at-value k a gs os h fit e =
             let s = sound k a h in
-            let l : length os ≡ length (map (map rank) a.dims) = ap length (sym e) ∙ fit-length a.dims gs fit in
+            let l : length os ≡ length (map indices_of a.dims) = ap length (sym e) ∙ fit-length a.dims gs fit in
             ap (value ns) (term_At (tables arrays) [] k (map ranked gs) ∙ ap (λ t. Term.at t (terms_of (map (plain arrays) (map ranked gs)))) (get-map table_of arrays k ∙ ap (lift1 table_of) h))
-            ∙ ap (λ vs. reached_in ns (map (map rank) a.dims) vs (cells_of a.leaves)) (terms-values gs ∙ e)
-            ∙ reached-cell ns (map (map rank) a.dims) os (cells_of a.leaves) s.0 s.1 l
+            ∙ ap (λ vs. reached_in ns (map indices_of a.dims) vs (cells_of a.leaves)) (terms-values gs ∙ e)
+            ∙ reached-cell ns (map indices_of a.dims) os (cells_of a.leaves) s.0 s.1 l
 
         -- ---- cells
 
@@ -157,7 +154,7 @@ module _ (sets : List (ℤ × ℤ)) (arrays : List Cells) (item : ℕ) (ns : Lis
 
         cell-rank : (k : ℕ) (a : Cells) (vs : List Value) (p : ℕ) → slice_get arrays k ≡ Some a → place_of a.dims vs ≡ Some p → element_sort sets a.leaves ≢ other →
             (cell_at ns (cells_of a.leaves) p ≡ rank (leaf_of a.leaves p)) × (key_layer (out-Value (leaf_of a.leaves p)) ≡ element_sort sets a.leaves)
-        cell-rank k a vs p h q sure = leaf-rank a.leaves p (subst (λ n. p < n) (sym (keys-ranks a.dims) ∙ sym (sound k a h).0) (places_below a.dims vs p q)) sure
+        cell-rank k a vs p h q sure = leaf-rank a.leaves p (subst (λ n. p < n) (sym (keys-indices a.dims) ∙ sym (sound k a h).0) (places_below a.dims vs p q)) sure
 
         -- what the subscripts of a table reach
         abbrev reached : Cells → List Value → Option Value
@@ -175,11 +172,11 @@ module _ (sets : List (ℤ × ℤ)) (arrays : List Cells) (item : ℕ) (ns : Lis
             val arrays ns (E.At k (map ranked gs)) ≡ lift1 rank (bind1 (reached a) (nodes.whole rs))
         at-is k a rs gs h fit sure w =
             at-value k a gs (map (lift1 rank) rs) h fit (ranks-worth rs gs w)
-            ∙ ap (bind1 (λ is. lift1 (cell_at ns (cells_of a.leaves)) (ints_place (map (map rank) a.dims) is))) (whole-map rank rs)
+            ∙ ap (bind1 (λ is. lift1 (cell_at ns (cells_of a.leaves)) (ints_place (map indices_of a.dims) is))) (whole-map rank rs)
             ∙ by (nodes.whole rs) (λ vs e. subst (λ rs. AreWorth arrays ns rs gs) (all-there rs vs e) w)
           where
             by : (o : Option (List Value)) → ((vs : List Value) → o ≡ Some vs → AreWorth arrays ns (map (λ v. Some v) vs) gs) →
-                bind1 (λ is. lift1 (cell_at ns (cells_of a.leaves)) (ints_place (map (map rank) a.dims) is)) (lift1 (map rank) o) ≡ lift1 rank (bind1 (reached a) o)
+                bind1 (λ is. lift1 (cell_at ns (cells_of a.leaves)) (ints_place (map indices_of a.dims) is)) (lift1 (map rank) o) ≡ lift1 rank (bind1 (reached a) o)
             by None f = refl
             by (Some vs) f = ap (lift1 (cell_at ns (cells_of a.leaves))) (sym (fit-place a.dims gs vs (f vs refl) fit)) ∙ each (place_of a.dims vs) (λ p e. (cell-rank k a vs p h e sure).0)
               where
@@ -249,7 +246,7 @@ module _ (sets : List (ℤ × ℤ)) (arrays : List Cells) (item : ℕ) (ns : Lis
         past-indices (d ∷ ds) [] gs r g e = e
         past-indices (d ∷ ds) (at ∷ ats) [] r g e = e
         past-indices (d ∷ ds) (at ∷ ats) (h ∷ gs) r g e =
-            past-indices ds ats gs r g (sized-made at (size sets arrays (ranked h) + greatest_abs (map rank d)) (with_indices sets arrays item ds ats gs r) g e).1
+            past-indices ds ats gs r g (sized-made at (size sets arrays (ranked h) + greatest_abs (indices_of d)) (with_indices sets arrays item ds ats gs r) g e).1
 
         pub indexed-worth : (at n : ℕ) (k : Option ℕ) (ats : List ℕ) (rs : List (Option Value)) (gs : List Form) (g : Form) → AreWorth arrays ns rs gs → indexed sets arrays item at n k (array_of arrays k) ats gs ≡ Ok g →
             Worth arrays ns (bind1 (λ key. some_of (chosen arrays ns at (array_at arrays ns k) key)) (nodes.whole rs)) g

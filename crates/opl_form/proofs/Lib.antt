@@ -5,6 +5,7 @@ pub mod Binary
 pub mod Chains
 pub mod Elements
 pub mod Forms
+pub mod Indices
 pub mod Meaning
 pub mod Nodes
 pub mod FormLaws

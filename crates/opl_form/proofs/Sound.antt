@@ -30,12 +30,12 @@ use Rattle.opl_expr.specs.declared.forms.Expr.TheVariants as E
 use Rattle.opl_expr.specs.declared.forms.Op.{Op}
 use Rattle.opl_expr.specs.declared.forms.Op.TheVariants.{Eq, Ne, Lt, Le, Gt, Ge}
 use Rattle.opl_expr.specs.Forms as forms
-use Rattle.opl_expr.specs.Forms.{Term, Terms, Fact, Facts, constant_value, defined, product_by, term, fact, terms_of, facts_of}
+use Rattle.opl_expr.specs.Forms.{Term, Terms, Fact, Facts, constant_value, product_by, term, fact, terms_of, facts_of}
 use Rattle.opl_expr.specs.Forms.Relation.{equal}
 use Rattle.opl_expr.specs.Options.{lift1}
 use Rattle.opl_expr.specs.Sound.{AreSoundFacts, FitDimensions, IsSmall, IsSoundFact, IsSoundTable, IsSoundTerm, greatest_abs, is_there, table_magnitude, term_magnitude}
 use Rattle.opl_expr.proofs.Plain.{term_Abs, term_At, term_Const, term_Div, term_Max, term_Min, term_Mul, term_Neg, term_Rem, term_Sum, term_Var, fact_AllDifferent, fact_And, fact_Iff, fact_Imp, fact_Not, fact_Or}
-use Rattle.opl_form.specs.Parts.{Form, Sort, all_known, are_indices, as_condition, as_number, leaves, nothing, number_cells, of_kind, ranked, subscripts_fit, table_of, tables, variables, with_value}
+use Rattle.opl_form.specs.Parts.{Form, Sort, all_known, are_indices, as_condition, as_number, indices_of, leaves, nothing, number_cells, of_kind, ranked, subscripts_fit, table_of, tables, variables, with_value}
 use Rattle.opl_form.specs.Parts as parts
 use Rattle.opl_form.specs.Parts.Form.{known, number, name, condition, truth}
 use Rattle.opl_form.specs.Parts.Sort.{whole, named, other}
@@ -411,13 +411,13 @@ module _ (sets : List (ℤ × ℤ)) (arrays : List Cells) (item : ℕ) where
           tested false b h e = absurd (cc)
 
   indices-fit : (ds : List (List Value)) (ats : List ℕ) (gs : List Form) (r : Made Form) (g : Form) → length ats ≡ length gs → subscripts_fit ds gs ≡ true → with_indices sets arrays item ds ats gs r ≡ Ok g →
-      FitDimensions sets (map (map rank) ds) (terms_of (map (plain arrays) (map ranked gs))) × (r ≡ Ok g)
+      FitDimensions sets (map indices_of ds) (terms_of (map (plain arrays) (map ranked gs))) × (r ≡ Ok g)
   indices-fit [] ats [] r g l h e = (tt, e)
   indices-fit [] ats (b ∷ gs) r g l h e = absurd (cc)
   indices-fit (d ∷ ds) ats [] r g l h e = absurd (cc)
   indices-fit (d ∷ ds) [] (b ∷ gs) r g l h e = absurd (omega (arith, l))
   indices-fit (d ∷ ds) (at ∷ ats) (b ∷ gs) r g l h e =
-      let m : ℕ = size sets arrays (ranked b) + greatest_abs (map rank d) in
+      let m : ℕ = size sets arrays (ranked b) + greatest_abs (indices_of d) in
       let p = sized-made at m (with_indices sets arrays item ds ats gs r) g e in
       let q = indices-fit ds ats gs r g (omega (arith, l)) (and_parts (parts.all_alike (parts.key_sort b) d) (subscripts_fit ds gs) h).1 p.1 in
       ((lt-out m (2 ^ 127) p.0, q.0), q.1)
@@ -430,7 +430,7 @@ module _ (sets : List (ℤ × ℤ)) (arrays : List Cells) (item : ℕ) where
       let q : suc x + p < m = cell-there kind (suc x) n p m (omega (arith, l)) (and_parts (nat_lt x m) (list_all (is_there m) (number_cells kind (suc x) n)) h).1 in omega (arith, q)
 
   module _ (sound : (k : ℕ) (a : Cells) → slice_get arrays k ≡ Some a → IsSoundTable sets (Some (table_of a))) where
-    at-sound : (k : ℕ) (a : Cells) (gs : List Form) → slice_get arrays k ≡ Some a → AreSound sets arrays gs → FitDimensions sets (map (map rank) a.dims) (terms_of (map (plain arrays) (map ranked gs))) → IsSmall (size sets arrays (E.At k (map ranked gs))) →
+    at-sound : (k : ℕ) (a : Cells) (gs : List Form) → slice_get arrays k ≡ Some a → AreSound sets arrays gs → FitDimensions sets (map indices_of a.dims) (terms_of (map (plain arrays) (map ranked gs))) → IsSmall (size sets arrays (E.At k (map ranked gs))) →
         IsSoundTerm sets (plain arrays (E.At k (map ranked gs)))
     at-sound k a gs h s f small =
         let ts : Terms = terms_of (map (plain arrays) (map ranked gs)) in

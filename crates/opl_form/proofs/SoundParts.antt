@@ -12,9 +12,9 @@ use Rattle.opl_expr.specs.declared.forms.Expr.TheVariants as E
 use Rattle.opl_expr.specs.declared.forms.Op.{Op}
 use Rattle.opl_expr.specs.declared.forms.Op.TheVariants.{Eq, Ne, Lt, Le, Gt, Ge}
 use Rattle.opl_expr.specs.Forms as forms
-use Rattle.opl_expr.specs.Forms.{Term, Terms, Fact, Facts, constant_value, defined, product_by, term, fact, terms_of, facts_of}
+use Rattle.opl_expr.specs.Forms.{Term, Terms, Fact, Facts, constant_value, product_by, term, fact, terms_of, facts_of}
 use Rattle.opl_expr.specs.Forms.Relation.{equal}
-use Rattle.opl_expr.specs.Sound.{AreSoundFacts, AreSoundTerms, IsSmall, IsSoundFact, IsSoundTerm, term_magnitude}
+use Rattle.opl_expr.specs.Sound.{AreComparable, AreSoundFacts, AreSoundTerms, IsSmall, IsSoundFact, IsSoundTerm, greatest_magnitude, term_magnitude}
 use Rattle.opl_expr.proofs.Plain.{term_Const, term_Mul, term_Truth, fact_Cmp, fact_Fixed}
 use Rattle.opl_form.specs.Parts.{Form, all_known, as_condition, as_number, nothing, ranked, tables, with_value}
 use Rattle.opl_form.specs.Parts.Form.{known, number, name, condition, truth}
@@ -25,42 +25,24 @@ use Rattle.opl_form.proofs.Nodes.{next-made, ok-same, sized-made}
 use Rattle.opl_form.proofs.Nodes as proved
 use Rattle.opl_form.proofs.SoundValues.{IsSmallValue, AreSmallValues, nothing-times, zero-small}
 
--- facts one after another
-sound-append : (sets : List (ℤ × ℤ)) (xs ys : List Fact) → AreSoundFacts sets (facts_of xs) → AreSoundFacts sets (facts_of ys) → AreSoundFacts sets (facts_of (xs ++ ys))
-sound-append sets [] ys h k = k
-sound-append sets (x ∷ xs) ys h k = (h.0, sound-append sets xs ys h.1 k)
-
 abbrev pub AllSound : List (ℤ × ℤ) → List Term → Type 0
 AllSound sets [] = Unit {0}
 AllSound sets (t ∷ ts) = IsSoundTerm sets t × AllSound sets ts
 
--- a term is small together with each of these
-differ-each : (sets : List (ℤ × ℤ)) (t : Term) (ts : List Term) → IsSoundTerm sets t → AllSound sets ts → term_magnitude sets t + greatest (map (term_magnitude sets) ts) < 2 ^ 127 →
-    AreSoundFacts sets (facts_of (map (λ b. Fact.not (Fact.cmp equal t b)) ts))
-differ-each sets t [] h k l = tt
-differ-each sets t (b ∷ ts) h k l =
-    ((first (term_magnitude sets t) (term_magnitude sets b) (greatest (map (term_magnitude sets) ts)) l, h, k.0), differ-each sets t ts h k.1 (rest (term_magnitude sets t) (term_magnitude sets b) (greatest (map (term_magnitude sets) ts)) l))
-  where
-    first : (m n k : ℕ) → m + max n k < 2 ^ 127 → m + n < 2 ^ 127
-    first m n k h = omega (arith, h)
+all-sound-terms : (sets : List (ℤ × ℤ)) (ts : List Term) → AllSound sets ts → AreSoundTerms sets (terms_of ts)
+all-sound-terms sets [] h = tt
+all-sound-terms sets (t ∷ ts) h = (h.0, all-sound-terms sets ts h.1)
 
-    rest : (m n k : ℕ) → m + max n k < 2 ^ 127 → m + k < 2 ^ 127
-    rest m n k h = omega (arith, h)
+greatest-is : (sets : List (ℤ × ℤ)) (ts : List Term) → greatest (map (term_magnitude sets) ts) ≡ greatest_magnitude sets (terms_of ts)
+greatest-is sets [] = refl
+greatest-is sets (t ∷ ts) = ap (max (term_magnitude sets t)) (greatest-is sets ts)
 
-defined-sound : (sets : List (ℤ × ℤ)) (t : Term) → IsSoundTerm sets t → IsSoundFact sets (defined t)
-defined-sound sets t h = (both (term_magnitude sets t), (nothing-times (term_magnitude sets t), zero-small, h), zero-small)
-  where
-    both : (k : ℕ) → unsigned_abs (pos 0) * k + unsigned_abs (pos 0) < 2 ^ 127
-    both k = omega arith
-
-pub differ-sound : (sets : List (ℤ × ℤ)) (ts : List Term) → AllSound sets ts → two_greatest (map (term_magnitude sets) ts) < 2 ^ 127 → AreSoundFacts sets (facts_of (forms.all_different ts))
-differ-sound sets [] h l = tt
-differ-sound sets (t ∷ []) h l = (defined-sound sets t h.0, tt)
-differ-sound sets (t ∷ b ∷ ts) h l = (
-  defined-sound sets t h.0,
-  sound-append sets (map (λ b. Fact.not (Fact.cmp equal t b)) (b ∷ ts)) (forms.all_different (b ∷ ts))
-      (differ-each sets t (b ∷ ts) h.0 h.1 (first (term_magnitude sets t + greatest (map (term_magnitude sets) (b ∷ ts))) (two_greatest (map (term_magnitude sets) (b ∷ ts))) l))
-      (differ-sound sets (b ∷ ts) h.1 (rest (term_magnitude sets t + greatest (map (term_magnitude sets) (b ∷ ts))) (two_greatest (map (term_magnitude sets) (b ∷ ts))) l)),
+comparable-terms : (sets : List (ℤ × ℤ)) (ts : List Term) → two_greatest (map (term_magnitude sets) ts) < 2 ^ 127 → AreComparable sets (terms_of ts)
+comparable-terms sets [] l = tt
+comparable-terms sets (t ∷ []) l = (omega (arith, l), tt)
+comparable-terms sets (t ∷ b ∷ ts) l = (
+  subst (λ n. term_magnitude sets t + n < 2 ^ 127) (greatest-is sets (b ∷ ts)) (first (term_magnitude sets t + greatest (map (term_magnitude sets) (b ∷ ts))) (two_greatest (map (term_magnitude sets) (b ∷ ts))) l),
+  comparable-terms sets (b ∷ ts) (rest (term_magnitude sets t + greatest (map (term_magnitude sets) (b ∷ ts))) (two_greatest (map (term_magnitude sets) (b ∷ ts))) l),
 )
   where
     first : (m n : ℕ) → max m n < 2 ^ 127 → m < 2 ^ 127
@@ -68,6 +50,9 @@ differ-sound sets (t ∷ b ∷ ts) h l = (
 
     rest : (m n : ℕ) → max m n < 2 ^ 127 → n < 2 ^ 127
     rest m n h = omega (arith, h)
+
+pub differ-sound : (sets : List (ℤ × ℤ)) (ts : List Term) → AllSound sets ts → two_greatest (map (term_magnitude sets) ts) < 2 ^ 127 → IsSoundFact sets (Fact.different (terms_of ts))
+differ-sound sets ts h l = (comparable-terms sets ts l, all-sound-terms sets ts h)
 
 module _ (sets : List (ℤ × ℤ)) (arrays : List Cells) where
   -- a part by whose views sound forms are made

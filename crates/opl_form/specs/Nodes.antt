@@ -31,7 +31,7 @@ use Rattle.opl_expr.specs.declared.forms.Op.{Op}
 use Rattle.opl_expr.specs.declared.forms.Op.TheVariants.{Eq, Ne, Lt, Le, Gt, Ge}
 use Rattle.opl_expr.specs.Forms.{term}
 use Rattle.opl_expr.specs.Sound.{term_magnitude, greatest_abs}
-use Rattle.opl_form.specs.Parts.{Form, Sort, alike, all_alike, all_known, are_indices, as_condition, as_number, first_sort, leaves, nothing, ranked, sort_of, subscripts_fit, tables}
+use Rattle.opl_form.specs.Parts.{Form, Sort, alike, all_alike, all_known, are_indices, as_condition, as_number, first_sort, indices_of, leaves, nothing, ranked, sort_of, subscripts_fit, tables}
 use Rattle.opl_form.specs.Parts.Form.{known, number, name, condition, truth}
 use Rattle.opl_form.specs.Parts.Sort.{whole, named, other}
 use Rattle.opl_form.specs.Measures.{all_nodes, depth, depth_of, greatest, nodes, nodes_of}
@@ -294,7 +294,7 @@ module _ (sets : List (ℤ × ℤ)) (arrays : List Cells) (item : ℕ) where
 
   -- Each subscript can be compared with each index of its dimension.
   abbrev pub with_indices : {A : Type 0} → List (List Value) → List ℕ → List Form → Made A → Made A
-  with_indices (d ∷ ds) (at ∷ ats) (g ∷ gs) r = sized at (size sets arrays (ranked g) + greatest_abs (map rank d)) (with_indices ds ats gs r)
+  with_indices (d ∷ ds) (at ∷ ats) (g ∷ gs) r = sized at (size sets arrays (ranked g) + greatest_abs (indices_of d)) (with_indices ds ats gs r)
   with_indices ds ats gs r = r
 
   -- An element that has a variable, by its sort.

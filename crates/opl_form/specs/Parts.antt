@@ -1,5 +1,5 @@
 -- What a part of an unrolled expression becomes, and how it stands as a number, in the order of values, and as a condition.
-use Rattle.std.specs.Prelude.{ℕ, zero, suc, pos, nat_eq, is_some, Bool, true, false, ◌&&◌, List, [], ◌∷◌, map, Option, Some, None}
+use Rattle.std.specs.Prelude.{ℕ, zero, suc, ℤ, pos, nat_eq, is_some, Bool, true, false, ◌&&◌, cond, List, [], ◌∷◌, length, map, Option, Some, None}
 use Rattle.std.specs.List.{list_all}
 use Rattle.opl_value.specs.declared.value.Value.{Value}
 use Rattle.opl_value.specs.declared.value.Dimension.TheOpen.{Value-F}
@@ -111,14 +111,6 @@ abbrev pub cells_of : Leaves → List Cell
 cells_of (listed vs) = map (λ v. cell.Const (rank v)) vs
 cells_of (numbered kind x n) = number_cells kind x n
 
--- The table of an array: its indices by their ranks.
-abbrev pub table_of : Cells → Table
-table_of a = record { name = a.name; dims = map (map rank) a.dims; cells = cells_of a.leaves }
-
--- The tables of arrays, each with the number of its array.
-abbrev pub tables : List Cells → List Table
-tables arrays = map table_of arrays
-
 -- The sort of an index or an element: a truth is no number there.
 abbrev pub key_layer : {A C : Type 0} → Value-F A Value C → Sort
 key_layer (Value-F.Int n) = whole
@@ -137,6 +129,29 @@ key_sort (truth c) = other
 abbrev pub all_alike : Sort → List Value → Bool
 all_alike s vs = list_all (λ v. alike s (key_layer (out-Value v))) vs
 
+-- The sort of the first of these values.
+abbrev pub first_sort : List Value → Sort
+first_sort [] = whole
+first_sort (v ∷ vs) = key_layer (out-Value v)
+
+-- So many numbers from n on.
+abbrev pub places_from : ℕ → ℕ → List ℤ
+places_from n zero = []
+places_from n (suc count) = pos n ∷ places_from (suc n) count
+
+-- The indices of a dimension as numbers: their ranks where these tell them apart, which they do of numbers and of names of one enumeration, and
+-- else their places. By others no subscript has a variable.
+abbrev pub indices_of : List Value → List ℤ
+indices_of d = cond (all_alike (first_sort d) d) (map rank d) (places_from 0 (length d))
+
+-- The table of an array.
+abbrev pub table_of : Cells → Table
+table_of a = record { name = a.name; dims = map indices_of a.dims; cells = cells_of a.leaves }
+
+-- The tables of arrays, each with the number of its array.
+abbrev pub tables : List Cells → List Table
+tables arrays = map table_of arrays
+
 -- One subscript for each dimension, of the sort of each of its indices.
 abbrev pub subscripts_fit : List (List Value) → List Form → Bool
 subscripts_fit [] [] = true
@@ -151,11 +166,6 @@ is_index d g = true
 abbrev pub are_indices : List (List Value) → List Form → Bool
 are_indices (d ∷ ds) (g ∷ gs) = is_index d g && are_indices ds gs
 are_indices ds gs = true
-
--- The sort of the first of these values.
-abbrev pub first_sort : List Value → Sort
-first_sort [] = whole
-first_sort (v ∷ vs) = key_layer (out-Value v)
 
 -- A variable, by the kind of its values.
 abbrev pub of_kind : Kind → Expr → Form

@@ -1,5 +1,5 @@
 -- No range leaves the magnitude of its expression.
-use Rattle.std.proofs.Common.{◌≡◌, ◌≢◌, ◌⊎◌, ℕ, zero, suc, ◌+◌, ◌*◌, ◌≤◌, max, Bool, true, false, cond, refl, List, [], ◌∷◌, map, length, ℤ, pos, ◌+ℤ◌, ◌*ℤ◌, neg_ℤ, ◌≤ℤ◌, ap, sym, ◌∙◌, subst, arith, inl, inr}
+use Rattle.std.proofs.Common.{◌≡◌, ◌≢◌, ◌⊎◌, ℕ, zero, suc, ◌+◌, ◌*◌, ◌≤◌, max, Bool, true, false, cond, refl, List, [], ◌∷◌, ◌++◌, map, length, ℤ, pos, ◌+ℤ◌, ◌*ℤ◌, neg_ℤ, ◌≤ℤ◌, ap, sym, ◌∙◌, subst, arith, inl, inr}
 use Rattle.std.specs.Prelude.{int_le, unsigned_abs, slice_index_or, Option, Some, None, nat_eq}
 use Rattle.std.proofs.Math.Nat.{mul-le-mul_left, mul-le-mul_right, mul-add, add-mul, mul_assoc}
 use Rattle.std.proofs.lemmas.Int.{ints, unsigned_abs-mul}
@@ -12,8 +12,9 @@ use Rattle.opl_expr.specs.declared.model.Core.{Core}
 use Rattle.opl_expr.specs.declared.tables.Cell.{Cell}
 use Rattle.opl_expr.specs.declared.tables.Cell.TheVariants as cell
 use Rattle.opl_expr.specs.Forms.{Relation, Term, Terms, Fact, Facts}
-use Rattle.opl_expr.specs.Options.{bind1, lift_all, lift_some, combined, joined}
-use Rattle.opl_expr.specs.Range.{verdict, flip, same_truth, span_scale, weighted, with_variables, range_of_linear, compare, minus, taken, chosen, masks, cell_range, coef, coefs, pure, may_be, rest, linears, fact_range, fact_ranges, range}
+use Rattle.opl_expr.specs.Forms.Relation.{equal}
+use Rattle.opl_expr.specs.Options.{lift1, bind1, lift_all, lift_some, combined, joined}
+use Rattle.opl_expr.specs.Range.{verdict, flip, same_truth, span_scale, weighted, with_variables, range_of_linear, Linear, compare, compare_of, minus, taken, chosen, masks, cell_range, pairwise, defined_range, differ_range, coef, coefs, pure, may_be, rest, linears, fact_range, fact_ranges, range}
 use Rattle.opl_expr.specs.Solutions.{declared}
 use Rattle.opl_expr.specs.Sound.{set_magnitude, var_magnitude, cell_magnitude, cells_magnitude, term_magnitude, sum_magnitude, greatest_magnitude}
 use Rattle.opl_expr.proofs.Bounds.{lift1_parts, lift_parts, bind_parts, sets_of}
@@ -193,6 +194,28 @@ max_truth a b s t = record {
 some_same : {A : Type 0} (P : A → Type 0) (a b : A) → Some a ≡ Some b → P a → P b
 some_same P a b e p = let s : a ≡ b = cc in subst P s p
 
+difference_truth : (F : Family) (d e : Linear) (r : Span) → differ_range F d e ≡ Some r → IsTruth r
+difference_truth F d e r i =
+    let p = lift1_parts flip (compare_of equal F (minus d e)) r i in
+    let q = lift1_parts (compare equal F (minus d e).coef (length F) (minus d e).pure) (minus d e).rest p.0 p.1 in
+    subst IsTruth (sym p.2) (flip_truth p.0 (subst IsTruth (sym q.2) (compare_truth equal F (minus d e).coef (length F) (minus d e).pure q.0)))
+
+defined_truth : (e : Linear) (r : Span) → defined_range e ≡ Some r → IsTruth r
+defined_truth e r i = let p = lift1_parts (λ u. point (pos 1)) e.rest r i in subst IsTruth (sym p.2) (bit_truth true)
+
+-- the least of one with each of these and of others
+others_truth : (F : Family) (d : Linear) (rs : List (Option Span)) → ((s : Span) → lift_all span_min (point (pos 1)) rs ≡ Some s → IsTruth s) → (es : List Linear) (s : Span) → lift_all span_min (point (pos 1)) (map (differ_range F d) es ++ rs) ≡ Some s → IsTruth s
+others_truth F d rs h [] s i = h s i
+others_truth F d rs h (e ∷ es) s i =
+    let p = lift_parts span_min (differ_range F d e) (lift_all span_min (point (pos 1)) (map (differ_range F d) es ++ rs)) s i in
+    subst IsTruth (sym p.4) (min_truth p.0 p.1 (difference_truth F d e p.0 p.2) (others_truth F d rs h es p.1 p.3))
+
+pairs_truth : (F : Family) (es : List Linear) (r : Span) → lift_all span_min (point (pos 1)) (pairwise defined_range (differ_range F) es) ≡ Some r → IsTruth r
+pairs_truth F [] r e = some_same IsTruth (point (pos 1)) r e (bit_truth true)
+pairs_truth F (d ∷ ds) r e =
+    let p = lift_parts span_min (defined_range d) (lift_all span_min (point (pos 1)) (map (differ_range F d) ds ++ pairwise defined_range (differ_range F) ds)) r e in
+    subst IsTruth (sym p.4) (min_truth p.0 p.1 (defined_truth d p.0 p.2) (others_truth F d (pairwise defined_range (differ_range F) ds) (λ s i. pairs_truth F ds s i) ds p.1 p.3))
+
 mutual
   pub fact_truth : (F : Family) (c : Fact) (r : Span) → fact_range F c ≡ Some r → IsTruth r
   fact_truth F (Fact.fixed b) r e = some_same IsTruth (point (cond b (pos 1) (pos 0))) r e (bit_truth b)
@@ -204,6 +227,7 @@ mutual
   fact_truth F (Fact.or cs) r e = all_truth F span_max max_truth (pos 0) (bit_truth false) cs r e
   fact_truth F (Fact.iff c d) r e = let p = lift_parts same_truth (fact_range F c) (fact_range F d) r e in subst IsTruth (sym p.4) (same_truth_truth p.0 p.1)
   fact_truth F (Fact.not c) r e = let p = lift1_parts flip (fact_range F c) r e in subst IsTruth (sym p.2) (flip_truth p.0 (fact_truth F c p.0 p.1))
+  fact_truth F (Fact.different ts) r e = pairs_truth F (linears F ts) r e
   fact_truth F (Fact.bound x) r e = cc
 
   all_truth : (F : Family) (f : Span → Span → Span) → ((a b : Span) → IsTruth a → IsTruth b → IsTruth (f a b)) → (k : ℤ) → IsTruth (point k) → (cs : Facts) (r : Span) → lift_all f (point k) (fact_ranges F cs) ≡ Some r → IsTruth r

@@ -5,7 +5,7 @@ ghost use Rattle.opl_domain.specs.Span.{point};
 ghost use Rattle.opl_domain.specs.Arithmetic.{span_hull, span_min, span_max};
 ghost use Rattle.opl_domain.specs.Family.{Below};
 ghost use Rattle.opl_expr.specs.Options.{joined};
-ghost use Rattle.opl_expr.specs.Forms.{Term, Fact, term, fact, terms_of, facts_of, all_different};
+ghost use Rattle.opl_expr.specs.Forms.{Term, Fact, term, fact, terms_of, facts_of};
 ghost use Rattle.opl_expr.specs.Range.{taken, chosen, masks, cell_range, may_be, rest, linears, range, fact_range, is_refuted};
 ghost use Rattle.opl_expr.specs.Solutions.{declared};
 ghost use Rattle.opl_expr.specs.Sound.{IsSoundTerm, AreSoundTerms, IsSoundFact, AreSoundFacts, FitDimensions, keys, is_there};
@@ -292,9 +292,9 @@ fn any<V: View>(core: &Core, parts: &[Cons], view: &V) -> Option<Interval>
 #[cycle(ranges)]
 #[tactic(none)]
 fn all_differ<V: View>(core: &Core, parts: &[Expr], view: &V) -> Option<Interval>
-    requires sound { AreSoundFacts core.now.sets (facts_of (all_different (map (term core.now.tables core.now.resources) parts.now))) }
+    requires sound { IsSoundFact core.now.sets (Fact.different (terms_of (map (term core.now.tables core.now.resources) parts.now))) }
     requires within { Below (V.family view.now) (declared core.now) }
-    ensures { result ≡ fact_range (V.family view.now) (Fact.and (facts_of (all_different (map (term core.now.tables core.now.resources) parts.now)))) }
+    ensures { result ≡ fact_range (V.family view.now) (Fact.different (terms_of (map (term core.now.tables core.now.resources) parts.now))) }
 {
     let mut found = Some(Interval::point(1));
     let mut left = parts.len();

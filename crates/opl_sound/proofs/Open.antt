@@ -5,10 +5,10 @@ use Rattle.opl_expr.specs.Forms.{Term, Terms, Fact, Facts}
 use Rattle.opl_expr.specs.Sound.{IsSmall, IsSome, greatest_abs, cells_magnitude, var_magnitude}
 use Rattle.opl_expr.specs.declared.forms.Ask.{Ask}
 use Rattle.opl_expr.specs.declared.forms.Ask.TheVariants.{Size, Least, Greatest}
-use Rattle.opl_trace.specs.Questions.{ask_magnitude, open_magnitude, open_sum, open_greatest, FitOpen, IsOpenTerm, AreOpenTerms, IsOpenFact, AreOpenFacts}
-use Rattle.opl_sound.specs.Measures.{small, is_some, added, multiplied, at_least_one, greater, first, measure, measure_sum, measure_all, measure_some, fit_subscripts, fits, all_fit, answer_magnitude, measure_question}
+use Rattle.opl_trace.specs.Questions.{ask_magnitude, open_magnitude, open_sum, open_greatest, FitOpen, AreOpenComparable, IsOpenTerm, AreOpenTerms, IsOpenFact, AreOpenFacts}
+use Rattle.opl_sound.specs.Measures.{small, is_some, added, multiplied, at_least_one, greater, first, measure, measure_sum, measure_all, measure_some, measure_pairs, comparable, fit_subscripts, fits, all_fit, answer_magnitude, measure_question}
 use Rattle.opl_sound.proofs.Smaller.{is_measure}
-use Rattle.opl_sound.proofs.Tells.{IsTold, IsMeasured, tells_less, tells_both, tells_as, some_tells, iff_as, iff_small, iff_known, iff_added, iff_multiplied, iff_least, iff_greater, iff_first, iff_one, iff_only, iff_fits, iff_table}
+use Rattle.opl_sound.proofs.Tells.{IsTold, IsMeasured, tells_less, tells_both, tells_as, some_tells, iff_as, iff_small, iff_known, iff_added, iff_multiplied, iff_least, iff_greater, iff_comparable, iff_first, iff_one, iff_only, iff_fits, iff_table}
 
 same_answer : (sets : List (ℤ × ℤ)) (ask : Ask) (x : ℕ) → answer_magnitude sets ask x ≡ ask_magnitude sets ask x
 same_answer sets Size x = refl
@@ -52,6 +52,12 @@ module _ (sets : List (ℤ × ℤ)) where
     tells_all Terms.no_terms = record { iff = (tt, refl) }
     tells_all (Terms.more_terms t ts) = iff_greater (measure sets true t) (measure_all sets true ts) (open_magnitude sets t) (open_greatest sets ts) (tells t) (tells_all ts)
 
+    tells_pairs : (ts : Terms) → IsMeasured (measure_pairs sets true ts) (AreOpenComparable sets ts × AreOpenTerms sets ts) (open_greatest sets ts)
+    tells_pairs Terms.no_terms = record { iff = ((tt, tt), refl) }
+    tells_pairs (Terms.more_terms t ts) =
+        iff_as (comparable (measure sets true t) (measure_pairs sets true ts)) (max (open_magnitude sets t) (open_greatest sets ts)) (λ h. ((h.0, h.2.0), (h.1, h.2.1))) (λ h. (h.0.0, h.1.0, (h.0.1, h.1.1)))
+        (iff_comparable (measure sets true t) (measure_pairs sets true ts) (open_magnitude sets t) (open_greatest sets ts) (tells t) (tells_pairs ts))
+
     tells_some : (ts : Terms) → IsMeasured (measure_some sets true ts) (IsSome sets ts × AreOpenTerms sets ts) (max 1 (open_greatest sets ts))
     tells_some Terms.no_terms = record { iff = λ h. h.0 }
     tells_some (Terms.more_terms t ts) =
@@ -74,6 +80,7 @@ module _ (sets : List (ℤ × ℤ)) where
     tells_fact (Fact.or cs) = tells_facts cs
     tells_fact (Fact.iff c d) = tells_both (fits sets true c) (fits sets true d) (tells_fact c) (tells_fact d)
     tells_fact (Fact.not c) = tells_fact c
+    tells_fact (Fact.different ts) = some_tells (measure_pairs sets true ts) (open_greatest sets ts) (tells_pairs ts)
     tells_fact (Fact.bound x) = tells_less x (length sets)
 
     tells_facts : (cs : Facts) → IsTold (all_fit sets true cs) (AreOpenFacts sets cs)

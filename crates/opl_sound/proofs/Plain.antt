@@ -9,7 +9,7 @@ use Rattle.opl_expr.specs.declared.forms.Cons.{Cons}
 use Rattle.opl_expr.specs.declared.forms.Cons.TheVariants as C
 use Rattle.opl_expr.specs.declared.tables.Table.{Table}
 use Rattle.opl_expr.specs.declared.tables.Resource.{Resource}
-use Rattle.opl_expr.specs.Forms.{Term, Fact, terms_of, facts_of, product, compared, all_different, capacity_at, term, fact}
+use Rattle.opl_expr.specs.Forms.{Term, Fact, terms_of, facts_of, product, compared, capacity_at, term, fact}
 use Rattle.opl_expr.specs.Forms.Facts.{no_facts, more_facts}
 use Rattle.opl_expr.proofs.Parts.{product_cases}
 use Rattle.opl_expr.proofs.Plain.{term_Const, term_Var, term_Sum, term_Neg, term_Mul, term_Div, term_Rem, term_Abs, term_Min, term_Max, term_At, term_Truth, term_Ask, fact_Fixed, fact_Cmp, fact_And, fact_Or, fact_Imp, fact_Iff, fact_Not, fact_AllDifferent, fact_Capacity, fact_Bound}
@@ -119,7 +119,7 @@ module _ (tables : List Table) (resources : List Resource) where
     pub fits_Not : (a : Cons) → fits sets asks (fact tables resources (C.Not a)) ≡ fits sets asks (Fact.not (fact tables resources a))
     fits_Not a = ap (fits sets asks) (fact_Not tables resources a)
 
-    pub fits_AllDifferent : (es : List Expr) → fits sets asks (fact tables resources (C.AllDifferent es)) ≡ fits sets asks (Fact.and (facts_of (all_different (map (term tables resources) es))))
+    pub fits_AllDifferent : (es : List Expr) → fits sets asks (fact tables resources (C.AllDifferent es)) ≡ fits sets asks (Fact.different (terms_of (map (term tables resources) es)))
     fits_AllDifferent es = ap (fits sets asks) (fact_AllDifferent tables resources es)
 
     pub fits_Capacity : (r : ℕ) (t : ℤ) → fits sets asks (fact tables resources (C.Capacity r t)) ≡ fits sets asks (capacity_at (slice_get resources r) t)

@@ -15,10 +15,6 @@ smalls n = elim (nat_lt n (2 ^ 127)) as (λ b. nat_lt n (2 ^ 127) ≡ b → (IsS
   | false ↦ λ e. inr (ltb-false n (2 ^ 127) e, refl)
 ] refl
 
-pub zero_small : small 0 ≡ Some 0
-unfolding small
-zero_small = refl
-
 -- a magnitude that is there is small
 abbrev pub IsMeasure : Option ℕ → Type 0
 IsMeasure None = Unit {0}

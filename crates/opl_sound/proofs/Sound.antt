@@ -2,10 +2,10 @@
 use Rattle.std.proofs.Common.{◌+◌, ◌*◌, max, false, refl, List, [], ◌∷◌, length, ℤ, arith}
 use Rattle.std.specs.Prelude.{nat_lt, unsigned_abs, Some, None}
 use Rattle.opl_expr.specs.Forms.{Term, Terms, Fact, Facts}
-use Rattle.opl_expr.specs.Sound.{IsSmall, IsSome, greatest_abs, cells_magnitude, var_magnitude, term_magnitude, sum_magnitude, greatest_magnitude, FitDimensions, IsSoundTerm, AreSoundTerms, IsSoundFact, AreSoundFacts}
-use Rattle.opl_sound.specs.Measures.{small, is_some, added, multiplied, at_least_one, greater, first, measure, measure_sum, measure_all, measure_some, fit_subscripts, fits, all_fit}
+use Rattle.opl_expr.specs.Sound.{IsSmall, IsSome, greatest_abs, cells_magnitude, var_magnitude, term_magnitude, sum_magnitude, greatest_magnitude, FitDimensions, AreComparable, IsSoundTerm, AreSoundTerms, IsSoundFact, AreSoundFacts}
+use Rattle.opl_sound.specs.Measures.{small, is_some, added, multiplied, at_least_one, greater, first, measure, measure_sum, measure_all, measure_some, measure_pairs, comparable, fit_subscripts, fits, all_fit}
 use Rattle.opl_sound.proofs.Smaller.{is_measure}
-use Rattle.opl_sound.proofs.Tells.{IsTold, IsMeasured, tells_less, tells_both, tells_as, some_tells, iff_as, iff_small, iff_known, iff_added, iff_multiplied, iff_least, iff_greater, iff_first, iff_one, iff_only, iff_fits, iff_table}
+use Rattle.opl_sound.proofs.Tells.{IsTold, IsMeasured, tells_less, tells_both, tells_as, some_tells, iff_as, iff_small, iff_known, iff_added, iff_multiplied, iff_least, iff_greater, iff_comparable, iff_first, iff_one, iff_only, iff_fits, iff_table}
 
 module _ (sets : List (ℤ × ℤ)) where
   mutual
@@ -39,6 +39,12 @@ module _ (sets : List (ℤ × ℤ)) where
     tells_all Terms.no_terms = record { iff = (tt, refl) }
     tells_all (Terms.more_terms t ts) = iff_greater (measure sets false t) (measure_all sets false ts) (term_magnitude sets t) (greatest_magnitude sets ts) (tells t) (tells_all ts)
 
+    tells_pairs : (ts : Terms) → IsMeasured (measure_pairs sets false ts) (AreComparable sets ts × AreSoundTerms sets ts) (greatest_magnitude sets ts)
+    tells_pairs Terms.no_terms = record { iff = ((tt, tt), refl) }
+    tells_pairs (Terms.more_terms t ts) =
+        iff_as (comparable (measure sets false t) (measure_pairs sets false ts)) (max (term_magnitude sets t) (greatest_magnitude sets ts)) (λ h. ((h.0, h.2.0), (h.1, h.2.1))) (λ h. (h.0.0, h.1.0, (h.0.1, h.1.1)))
+        (iff_comparable (measure sets false t) (measure_pairs sets false ts) (term_magnitude sets t) (greatest_magnitude sets ts) (tells t) (tells_pairs ts))
+
     tells_some : (ts : Terms) → IsMeasured (measure_some sets false ts) (IsSome sets ts × AreSoundTerms sets ts) (max 1 (greatest_magnitude sets ts))
     tells_some Terms.no_terms = record { iff = λ h. h.0 }
     tells_some (Terms.more_terms t ts) =
@@ -61,6 +67,7 @@ module _ (sets : List (ℤ × ℤ)) where
     tells_fact (Fact.or cs) = tells_facts cs
     tells_fact (Fact.iff c d) = tells_both (fits sets false c) (fits sets false d) (tells_fact c) (tells_fact d)
     tells_fact (Fact.not c) = tells_fact c
+    tells_fact (Fact.different ts) = some_tells (measure_pairs sets false ts) (greatest_magnitude sets ts) (tells_pairs ts)
     tells_fact (Fact.bound x) = record { told = λ h. h }
 
     tells_facts : (cs : Facts) → IsTold (all_fit sets false cs) (AreSoundFacts sets cs)

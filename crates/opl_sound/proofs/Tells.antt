@@ -1,5 +1,5 @@
 -- What magnitudes that may be missing tell.
-use Rattle.std.proofs.Common.{◌≡◌, ℕ, ◌+◌, ◌*◌, ◌<◌, max, Bool, true, false, ◌&&◌, refl, List, length, ℤ, ap, sym, ◌∙◌, subst, arith, inl, inr}
+use Rattle.std.proofs.Common.{◌≡◌, ℕ, ◌+◌, ◌*◌, ◌<◌, max, Bool, true, false, cond, ◌&&◌, refl, List, length, ℤ, ap, sym, ◌∙◌, subst, arith, inl, inr}
 use Rattle.std.specs.Prelude.{nat_lt, nat_eq, Option, Some, None, SomeIff}
 use Rattle.std.specs.List.{list_all}
 use Rattle.std.proofs.lemmas.Bool.{ltb-true, ltb-false}
@@ -7,7 +7,7 @@ use Rattle.std.proofs.lemmas.Bool.Decides.{Decides-eqb}
 use Rattle.opl_expr.specs.declared.tables.Table.{Table}
 use Rattle.opl_expr.specs.Laws.{is_clear}
 use Rattle.opl_expr.specs.Sound.{IsSmall, keys, is_there, cells_magnitude, IsSoundTable}
-use Rattle.opl_sound.specs.Measures.{small, is_some, added, multiplied, at_least_one, greater, first, one_if, only_if, is_whole, measure_table}
+use Rattle.opl_sound.specs.Measures.{small, is_some, added, multiplied, at_least_one, greater, comparable, first, one_if, only_if, is_whole, measure_table}
 use Rattle.opl_sound.proofs.Smaller.{smalls, IsMeasure}
 
 -- a test tells whether something is so
@@ -95,6 +95,13 @@ pub iff_greater : (m n : Option ℕ) {P Q : Type 0} (a b : ℕ) → IsMeasured m
 iff_greater None n a b h i = record { iff = λ p. h.iff p.0 }
 iff_greater (Some j) None a b h i = record { iff = λ p. i.iff p.1 }
 iff_greater (Some j) (Some k) a b h i = record { iff = ((h.iff.0, i.iff.0), ap (λ z. max z k) h.iff.1 ∙ ap (λ z. max a z) i.iff.1) }
+
+pub iff_comparable : (m n : Option ℕ) {P Q : Type 0} (a b : ℕ) → IsMeasured m P a → IsMeasured n Q b → IsMeasured (comparable m n) (IsSmall (a + b) × P × Q) (max a b)
+iff_comparable m n a b h i = chosen (added m n) (iff_added m n a b h i) (iff_greater m n a b h i)
+  where
+    chosen : (o : Option ℕ) {P Q : Type 0} → IsMeasured o (IsSmall (a + b) × P × Q) (a + b) → IsMeasured (greater m n) (P × Q) (max a b) → IsMeasured (cond (is_some o) (greater m n) None) (IsSmall (a + b) × P × Q) (max a b)
+    chosen None g k = record { iff = g.iff }
+    chosen (Some s) g k = iff_as (greater m n) (max a b) (λ p. g.iff.0) (λ p. (p.1, p.2)) k
 
 pub iff_first : (m n : Option ℕ) {P Q : Type 0} (a b : ℕ) → IsMeasured m P a → IsMeasured n Q b → IsMeasured (first m n) (P × Q) a
 iff_first None n a b h i = record { iff = λ p. h.iff p.0 }

@@ -146,6 +146,11 @@ module _ (sets : List (ℤ × ℤ)) where
       measure_some Terms.no_terms = None
       measure_some (Terms.more_terms t ts) = at_least_one (greater (measure t) (measure_all ts))
 
+      -- the greatest magnitude of expressions of which each two can be compared
+      pub measure_pairs : Terms → Option ℕ
+      measure_pairs Terms.no_terms = Some 0
+      measure_pairs (Terms.more_terms t ts) = comparable (measure t) (measure_pairs ts)
+
       -- there is one subscript for each dimension, and each can be compared with each index
       pub fit_subscripts : List (List ℤ) → Terms → Bool
       fit_subscripts [] Terms.no_terms = true
@@ -161,13 +166,9 @@ module _ (sets : List (ℤ × ℤ)) where
       fits (Fact.or cs) = all_fit cs
       fits (Fact.iff c d) = fits c && fits d
       fits (Fact.not c) = fits c
+      fits (Fact.different ts) = is_some (measure_pairs ts)
       fits (Fact.bound x) = asks && nat_lt x (length sets)
 
       pub all_fit : Facts → Bool
       all_fit Facts.no_facts = true
       all_fit (Facts.more_facts c cs) = fits c && all_fit cs
-
-    -- the greatest magnitude of expressions of which each two can be compared
-    abbrev pub measure_pairs : List Term → Option ℕ
-    measure_pairs [] = Some 0
-    measure_pairs (t ∷ ts) = comparable (measure t) (measure_pairs ts)

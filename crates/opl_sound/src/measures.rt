@@ -169,7 +169,7 @@ fn fit_subscripts(core: &Core, asks: bool, dims: &[Seq<i128>], parts: &[Expr]) -
 /// The greatest magnitude of expressions of which each two can be compared.
 #[cycle(measures)]
 fn pairs(core: &Core, asks: bool, parts: &[Expr]) -> Option<u128>
-    ensures { result ≡ measure_pairs core.now.sets asks (map (term core.now.tables core.now.resources) parts.now) }
+    ensures { result ≡ measure_pairs core.now.sets asks (terms_of (map (term core.now.tables core.now.resources) parts.now)) }
 {
     let mut found = Some(0);
     let mut left = parts.len();

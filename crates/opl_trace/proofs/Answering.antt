@@ -6,10 +6,11 @@ use Rattle.std.proofs.Math.IntN.{*ℤ_comm}
 use Rattle.std.proofs.lemmas.Bool.{and_parts}
 use Rattle.opl_domain.specs.Span.{smaller, larger}
 use Rattle.opl_domain.specs.Family.{Family}
+use Rattle.opl_expr.specs.declared.forms.Op.TheVariants.{Ne}
 use Rattle.opl_expr.specs.Forms.{Term, Terms, Fact, Facts, product}
 use Rattle.opl_expr.specs.Options.{lift1, lift, bind, lift_all, lift_some}
-use Rattle.opl_expr.specs.Holds.{bit, quotient, remainder, relates, is_index, cell_value, same, value, all_values, holds, all_hold}
-use Rattle.opl_expr.specs.Range.{look_up}
+use Rattle.opl_expr.specs.Holds.{bit, quotient, remainder, relates, op_relates, is_index, cell_value, same, value, all_values, holds, all_hold}
+use Rattle.opl_expr.specs.Range.{look_up, pairwise}
 use Rattle.opl_expr.specs.Laws.{is_clear, clear, all_clear, clear_fact, clear_facts}
 use Rattle.opl_expr.proofs.Parts.{product_cases}
 use Rattle.opl_trace.specs.Answers.{answered_term, answered_terms, answered, all_answered}
@@ -62,6 +63,7 @@ module _ (F : Family) where
       means_fact (Fact.or cs) h = ap (lift_all (λ b c. b || c) false) (mean_facts cs h)
       means_fact (Fact.iff c d) h = let r = and_parts (is_free c) (is_free d) h in both_are (lift same) (holds a (answered F c)) (holds a (answered F d)) (holds a c) (holds a d) (means_fact c r.0) (means_fact d r.1)
       means_fact (Fact.not c) h = ap (lift1 not) (means_fact c h)
+      means_fact (Fact.different ts) h = ap (λ vs. lift_all (λ b c. b && c) true (pairwise (lift1 (λ v. true)) (lift (op_relates Ne)) vs)) (mean_terms ts h)
       means_fact (Fact.bound x) h = cc
 
       mean_facts : (cs : Facts) → all_free cs ≡ true → all_hold a (all_answered F cs) ≡ all_hold a cs
@@ -98,6 +100,7 @@ module _ (F : Family) where
     clear_answered (Fact.or cs) h = clear_all_answered cs h
     clear_answered (Fact.iff c d) h = let r = and_parts (is_free c) (is_free d) h in both_are ◌&&◌ (clear_fact (answered F c)) (clear_fact (answered F d)) (clear_fact c) (clear_fact d) (clear_answered c r.0) (clear_answered d r.1)
     clear_answered (Fact.not c) h = clear_answered c h
+    clear_answered (Fact.different ts) h = clear_answers ts h
     clear_answered (Fact.bound x) h = cc
 
     clear_all_answered : (cs : Facts) → all_free cs ≡ true → clear_facts (all_answered F cs) ≡ clear_facts cs

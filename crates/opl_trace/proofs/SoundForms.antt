@@ -1,10 +1,9 @@
 -- What a ground core's constraints, conditions and keys are as plain data: the indices of each table differ, and where they
 -- decide they name no variable.
-use Rattle.std.proofs.Common.{◌≡◌, ◌∙◌, ℕ, Bool, true, ◌&&◌, refl, List, [], ◌∷◌, ◌++◌, map, ℤ, ap, sym, subst}
+use Rattle.std.proofs.Common.{◌≡◌, ◌∙◌, ℕ, Bool, true, ◌&&◌, refl, List, [], ◌∷◌, map, ℤ, ap, sym, subst}
 use Rattle.std.specs.Prelude.{nat_le, slice_get, Option, Some, None}
 use Rattle.std.specs.List.{All, list_all}
 use Rattle.std.proofs.lemmas.Bool.{and_parts, and_from}
-use Rattle.std.proofs.lemmas.List.Folds.{list_all-append}
 use Rattle.std.proofs.lemmas.List.Elements.{All-head, All-tail}
 use Rattle.opl_expr.specs.declared.forms.Op.{Op}
 use Rattle.opl_expr.specs.declared.forms.Op.TheVariants.{Eq, Ne, Lt, Le, Gt, Ge}
@@ -20,7 +19,7 @@ use Rattle.opl_expr.specs.declared.search.Step.TheFolds.{fold-Branch, fold-roll-
 use Rattle.opl_expr.specs.declared.search.Step.TheViews.{roll-Step, roll-Branch}
 use Rattle.opl_expr.specs.declared.tables.Table.{Table}
 use Rattle.opl_expr.specs.declared.tables.Resource.{Resource}
-use Rattle.opl_expr.specs.Forms.{Relation, Term, Terms, Fact, Facts, terms_of, facts_of, compared, all_different, constant_value, product_by, term_layer, fact_layer, term, fact}
+use Rattle.opl_expr.specs.Forms.{Term, Terms, Fact, Facts, terms_of, facts_of, compared, constant_value, product_by, term_layer, fact_layer, term, fact}
 use Rattle.opl_expr.specs.Options.{lift1}
 use Rattle.opl_expr.specs.Laws.{clear, all_clear, clear_fact, clear_facts}
 use Rattle.opl_expr.specs.Sound.{IsSoundTerm, AreSoundTerms, IsSoundFact, AreSoundFacts}
@@ -67,6 +66,7 @@ module _ (sets : List (ℤ × ℤ)) where
     sound_fact_clear (Fact.or cs) h = sound_facts_clear cs h
     sound_fact_clear (Fact.iff c d) h = and_from (clear_fact c) (clear_fact d) (sound_fact_clear c h.0) (sound_fact_clear d h.1)
     sound_fact_clear (Fact.not c) h = sound_fact_clear c h
+    sound_fact_clear (Fact.different ts) h = sounds_clear ts h.1
     sound_fact_clear (Fact.bound x) h = absurd h
 
     sound_facts_clear : (cs : Facts) → AreSoundFacts sets cs → clear_facts cs ≡ true
@@ -102,6 +102,7 @@ module _ (sets : List (ℤ × ℤ)) where
     open_fact_clear (Fact.or cs) h = open_facts_clear cs h
     open_fact_clear (Fact.iff c d) h = and_from (clear_fact c) (clear_fact d) (open_fact_clear c h.0) (open_fact_clear d h.1)
     open_fact_clear (Fact.not c) h = open_fact_clear c h
+    open_fact_clear (Fact.different ts) h = opens_clear ts h.1
     open_fact_clear (Fact.bound x) h = refl
 
     open_facts_clear : (cs : Facts) → AreOpenFacts sets cs → clear_facts cs ≡ true
@@ -204,24 +205,6 @@ compared_names Le s t h i = and_from (names_none true s) (names_none true t) h i
 compared_names Gt s t h i = and_from (names_none true t) (names_none true s) i h
 compared_names Ge s t h i = and_from (names_none true t) (names_none true s) i h
 
-facts_are : (cs : List Fact) → facts_name_none true (facts_of cs) ≡ list_all (fact_names_none true) cs
-facts_are [] = refl
-facts_are (c ∷ cs) = ap (λ b. fact_names_none true c && b) (facts_are cs)
-
-differ_names : (t : Term) (ts : List Term) → names_none true t ≡ true → all_name_none true (terms_of ts) ≡ true → list_all (fact_names_none true) (map (λ b. Fact.not (Fact.cmp Relation.equal t b)) ts) ≡ true
-differ_names t [] h i = refl
-differ_names t (s ∷ ts) h i =
-    let r = and_parts (names_none true s) (all_name_none true (terms_of ts)) i in
-    and_from (names_none true t && names_none true s) (list_all (fact_names_none true) (map (λ b. Fact.not (Fact.cmp Relation.equal t b)) ts)) (and_from (names_none true t) (names_none true s) h r.0) (differ_names t ts h r.1)
-
-different_names : (ts : List Term) → all_name_none true (terms_of ts) ≡ true → list_all (fact_names_none true) (all_different ts) ≡ true
-different_names [] h = refl
-different_names (t ∷ ts) h =
-    let r = and_parts (names_none true t) (all_name_none true (terms_of ts)) h in
-    let pairs = map (λ b. Fact.not (Fact.cmp Relation.equal t b)) ts in
-    and_from (names_none true t && true) (list_all (fact_names_none true) (pairs ++ all_different ts)) (and_from (names_none true t) true r.0 refl)
-    (list_all-append (fact_names_none true) pairs (all_different ts) ∙ and_from (list_all (fact_names_none true) pairs) (list_all (fact_names_none true) (all_different ts)) (differ_names t ts r.0 r.1) (different_names ts r.1))
-
 module _ (tables : List Table) (resources : List Resource) where
   abbrev ConsNames : Cons → Type 0
   ConsNames c = cons_stands tables resources true c ≡ true → fact_names_none true (fact tables resources c) ≡ true
@@ -320,7 +303,7 @@ module _ (tables : List Table) (resources : List Resource) where
       let r = two_parts (cons_stands tables resources true a.0) (cons_stands tables resources true b.0) h in
       and_from (fact_names_none true (fact tables resources a.0)) (fact_names_none true (fact tables resources b.0)) (a.1 r.0) (b.1 r.1)
   cons_names (Cons-F.Not a) h = a.1 (one_part (cons_stands tables resources true a.0) h)
-  cons_names (Cons-F.AllDifferent es) h = facts_are (all_different (map (term tables resources) (map (λ i. i.0) es))) ∙ different_names (map (term tables resources) (map (λ i. i.0) es)) (exprs_name es h)
+  cons_names (Cons-F.AllDifferent es) h = exprs_name es h
   cons_names (Cons-F.Capacity r t) h = cc
   cons_names (Cons-F.Bound x) h = refl
 

@@ -14,7 +14,7 @@ use Rattle.opl_expr.specs.declared.tables.Cell.TheVariants as cell
 use Rattle.opl_expr.specs.Forms.{Relation, Term, Terms, Fact, Facts, constant_value, product_by, product}
 use Rattle.opl_expr.specs.Forms.Relation.{equal, at_most, below}
 use Rattle.opl_expr.specs.Options.{lift1, bind1, lift, bind, lift_all, lift_some, joined}
-use Rattle.opl_expr.specs.Range.{verdict, flip, same_truth, is_possible, span_scale, Linear, weighted, with_variables, range_of_linear, count, is_one_or_two, misses_zero, never_zero, compare, taken, chosen, masks, look_up, cell_range, coef, coefs, pure, may_be, rest, linears, range, fact_range, fact_ranges}
+use Rattle.opl_expr.specs.Range.{verdict, flip, same_truth, is_possible, span_scale, Linear, weighted, with_variables, range_of_linear, count, is_one_or_two, misses_zero, never_zero, compare, taken, chosen, masks, look_up, cell_range, pairwise, defined_range, differ_range, coef, coefs, pure, may_be, rest, linears, range, fact_range, fact_ranges}
 use Rattle.opl_trace.specs.Answers.{is_some_point, answered_term, answered_terms, answered, all_answered, ranges_to, is_met, key_value}
 use Rattle.opl_trace.specs.Paths.{asks_none, all_ask_none, is_free, all_free, is_free_key}
 use Rattle.opl_trace.specs.GroundCores.{is_constant, has_constants}
@@ -51,6 +51,7 @@ module _ (asks : Bool) where
     fact_names_none (Fact.or cs) = facts_name_none cs
     fact_names_none (Fact.iff c d) = fact_names_none c && fact_names_none d
     fact_names_none (Fact.not c) = fact_names_none c
+    fact_names_none (Fact.different ts) = all_name_none ts
     fact_names_none (Fact.bound x) = asks
 
     pub facts_name_none : Facts → Bool
@@ -95,6 +96,7 @@ module _ (F G : Family) where
     same_fact (Fact.or cs) h = ap Fact.or (same_facts cs h)
     same_fact (Fact.iff c d) h = let r = and_parts (is_free c) (is_free d) h in both_are Fact.iff (answered F c) (answered F d) (answered G c) (answered G d) (same_fact c r.0) (same_fact d r.1)
     same_fact (Fact.not c) h = ap Fact.not (same_fact c h)
+    same_fact (Fact.different ts) h = ap Fact.different (same_terms ts h)
     same_fact (Fact.bound x) h = cc
 
     same_facts : (cs : Facts) → all_free cs ≡ true → all_answered F cs ≡ all_answered G cs
@@ -139,6 +141,7 @@ module _ (F : Family) where
     answer_fact_names (Fact.or cs) h = answer_facts_name cs h
     answer_fact_names (Fact.iff c d) h = let r = and_parts (fact_names_none true c) (fact_names_none true d) h in and_from (fact_names_none false (answered F c)) (fact_names_none false (answered F d)) (answer_fact_names c r.0) (answer_fact_names d r.1)
     answer_fact_names (Fact.not c) h = answer_fact_names c h
+    answer_fact_names (Fact.different ts) h = answers_name ts h
     answer_fact_names (Fact.bound x) h = refl
 
     answer_facts_name : (cs : Facts) → facts_name_none true cs ≡ true → facts_name_none false (all_answered F cs) ≡ true
@@ -275,6 +278,16 @@ module _ (F G : Family) where
   same_forms [] h = refl
   same_forms (e ∷ es) h = rw (same_ends e.coef e.rest h.0, same_forms es h.1) refl
 
+  same_differ : (d : Linear) (es : List Linear) → IsFlat d.coef → AreFlat es → map (differ_range F d) es ≡ map (differ_range G d) es
+  same_differ d [] h i = refl
+  same_differ d (e ∷ es) h i =
+      let s = same_compare equal (λ x. d.coef x +ℤ neg_ℤ (e.coef x)) (d.pure && e.pure) (lift span_add d.rest (lift1 span_neg e.rest)) (flat_less d.coef e.coef h i.0) in
+      rw (s, same_differ d es h i.1) refl
+
+  same_pairs : (es : List Linear) → AreFlat es → pairwise defined_range (differ_range F) es ≡ pairwise defined_range (differ_range G) es
+  same_pairs [] h = refl
+  same_pairs (e ∷ es) h = rw (same_differ e es h.0 h.1, same_pairs es h.1) refl
+
   same_by : (t : Term) → names_none false t ≡ true → rest F t ≡ rest G t → range F t ≡ range G t
   same_by t h e = same_ends (coef t) (rest F t) (flat t h) ∙ ap (lift1 (with_variables G (coef t) (length G))) e
 
@@ -311,6 +324,8 @@ module _ (F G : Family) where
     same_fact_range (Fact.or cs) h = ap (lift_all span_max (point (pos 0))) (same_fact_ranges cs h)
     same_fact_range (Fact.iff c d) h = let r = and_parts (fact_names_none false c) (fact_names_none false d) h in both_are (lift same_truth) (fact_range F c) (fact_range F d) (fact_range G c) (fact_range G d) (same_fact_range c r.0) (same_fact_range d r.1)
     same_fact_range (Fact.not c) h = ap (lift1 flip) (same_fact_range c h)
+    same_fact_range (Fact.different ts) h =
+        ap (lift_all span_min (point (pos 1))) (same_pairs (linears F ts) (linears_flat ts h) ∙ ap (pairwise defined_range (differ_range G)) (same_linears ts h))
     same_fact_range (Fact.bound x) h = refl
 
     same_fact_ranges : (cs : Facts) → facts_name_none false cs ≡ true → fact_ranges F cs ≡ fact_ranges G cs

@@ -55,6 +55,7 @@ module _ (F : Family) where
     answered (Fact.or cs) = Fact.or (all_answered cs)
     answered (Fact.iff c d) = Fact.iff (answered c) (answered d)
     answered (Fact.not c) = Fact.not (answered c)
+    answered (Fact.different ts) = Fact.different (answered_terms ts)
     answered (Fact.bound x) = Fact.fixed (is_single F x)
 
     pub all_answered : Facts → Facts

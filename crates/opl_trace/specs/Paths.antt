@@ -101,6 +101,7 @@ abbrev mutual
   is_free (Fact.or cs) = all_free cs
   is_free (Fact.iff c d) = is_free c && is_free d
   is_free (Fact.not c) = is_free c
+  is_free (Fact.different ts) = all_ask_none ts
   is_free (Fact.bound x) = false
 
   pub all_free : Facts → Bool

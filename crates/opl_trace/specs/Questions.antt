@@ -56,6 +56,11 @@ module _ (sets : List (ℤ × ℤ)) where
   FitOpenTable None ts = ⊥
   FitOpenTable (Some t) ts = FitOpen t.dims ts
 
+  -- each two of the expressions can be compared
+  abbrev pub AreOpenComparable : Terms → Type 0
+  AreOpenComparable Terms.no_terms = Unit {0}
+  AreOpenComparable (Terms.more_terms t ts) = IsSmall (open_magnitude t + open_greatest ts) × AreOpenComparable ts
+
   abbrev mutual
     pub IsOpenTerm : Term → Type 0
     IsOpenTerm (Term.const k) = IsSmall (unsigned_abs k)
@@ -84,6 +89,7 @@ module _ (sets : List (ℤ × ℤ)) where
     IsOpenFact (Fact.or cs) = AreOpenFacts cs
     IsOpenFact (Fact.iff c d) = IsOpenFact c × IsOpenFact d
     IsOpenFact (Fact.not c) = IsOpenFact c
+    IsOpenFact (Fact.different ts) = AreOpenComparable ts × AreOpenTerms ts
     IsOpenFact (Fact.bound x) = x < length sets
 
     pub AreOpenFacts : Facts → Type 0

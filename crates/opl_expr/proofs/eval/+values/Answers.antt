@@ -1,20 +1,19 @@
-use Rattle.std.proofs.Common.{◌≡◌, ◌-◌, ◌+◌, ◌<◌, [], true, refl, ap, sym, ◌∙◌, subst, rules, arith, map, length, drop, take, get_or, ℤ, pos, neg_ℤ, ◌+ℤ◌, ◌*ℤ◌, ◌*◌, to_z, of_z, ◌&&◌, ◌||◌}
-use Rattle.std.specs.Prelude.{FitsSigned, unsigned_abs, not, Option, Some, None, int_le}
+use Rattle.std.proofs.Common.{◌≡◌, ◌-◌, ◌+◌, ◌<◌, [], true, ap, sym, ◌∙◌, subst, rules, arith, map, length, drop, get_or, pos, neg_ℤ, ◌*ℤ◌, ◌*◌, ◌&&◌, ◌||◌}
+use Rattle.std.specs.Prelude.{FitsSigned, unsigned_abs, not, Some, None, int_le}
 use mir.Syntax.{w64, w128}
 use Rattle.std.proofs.lemmas.Int.{ints, to_z-of_z}
-use Rattle.opl_domain.specs.Span.{smaller, larger}
 use Rattle.opl_expr.specs.declared.forms.Cons.TheFolds.{the_lemmas}
-use Rattle.opl_expr.specs.Forms.{Term, Fact, Facts, term, fact, terms_of, facts_of, compared, product, all_different, capacity_at}
+use Rattle.opl_expr.specs.Forms.{Term, Fact, Facts, term, fact, terms_of, facts_of, compared, product, capacity_at}
 use Rattle.opl_expr.specs.Options.{lift, lift1, bind, joined}
-use Rattle.opl_expr.specs.Holds.{bit, value, holds, quotient, remainder, same, op_relates, value_at, place_in, total_demand, cell_value, is_index, all_values}
+use Rattle.opl_expr.specs.Holds.{bit, value, holds, quotient, remainder, same, op_relates, place_in, total_demand, cell_value, is_index, all_values}
 use Rattle.opl_expr.specs.Sound.{IsSmall, term_magnitude, IsSoundTerm, AreSoundTerms, IsSoundFact, AreSoundFacts, UsesThere, demands, keys, is_there}
 use Rattle.opl_expr.specs.Laws.{all_differ}
 use Rattle.opl_expr.specs.Range.{chosen, taken, masks}
 use Rattle.std.specs.List.{list_all}
 use Rattle.opl_expr.proofs.Plain.{term_Const, term_Var, term_Sum, term_Neg, term_Mul, term_Div, term_Rem, term_Abs, term_Min, term_Max, term_At, term_Truth, term_Ask, fact_Fixed, fact_Cmp, fact_And, fact_Or, fact_Imp, fact_Iff, fact_Not, fact_AllDifferent, fact_Capacity, fact_Bound}
-use Rattle.opl_expr.proofs.Bounds.{bounded, both_true, small_of, product_small_of, sum_small_of}
-use Rattle.opl_expr.proofs.Parts.{drop_at, drop_none, one_less, sound_at, sound_fact_at, some_terms, sound_from, value_product, SoundFactors, sound_product, sum_loop, least_step, greatest_step, holds_compared, SoundSides, sound_compared, or_end, any_default}
-use Rattle.opl_expr.proofs.Cells.{sound_different, differ_step, place_below, fit_length, block_missing_part, block_missing_place, block_size, block_next, last_block, capacity_is, demands_small, demands_there}
+use Rattle.opl_expr.proofs.Bounds.{bounded, small_of, product_small_of, sum_small_of}
+use Rattle.opl_expr.proofs.Parts.{sound_at, sound_fact_at, some_terms, sound_from, value_product, sound_product, sum_loop, least_step, greatest_step, holds_compared, sound_compared, or_end, any_default}
+use Rattle.opl_expr.proofs.Cells.{differ_step, place_below, fit_length, block_missing_part, block_missing_place, block_size, block_next, capacity_is, demands_small, demands_there}
 use Rattle.opl_expr.proofs.eval.+values.Goals as goal
 
 pub value-value-requires : goal.value-value-requires
@@ -275,7 +274,8 @@ some_hold-holds-requires t c =
 
 pub holds-all_differ-requires : goal.holds-all_differ-requires
 holds-all_differ-requires t c =
-    (search (rules, the_lemmas), (subst (λ z. AreSoundTerms c.args.core.now.sets (terms_of (map (term c.args.core.now.tables c.args.core.now.resources) z))) (sym c.as_slice-in-AllDifferent.ensures) (sound_different c.args.core.now.sets (map (term c.args.core.now.tables c.args.core.now.resources) c.in-AllDifferent.parts) (subst (λ r. IsSoundFact c.args.core.now.sets r) (ap (fact c.args.core.now.tables c.args.core.now.resources) c.in-AllDifferent.is ∙ fact_AllDifferent c.args.core.now.tables c.args.core.now.resources c.in-AllDifferent.parts) c.requires.sound)), c.requires.among))
+    let s = subst (λ r. IsSoundFact c.args.core.now.sets r) (ap (fact c.args.core.now.tables c.args.core.now.resources) c.in-AllDifferent.is ∙ fact_AllDifferent c.args.core.now.tables c.args.core.now.resources c.in-AllDifferent.parts) c.requires.sound in
+    (search (rules, the_lemmas), (subst (λ z. AreSoundTerms c.args.core.now.sets (terms_of (map (term c.args.core.now.tables c.args.core.now.resources) z))) (sym c.as_slice-in-AllDifferent.ensures) s.1, c.requires.among))
 
 pub holds-returns-in-None : goal.holds-returns-in-None
 holds-returns-in-None t c =
@@ -331,7 +331,7 @@ value-returns-in-Some t c =
 
 pub holds-returns-in-AllDifferent : goal.holds-returns-in-AllDifferent
 holds-returns-in-AllDifferent t c =
-    c.all_differ.ensures ∙ ap (λ z. holds c.args.values.now (Fact.and (facts_of (all_different (map (term c.args.core.now.tables c.args.core.now.resources) z))))) c.as_slice-in-AllDifferent.ensures ∙ ap (holds c.args.values.now) (sym (ap (fact c.args.core.now.tables c.args.core.now.resources) c.in-AllDifferent.is ∙ fact_AllDifferent c.args.core.now.tables c.args.core.now.resources c.in-AllDifferent.parts))
+    c.all_differ.ensures ∙ ap (λ z. holds c.args.values.now (Fact.different (terms_of (map (term c.args.core.now.tables c.args.core.now.resources) z)))) c.as_slice-in-AllDifferent.ensures ∙ ap (holds c.args.values.now) (sym (ap (fact c.args.core.now.tables c.args.core.now.resources) c.in-AllDifferent.is ∙ fact_AllDifferent c.args.core.now.tables c.args.core.now.resources c.in-AllDifferent.parts))
 
 pub all_differ-value-first-requires : goal.all_differ-value-first-requires
 all_differ-value-first-requires t c =

@@ -2,7 +2,7 @@ use Rattle.std.proofs.Common.{◌≡◌, ◌+◌, ◌<◌, ◌≤◌, map, lengt
 use Rattle.std.proofs.Common.{◌&&◌}
 use Rattle.opl_expr.specs.declared.forms.Op.TheVariants.{Ne}
 use Rattle.opl_expr.specs.Options.{lift, lift_onto}
-use Rattle.opl_expr.specs.Forms.{Term, Fact, term, fact, terms_of, facts_of, all_different}
+use Rattle.opl_expr.specs.Forms.{Term, Fact, term, fact, terms_of, facts_of}
 use Rattle.opl_expr.specs.Holds.{value, holds, op_relates}
 use Rattle.opl_expr.proofs.Cells.{IsBlock}
 use Rattle.opl_expr.proofs.eval.+values.Given as goal
@@ -47,7 +47,7 @@ decreases-all_differ-loop-other l = l.other
 
 abbrev pub invariant-all_differ-loop-left : goal.invariant-all_differ-loop-left
 invariant-all_differ-loop-left l =
-    (l.left ≤ length l.parts) × (l.found ≡ holds l.values (Fact.and (facts_of (all_different (map (term l.core.tables l.core.resources) (drop l.left l.parts))))))
+    (l.left ≤ length l.parts) × (l.found ≡ holds l.values (Fact.different (terms_of (map (term l.core.tables l.core.resources) (drop l.left l.parts)))))
 
 abbrev pub decreases-all_differ-loop-left : goal.decreases-all_differ-loop-left
 decreases-all_differ-loop-left l = l.left

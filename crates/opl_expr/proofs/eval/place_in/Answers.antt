@@ -1,9 +1,8 @@
-use Rattle.std.proofs.Common.{◌≡◌, ◌-◌, ◌+ℤ◌, get_or, length, refl, ap, sym, ◌∙◌, rules, arith, ℤ, pos, to_z, of_z, true, false}
+use Rattle.std.proofs.Common.{get_or, rules, pos}
 use Rattle.std.specs.Prelude.{FitsSigned}
-use mir.Syntax.{w64, w128}
-use Rattle.std.proofs.lemmas.Int.{ints, to_z-of_z}
-use Rattle.opl_expr.specs.Holds.{is_active, demand_of, total_demand}
-use Rattle.opl_expr.proofs.Parts.{use_there, added_small, total_more, found_place, next_place, same_bits_128}
+use mir.Syntax.{w128}
+use Rattle.std.proofs.lemmas.Int.{to_z-of_z}
+use Rattle.opl_expr.proofs.Parts.{found_place, same_bits_128}
 use Rattle.opl_expr.proofs.eval.place_in.Goals as goal
 
 pub returns-then-v-w : goal.returns-then-v-w

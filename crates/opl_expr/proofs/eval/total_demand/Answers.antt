@@ -1,10 +1,9 @@
-use Rattle.std.proofs.Common.{◌≡◌, ◌-◌, ◌+ℤ◌, get_or, length, refl, ap, sym, ◌∙◌, rules, arith, ℤ, pos, to_z, of_z, true, false}
+use Rattle.std.proofs.Common.{◌-◌, get_or, rules, arith, pos, to_z}
 use Rattle.std.specs.Prelude.{FitsSigned}
 use mir.Syntax.{w64, w128}
-use Rattle.std.proofs.lemmas.Int.{ints, to_z-of_z}
+use Rattle.std.proofs.lemmas.Int.{to_z-of_z}
 use Rattle.opl_expr.specs.declared.tables.Use.{Use}
-use Rattle.opl_expr.specs.Holds.{is_active, demand_of, total_demand}
-use Rattle.opl_expr.proofs.Parts.{use_there, added_small, total_more, idle, busy, found_place, next_place, same_bits_128}
+use Rattle.opl_expr.proofs.Parts.{use_there, added_small, total_more, idle, busy}
 use Rattle.opl_expr.proofs.eval.total_demand.Goals as goal
 
 pub is_active-requires-clause-start : goal.is_active-requires-clause-start

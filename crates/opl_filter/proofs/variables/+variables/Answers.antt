@@ -1,10 +1,10 @@
 use Rattle.std.proofs.Common.{◌≡◌, ◌∙◌, refl, map, sym, ap}
 use Rattle.std.specs.Prelude.{slice_get, nat_eq}
-use Rattle.opl_expr.specs.Forms.{Term, Fact, term, fact, terms_of, facts_of, compared, product, all_different, capacity_at}
+use Rattle.opl_expr.specs.Forms.{Term, Fact, term, fact, terms_of, facts_of, compared, product, capacity_at}
 use Rattle.opl_expr.specs.Forms.Facts.{no_facts, more_facts}
 use Rattle.opl_expr.proofs.Plain.{term_Const, term_Var, term_Sum, term_Neg, term_Mul, term_Div, term_Rem, term_Abs, term_Min, term_Max, term_At, term_Truth, term_Ask, fact_Fixed, fact_Cmp, fact_And, fact_Or, fact_Imp, fact_Iff, fact_Not, fact_AllDifferent, fact_Capacity, fact_Bound}
 use Rattle.opl_filter.specs.Mentions.{table_mentions, resource_mentions, term_mentions, terms_mention, mentions, facts_mention}
-use Rattle.opl_filter.proofs.Adding.{adds_none, ok_both, ok_same, first_none, first_next, first_all, any_terms, any_facts, in_product, in_compared, in_implied, in_different, in_capacity}
+use Rattle.opl_filter.proofs.Adding.{adds_none, ok_both, ok_same, first_none, first_next, first_all, any_terms, any_facts, in_product, in_compared, in_implied, in_capacity}
 use Rattle.opl_filter.proofs.variables.+variables.Goals as goal
 
 pub add_term-returns-in-Const : goal.add_term-returns-in-Const
@@ -89,7 +89,7 @@ add_fact-returns-in-Not t c =
 
 pub add_fact-returns-in-AllDifferent : goal.add_fact-returns-in-AllDifferent
 add_fact-returns-in-AllDifferent t c =
-    ok_same c.add_terms.result (terms_mention (terms_of (map (term c.args.core.now.tables c.args.core.now.resources) c.as_slice-in-AllDifferent.result.now))) (mentions (fact c.args.core.now.tables c.args.core.now.resources c.args.c.now)) c.args.found.now c.add_terms.new.found (λ y. in_different (map (term c.args.core.now.tables c.args.core.now.resources) c.as_slice-in-AllDifferent.result.now) y ∙ sym (ap (λ s. mentions s y) (ap (fact c.args.core.now.tables c.args.core.now.resources) c.in-AllDifferent.is ∙ fact_AllDifferent c.args.core.now.tables c.args.core.now.resources c.in-AllDifferent.parts ∙ ap (λ z. Fact.and (facts_of (all_different (map (term c.args.core.now.tables c.args.core.now.resources) z)))) (sym c.as_slice-in-AllDifferent.ensures)))) c.add_terms.ensures
+    ok_same c.add_terms.result (terms_mention (terms_of (map (term c.args.core.now.tables c.args.core.now.resources) c.as_slice-in-AllDifferent.result.now))) (mentions (fact c.args.core.now.tables c.args.core.now.resources c.args.c.now)) c.args.found.now c.add_terms.new.found (λ y. sym (ap (λ s. mentions s y) (ap (fact c.args.core.now.tables c.args.core.now.resources) c.in-AllDifferent.is ∙ fact_AllDifferent c.args.core.now.tables c.args.core.now.resources c.in-AllDifferent.parts ∙ ap (λ z. Fact.different (terms_of (map (term c.args.core.now.tables c.args.core.now.resources) z))) (sym c.as_slice-in-AllDifferent.ensures)))) c.add_terms.ensures
 
 pub add_fact-returns-in-Capacity : goal.add_fact-returns-in-Capacity
 add_fact-returns-in-Capacity t c =

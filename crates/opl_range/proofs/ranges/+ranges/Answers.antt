@@ -7,7 +7,7 @@ use Rattle.opl_domain.specs.Arithmetic.{span_min, span_max}
 use Rattle.opl_expr.specs.declared.forms.Cons.TheFolds.{the_lemmas}
 use Rattle.opl_expr.specs.declared.forms.Op.TheVariants.{Ne}
 use Rattle.opl_expr.specs.declared.tables.Cell.TheVariants as cell
-use Rattle.opl_expr.specs.Forms.{Term, Fact, fact, terms_of, facts_of, compared, all_different, capacity_at}
+use Rattle.opl_expr.specs.Forms.{Term, Fact, fact, terms_of, facts_of, compared, capacity_at}
 use Rattle.opl_expr.specs.Options.{lift1, lift_onto}
 use Rattle.opl_expr.specs.Range.{flip, rest, may_be, linears, fact_range}
 use Rattle.opl_expr.specs.Sound.{term_magnitude, keys, is_there, IsSoundTerm, AreSoundTerms, IsSoundFact, AreSoundFacts}
@@ -18,7 +18,7 @@ use Rattle.opl_range.proofs.Parts.{sum_parts, least_parts, greatest_parts, neg_p
 use Rattle.opl_range.proofs.Compare.{opposite_is}
 use Rattle.opl_range.proofs.Arms.{neg_arm, mul_left_arm, mul_right_arm, part_range, div_arm, rem_arm, abs_arm, mul_arm, rest_fits, range_fits, multiple_fits, product_fits, sum_more, sum_fits, extreme_next, extreme_last, by_form, by_fact, one_place, and_more, or_more, imp_arm, iff_arm, cmp_first, cmp_second, cmp_same, cells_same}
 use Rattle.opl_range.proofs.Demands.{count_is}
-use Rattle.opl_range.proofs.Pairs.{differ_next, pair_next, sound_pair_at, sound_one_at}
+use Rattle.opl_range.proofs.Pairs.{differ_next, pair_next, sound_pair_at}
 use Rattle.opl_range.proofs.Tables.{linear, cell_there, fit_length, fit_same, reach_start, reach_sizes, reach_next, reach_missed, reach_whole, index_fits}
 use Rattle.opl_range.proofs.TableRows.{IsSplit, length_take, at_take, length_slice, slice_there, no_cells, one_cell, fit_at, split_some, split_count, split_end, split_start, split_skipped, split_joined, split_whole, empty_is, some_is, plus_less}
 use Rattle.opl_range.proofs.ranges.+ranges.Goals as goal
@@ -525,11 +525,11 @@ cons_range-returns-in-Not g t c =
 
 pub cons_range-all_differ-requires : goal.cons_range-all_differ-requires
 cons_range-all_differ-requires g t c κs within =
-    let core = c.args.core.now in let F = g.V.View.family c.args.view.now in (search (rules, the_lemmas), (within, (subst (λ z. AreSoundFacts core.sets (facts_of (all_different (map (term_of core) z)))) (sym c.as_slice-in-AllDifferent.ensures) (subst (IsSoundFact core.sets) (ap (fact core.tables core.resources) c.in-AllDifferent.is ∙ fact_AllDifferent core.tables core.resources c.in-AllDifferent.parts) c.requires.sound), c.requires.within)))
+    let core = c.args.core.now in let F = g.V.View.family c.args.view.now in (search (rules, the_lemmas), (within, (subst (λ z. IsSoundFact core.sets (Fact.different (terms_of (map (term_of core) z)))) (sym c.as_slice-in-AllDifferent.ensures) (subst (IsSoundFact core.sets) (ap (fact core.tables core.resources) c.in-AllDifferent.is ∙ fact_AllDifferent core.tables core.resources c.in-AllDifferent.parts) c.requires.sound), c.requires.within)))
 
 pub cons_range-returns-in-AllDifferent : goal.cons_range-returns-in-AllDifferent
 cons_range-returns-in-AllDifferent g t c =
-    let core = c.args.core.now in let F = g.V.View.family c.args.view.now in by_fact core F c.args.c.now _ _ (ap (fact core.tables core.resources) c.in-AllDifferent.is ∙ fact_AllDifferent core.tables core.resources c.in-AllDifferent.parts) (c.all_differ.ensures ∙ ap (λ z. fact_range F (Fact.and (facts_of (all_different (map (term_of core) z))))) c.as_slice-in-AllDifferent.ensures)
+    let core = c.args.core.now in let F = g.V.View.family c.args.view.now in by_fact core F c.args.c.now _ _ (ap (fact core.tables core.resources) c.in-AllDifferent.is ∙ fact_AllDifferent core.tables core.resources c.in-AllDifferent.parts) (c.all_differ.ensures ∙ ap (λ z. fact_range F (Fact.different (terms_of (map (term_of core) z)))) c.as_slice-in-AllDifferent.ensures)
 
 pub cons_range-returns-in-None : goal.cons_range-returns-in-None
 cons_range-returns-in-None g t c =
@@ -549,15 +549,15 @@ cons_range-returns-in-Some g t c =
 
 pub all_differ-rest_of-requires : goal.all_differ-rest_of-requires
 all_differ-rest_of-requires g t c κs within =
-    let core = c.args.core.now in let F = g.V.View.family c.args.view.now in (search (rules, the_lemmas), (within, (sound_one_at core.sets (term_of core) c.args.parts.now (c.loop-left.left - 1) c.index-parts-left.result (omega (arith, c.loop-left.invariant.0, c.loop-left-test.true)) c.index-parts-left.is c.requires.sound, c.requires.within)))
+    let core = c.args.core.now in let F = g.V.View.family c.args.view.now in (search (rules, the_lemmas), (within, (sound_at core.sets (term_of core) c.args.parts.now (c.loop-left.left - 1) c.index-parts-left.result (omega (arith, c.loop-left.invariant.0, c.loop-left-test.true)) c.index-parts-left.is c.requires.sound.1, c.requires.within)))
 
 pub all_differ-rest_of-requires-in-loop-other : goal.all_differ-rest_of-requires-in-loop-other
 all_differ-rest_of-requires-in-loop-other g t c κs within =
-    let core = c.args.core.now in let F = g.V.View.family c.args.view.now in (search (rules, the_lemmas), (within, (sound_one_at core.sets (term_of core) c.args.parts.now (c.loop-other.other - 1) c.index-parts-other.result (omega (arith, c.loop-other.invariant.1, c.loop-other.invariant.0, c.loop-left-test.true)) c.index-parts-other.is c.requires.sound, c.requires.within)))
+    let core = c.args.core.now in let F = g.V.View.family c.args.view.now in (search (rules, the_lemmas), (within, (sound_at core.sets (term_of core) c.args.parts.now (c.loop-other.other - 1) c.index-parts-other.result (omega (arith, c.loop-other.invariant.1, c.loop-other.invariant.0, c.loop-left-test.true)) c.index-parts-other.is c.requires.sound.1, c.requires.within)))
 
 pub all_differ-rest_of-requires-in-loop-left : goal.all_differ-rest_of-requires-in-loop-left
 all_differ-rest_of-requires-in-loop-left g t c κs within =
-    let core = c.args.core.now in let F = g.V.View.family c.args.view.now in (search (rules, the_lemmas), (within, (sound_one_at core.sets (term_of core) c.args.parts.now (c.loop-left.left - 1) c.index-parts-left.result (omega (arith, c.loop-left.invariant.0, c.loop-left-test.true)) c.index-parts-left.is c.requires.sound, c.requires.within)))
+    let core = c.args.core.now in let F = g.V.View.family c.args.view.now in (search (rules, the_lemmas), (within, (sound_at core.sets (term_of core) c.args.parts.now (c.loop-left.left - 1) c.index-parts-left.result (omega (arith, c.loop-left.invariant.0, c.loop-left-test.true)) c.index-parts-left.is c.requires.sound.1, c.requires.within)))
 
 pub all_differ-compared-differ-requires-clause-sound : goal.all_differ-compared-differ-requires-clause-sound
 all_differ-compared-differ-requires-clause-sound g t c =
@@ -589,11 +589,11 @@ all_differ-loop-left-preserved g t c =
 
 pub all_differ-returns : goal.all_differ-returns
 all_differ-returns g t c =
-    let core = c.args.core.now in let F = g.V.View.family c.args.view.now in c.loop-left.invariant.1 ∙ ap (λ k. fact_range F (Fact.and (facts_of (all_different (map (term_of core) (drop k c.args.parts.now)))))) (none_left c.loop-left.left c.loop-left-test.false)
+    let core = c.args.core.now in let F = g.V.View.family c.args.view.now in c.loop-left.invariant.1 ∙ ap (λ k. fact_range F (Fact.different (terms_of (map (term_of core) (drop k c.args.parts.now))))) (none_left c.loop-left.left c.loop-left-test.false)
 
 pub all_differ-loop-left-init : goal.all_differ-loop-left-init
 all_differ-loop-left-init g t c =
-    let core = c.args.core.now in let F = g.V.View.family c.args.view.now in (omega arith, ap Some c.point.ensures ∙ ap (λ ys. fact_range F (Fact.and (facts_of (all_different (map (term_of core) ys))))) (sym (drop_none c.args.parts.now)))
+    let core = c.args.core.now in let F = g.V.View.family c.args.view.now in (omega arith, ap Some c.point.ensures ∙ ap (λ ys. fact_range F (Fact.different (terms_of (map (term_of core) ys)))) (sym (drop_none c.args.parts.now)))
 
 pub all-bounds-parts-left : goal.all-bounds-parts-left
 all-bounds-parts-left g t c =

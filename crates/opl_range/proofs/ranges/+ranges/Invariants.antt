@@ -2,7 +2,7 @@ use Rattle.std.proofs.Common.{◌≡◌, ◌+◌, ◌<◌, ◌≤◌, map, lengt
 use Rattle.opl_domain.specs.Arithmetic.{span_min}
 use Rattle.opl_expr.specs.declared.forms.Op.TheVariants.{Ne}
 use Rattle.opl_expr.specs.Options.{lift_onto}
-use Rattle.opl_expr.specs.Forms.{Term, Fact, term, fact, terms_of, facts_of, all_different, compared}
+use Rattle.opl_expr.specs.Forms.{Term, Fact, term, fact, terms_of, facts_of, compared}
 use Rattle.opl_expr.specs.Range.{taken, masks, may_be, linears, rest, fact_range}
 use Rattle.opl_range.proofs.Tables.{IsReached}
 use Rattle.opl_range.proofs.TableRows.{rows_from}
@@ -40,7 +40,7 @@ abbrev pub decreases-any-loop-left : goal.decreases-any-loop-left
 decreases-any-loop-left g l = l.left
 
 abbrev pub invariant-all_differ-loop-left : goal.invariant-all_differ-loop-left
-invariant-all_differ-loop-left g l = (l.left ≤ length l.parts) × (l.found ≡ fact_range (g.V.View.family l.view) (Fact.and (facts_of (all_different (map (term l.core.tables l.core.resources) (drop l.left l.parts))))))
+invariant-all_differ-loop-left g l = (l.left ≤ length l.parts) × (l.found ≡ fact_range (g.V.View.family l.view) (Fact.different (terms_of (map (term l.core.tables l.core.resources) (drop l.left l.parts)))))
 
 abbrev pub decreases-all_differ-loop-left : goal.decreases-all_differ-loop-left
 decreases-all_differ-loop-left g l = l.left

@@ -2,12 +2,12 @@ use Rattle.std.proofs.Common.{◌-◌, ap, sym, ◌∙◌, map, arith, rules}
 use Rattle.std.specs.Prelude.{Some, unsigned_abs, FitsSigned}
 use mir.Syntax.{w64}
 use Rattle.std.proofs.lemmas.Int.{to_z-of_z}
-use Rattle.opl_expr.specs.Forms.{term, fact, capacity_at}
+use Rattle.opl_expr.specs.Forms.{term, fact, terms_of, capacity_at}
 use Rattle.opl_expr.specs.Sound.{greatest_abs}
 use Rattle.opl_expr.proofs.Plain.{fact_AllDifferent, fact_Capacity}
 use Rattle.opl_sound.specs.Measures.{measure, measure_pairs, fits, is_some, added, at_least_one, fits_capacity}
 use Rattle.opl_sound.proofs.Lists.{one_misfits, other_lengths, subscript_misfits, some_greatest}
-use Rattle.opl_sound.proofs.Rewritten.{pairs_are, capacity_is}
+use Rattle.opl_sound.proofs.Rewritten.{capacity_is}
 use Rattle.opl_sound.proofs.measures.+measures.Goals as goal
 
 pub all_fit-returns-then-not-fits : goal.all_fit-returns-then-not-fits
@@ -24,8 +24,7 @@ fit_subscripts-returns-then-not-is_there t c =
 
 pub fits-returns-in-AllDifferent : goal.fits-returns-in-AllDifferent
 fits-returns-in-AllDifferent t c =
-    c.is_there-in-AllDifferent.ensures ∙ ap is_some c.pairs.ensures ∙ ap (λ es. is_some (measure_pairs c.args.core.now.sets c.args.asks (map (term c.args.core.now.tables c.args.core.now.resources) es))) c.as_slice-in-AllDifferent.ensures
-    ∙ sym (pairs_are c.args.core.now.sets c.args.asks (map (term c.args.core.now.tables c.args.core.now.resources) c.in-AllDifferent.parts))
+    c.is_there-in-AllDifferent.ensures ∙ ap is_some c.pairs.ensures ∙ ap (λ es. is_some (measure_pairs c.args.core.now.sets c.args.asks (terms_of (map (term c.args.core.now.tables c.args.core.now.resources) es)))) c.as_slice-in-AllDifferent.ensures
     ∙ sym (ap (λ z. fits c.args.core.now.sets c.args.asks ((fact c.args.core.now.tables c.args.core.now.resources) z)) c.in-AllDifferent.is ∙ ap (fits c.args.core.now.sets c.args.asks) (fact_AllDifferent c.args.core.now.tables c.args.core.now.resources c.in-AllDifferent.parts))
 
 pub fits-returns-in-Some : goal.fits-returns-in-Some

@@ -22,7 +22,7 @@ abbrev pub decreases-fit_subscripts-loop-left : goal.decreases-fit_subscripts-lo
 decreases-fit_subscripts-loop-left l = l.left
 
 abbrev pub invariant-pairs-loop-left : goal.invariant-pairs-loop-left
-invariant-pairs-loop-left l = (l.left ≤ length l.parts) × (l.found ≡ measure_pairs l.core.sets l.asks (map (term l.core.tables l.core.resources) (drop l.left l.parts)))
+invariant-pairs-loop-left l = (l.left ≤ length l.parts) × (l.found ≡ measure_pairs l.core.sets l.asks (terms_of (map (term l.core.tables l.core.resources) (drop l.left l.parts))))
 
 abbrev pub decreases-pairs-loop-left : goal.decreases-pairs-loop-left
 decreases-pairs-loop-left l = l.left
