@@ -6,11 +6,11 @@ ghost use Rattle.opl_given.specs.Faults.{Binds, Gives};
 ghost use Rattle.opl_given.specs.Readings.{axis_of};
 
 use opl_eval::{Environment, EvalFault, eval, eval_set, number};
-use opl_given::{Axis, BindFault, index_set, keys_of};
+use opl_given::{Axis, BindFault, index_set, space_of};
 use opl_list::Seq;
 use opl_term::{SetTerm, Term, add_term, set_term};
 use opl_tree::{AddTree, DimTree, DimsTree};
-use opl_value::{KeySpace, Value};
+use opl_value::{IndexSpace, Value};
 use std::alloc::Global;
 
 /// A fault of evaluation as one of a declaration.
@@ -96,16 +96,16 @@ pub(crate) fn axes_in(
     Ok(axes)
 }
 
-/// The index space of dimensions, whose sets are evaluated in order. For more than 2^64 - 1 keys memory is wanting.
+/// The index space of dimensions, whose sets are evaluated in order. It may have more keys than can be counted.
 #[tactic(auto, unfolding(crate::specs::Dimensions::space_in), using(opl_given::proofs::Spaces::spaces))]
 pub fn index_space(
     alloc: Global,
     environment: &Environment<'_>,
     dims: &DimsTree,
-) -> Result<KeySpace, BindFault>
-    ensures keys { Gives (λ keys. keys.space) (spec.space_in (seen environment.now) dims.now) result }
+) -> Result<IndexSpace, BindFault>
+    ensures space { Binds (spec.space_in (seen environment.now) dims.now) result }
     ensures faults { IfErr result spec.IsOfEvaluation }
 {
     let axes = axes_in(alloc, environment, dims)?;
-    keys_of(alloc, axes.as_slice())
+    Ok(space_of(alloc, axes.as_slice())?)
 }

@@ -33,6 +33,6 @@ pub use index::{index_set, position_of};
 pub use inside::is_inside;
 pub use item::{given_array, is_array, missing, single_value};
 pub use names::Names;
-pub use space::{array_over, keys_of};
+pub use space::{array_over, keys_of, space_of};
 pub use types::Types;
 pub use value::{element_of, parts_of, set_of};

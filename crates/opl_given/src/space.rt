@@ -36,7 +36,7 @@ pub fn keys_of(alloc: Global, axes: &[Axis]) -> Result<KeySpace, BindFault>
 
 /// The index space of these index sets.
 #[tactic(auto, using(crate::proofs::Spaces::spaces))]
-fn space_of(alloc: Global, axes: &[Axis]) -> Result<IndexSpace, AllocError>
+pub fn space_of(alloc: Global, axes: &[Axis]) -> Result<IndexSpace, AllocError>
     ensures space { IfOk result (λ space. space ≡ spec.space_of (map (λ a. a.dimension) axes.now)) }
     ensures sorted { IfOk result (λ space. AreSorted (dimensions space)) }
 {

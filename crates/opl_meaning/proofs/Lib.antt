@@ -2,6 +2,7 @@ pub mod ConditionsRun
 pub mod EachSet
 pub mod ItemForms
 pub mod KnownNames
+pub mod Limits
 pub mod Means
 pub mod NameValues
 pub mod Named

@@ -1,5 +1,5 @@
 -- Want of memory is no fault of the decision variables that are declared.
-use Rattle.std.proofs.Common.{◌≡◌, ◌≢◌, ℕ, ℤ, Bool, true, false, cond, List, [], ◌∷◌, ◌++◌, Option, None, Some, Ok, Err, subst}
+use Rattle.std.proofs.Common.{◌≡◌, ◌≢◌, ℕ, ◌+◌, ℤ, Bool, true, false, cond, length, List, [], ◌∷◌, ◌++◌, Option, None, Some, Ok, Err, subst}
 use Rattle.std.specs.Prelude.{nat_le, unsigned_abs, ◌^◌}
 use Rattle.opl_tree.specs.declared.declaration.BoundsTree.{BoundsTree}
 use Rattle.opl_tree.specs.declared.declaration.DeclTree.{DeclTree}
@@ -11,7 +11,7 @@ use Rattle.opl_tree.specs.declared.declaration.VariableTypeTree.{VariableTypeTre
 use Rattle.opl_tree.specs.declared.expression.AddTree.{AddTree}
 use Rattle.opl_term.specs.Terms.{add_term}
 use Rattle.opl_value.specs.declared.value.Value.{Value}
-use Rattle.opl_value.specs.Places.{lists}
+use Rattle.opl_value.specs.Places.{elements, lists}
 use Rattle.opl_eval.specs.declared.fault.EvalFault.TheVariants as evaluation_faults
 use Rattle.opl_eval.specs.Compare.{number}
 use Rattle.opl_eval.specs.Evaluation.{Environment, Found, eval}
@@ -23,16 +23,20 @@ use Rattle.opl_given.specs.Faults.{Bound}
 use Rattle.opl_given.proofs.NoMemory as binding
 use Rattle.opl_bind.proofs.NoMemoryDimensions.{evaluated_space}
 use Rattle.opl_meaning.specs.declared.fault.MeaningFault.{MeaningFault}
-use Rattle.opl_meaning.specs.declared.fault.MeaningFault.TheVariants.{Eval, TooFar, OutOfMemory}
+use Rattle.opl_meaning.specs.declared.fault.MeaningFault.TheVariants.{Eval, TooManyVariables, TooFar, TooWide, TooManyValues, OutOfMemory}
+use Rattle.opl_meaning.specs.declared.totals.Totals.{Totals}
 use Rattle.opl_meaning.specs.declared.variable.DeclaredSet.{DeclaredSet}
 use Rattle.opl_meaning.specs.declared.variable.VariableItem.{VariableItem}
 use Rattle.opl_meaning.specs.Faults.{Made, then, found, evaluated}
-use Rattle.opl_meaning.specs.Variables.{Ends, fault_of, spaced, ends_of_type, end_in, ends_in, near, near_set, set_in, with_name, over, each_set, item_with, item_over, item_in, with_decl, variables_in}
+use Rattle.opl_meaning.specs.Variables.{Ends, fault_of, spaced, ends_of_type, end_in, ends_in, near, near_set, size_of, values_of, few_values, limited_set, set_in, with_name, over, each_set, item_with, few_variables, item_over, item_in, totals_of, with_decl, variables_in}
 
 -- a fault other than want of memory, in an expression too
 abbrev pub IsReal : MeaningFault → Type 0
 IsReal (Eval fault) = evaluation.IsReal fault
+IsReal (TooManyVariables at) = Unit {0}
 IsReal (TooFar at) = Unit {0}
+IsReal (TooWide at) = Unit {0}
+IsReal (TooManyValues at) = Unit {0}
 IsReal OutOfMemory = ⊥
 
 -- what is made, or a fault other than want of memory
@@ -109,8 +113,16 @@ real_near at n = real_cond (nat_le (unsigned_abs n) (2 ^ 62)) (Ok n) (Err (TooFa
 real_near_set : (at : ℕ) (ends : Ends) → Real (near_set at ends)
 real_near_set at ends = real_then (near at ends.low) _ (real_near at ends.low) (λ low. real_then (near at ends.high) _ (real_near at ends.high) (λ high. real_ok _))
 
-real_set : (t : VariableTree) (env : Environment) → Real (set_in t env)
-real_set t env = real_then (ends_in env t.kind t.bounds) (near_set t.at) (real_ends env t.kind t.bounds) (λ ends. real_near_set t.at ends)
+real_few : (at before : ℕ) (set : DeclaredSet) → Real (few_values at before set)
+real_few at before set =
+    real_cond (nat_le (size_of set) 1048576) (cond (nat_le (before + size_of set) 33554432) (Ok set) (Err (TooManyValues at))) (Err (TooWide at))
+    (real_cond (nat_le (before + size_of set) 33554432) (Ok set) (Err (TooManyValues at)) (real_ok set) (real_err DeclaredSet (TooManyValues at) tt)) (real_err DeclaredSet (TooWide at) tt)
+
+real_limited : (at before : ℕ) (ends : Ends) → Real (limited_set at before ends)
+real_limited at before ends = real_then (near_set at ends) (few_values at before) (real_near_set at ends) (λ set. real_few at before set)
+
+real_set : (t : VariableTree) (before : ℕ) (env : Environment) → Real (set_in t before env)
+real_set t before env = real_then (ends_in env t.kind t.bounds) (limited_set t.at before) (real_ends env t.kind t.bounds) (λ ends. real_limited t.at before ends)
 
 -- ---- one declaration
 
@@ -118,29 +130,34 @@ real_over : {A : Type 0} (next : Value → List A → Made (List A)) (before : L
 real_over next before [] h = real_ok before
 real_over next before (v ∷ vs) h = real_then (next v before) (λ more. over next more vs) (h v before) (λ more. real_over next more vs h)
 
-real_last : (t : VariableTree) (env : Environment) (before : List DeclaredSet) → Real (then (set_in t env) (λ set. Ok (before ++ set ∷ [])))
-real_last t env before = real_then (set_in t env) (λ set. Ok (before ++ set ∷ [])) (real_set t env) (λ set. real_ok (before ++ set ∷ []))
+real_last : (t : VariableTree) (values : ℕ) (env : Environment) (before : List DeclaredSet) → Real (then (set_in t values env) (λ set. Ok (before ++ set ∷ [])))
+real_last t values env before = real_then (set_in t values env) (λ set. Ok (before ++ set ∷ [])) (real_set t values env) (λ set. real_ok (before ++ set ∷ []))
 
-real_each_set : (t : VariableTree) (ds : List DimTree) (vss : List (List Value)) (env : Environment) (before : List DeclaredSet) → Real (each_set t ds vss env before)
-real_each_set t [] vss env before = real_last t env before
-real_each_set t (d ∷ ds) [] env before = real_last t env before
-real_each_set t (d ∷ ds) (vs ∷ others) env before =
-    real_over (λ v more. each_set t ds others (with_name d.name v env) more) before vs (λ v more. real_each_set t ds others (with_name d.name v env) more)
+real_each_set : (t : VariableTree) (earlier : ℕ) (ds : List DimTree) (vss : List (List Value)) (env : Environment) (before : List DeclaredSet) → Real (each_set t earlier ds vss env before)
+real_each_set t earlier [] vss env before = real_last t (earlier + values_of before) env before
+real_each_set t earlier (d ∷ ds) [] env before = real_last t (earlier + values_of before) env before
+real_each_set t earlier (d ∷ ds) (vs ∷ others) env before =
+    real_over (λ v more. each_set t earlier ds others (with_name d.name v env) more) before vs (λ v more. real_each_set t earlier ds others (with_name d.name v env) more)
 
-real_item_over : (env : Environment) (t : VariableTree) (dims : Option DimsTree) → Real (item_over env t dims)
-real_item_over env t None = real_then (set_in t env) (λ set. Ok (item_with t env None (set ∷ []))) (real_set t env) (λ set. real_ok (item_with t env None (set ∷ [])))
-real_item_over env t (Some dims) =
+real_few_variables : {A : Type 0} (at before more : ℕ) (made : Made A) → Real made → Real (few_variables at before more made)
+real_few_variables {A} at before more made h = real_cond (nat_le (before + more) 65536) made (Err (TooManyVariables at)) h (real_err A (TooManyVariables at) tt)
+
+real_item_over : (env : Environment) (before : Totals) (t : VariableTree) (dims : Option DimsTree) → Real (item_over env before t dims)
+real_item_over env before t None =
+    real_few_variables t.at before.variables 1 _ (real_then (set_in t before.values env) (λ set. Ok (item_with t env None (set ∷ []))) (real_set t before.values env) (λ set. real_ok (item_with t env None (set ∷ []))))
+real_item_over env before t (Some dims) =
     real_then (spaced (space_in env dims)) _ (real_spaced (space_in env dims) (evaluated_space env dims))
-    (λ space. real_found (item_with t env (Some space)) (each_set t (dims.first ∷ dims.rest) (lists space) env []) (real_each_set t (dims.first ∷ dims.rest) (lists space) env []))
+    (λ space. real_few_variables t.at before.variables (elements (lists space)) _
+    (real_found (item_with t env (Some space)) (each_set t before.values (dims.first ∷ dims.rest) (lists space) env []) (real_each_set t before.values (dims.first ∷ dims.rest) (lists space) env [])))
 
-pub real_item : (env : Environment) (t : VariableTree) → Real (item_in env t)
+pub real_item : (env : Environment) (before : Totals) (t : VariableTree) → Real (item_in env before t)
 unfolding item_in
-real_item env t = real_item_over env t t.dims
+real_item env before t = real_item_over env before t t.dims
 
 -- ---- all declarations
 
 real_decl : (env : Environment) (before : List VariableItem) (t : DeclTree) → Real (with_decl env before t)
-real_decl env before (decls.Variable t) = real_found (λ v. before ++ v ∷ []) (item_in env t) (real_item env t)
+real_decl env before (decls.Variable t) = real_found (λ v. before ++ v ∷ []) (item_in env (totals_of before) t) (real_item env (totals_of before) t)
 real_decl env before t = real_ok before
 
 -- no decision variables are want of memory

@@ -1,5 +1,5 @@
 -- The decision variables of declarations have the names of these, and those that are no arrays one set.
-use Rattle.std.proofs.Common.{◌≡◌, ℕ, ◌+◌, List, [], ◌∷◌, ◌++◌, length, map, Option, Some, None, Ok, Err, refl, ap, subst, sym, ◌∙◌}
+use Rattle.std.proofs.Common.{◌≡◌, ℕ, ◌+◌, Bool, true, false, cond, nat_le, List, [], ◌∷◌, ◌++◌, length, map, Option, Some, None, Ok, Err, refl, ap, subst, sym, ◌∙◌}
 use Rattle.std.specs.List.{All}
 use Rattle.std.proofs.lemmas.List.{append-nil, map-append}
 use Rattle.std.proofs.lemmas.List.Elements.{All-append, All-cons, All-nil}
@@ -8,9 +8,12 @@ use Rattle.opl_tree.specs.declared.declaration.DeclTree.TheVariants as decls
 use Rattle.opl_tree.specs.declared.declaration.DimsTree.{DimsTree}
 use Rattle.opl_tree.specs.declared.declaration.VariableTree.{VariableTree}
 use Rattle.opl_value.specs.declared.value.IndexSpace.{IndexSpace}
-use Rattle.opl_value.specs.Places.{lists}
+use Rattle.opl_value.specs.Places.{elements, lists}
 use Rattle.opl_eval.specs.Evaluation.{Environment}
 use Rattle.opl_bind.specs.Dimensions.{space_in}
+use Rattle.opl_meaning.specs.declared.fault.MeaningFault.TheVariants.{TooManyVariables}
+use Rattle.opl_meaning.specs.declared.totals.Totals.{Totals}
+use Rattle.opl_meaning.specs.declared.variable.DeclaredSet.{DeclaredSet}
 use Rattle.opl_meaning.specs.declared.variable.VariableItem.{VariableItem}
 use Rattle.opl_meaning.specs.Faults.{Made, found, then}
 use Rattle.opl_meaning.specs.Formulas.{Scope, names_in}
@@ -18,22 +21,22 @@ use Rattle.opl_meaning.specs.Laws.{HasOneSet}
 use Rattle.opl_meaning.specs.Runs.{Names, Text, name_of, names_of, no_names, plain_name}
 use Rattle.opl_meaning.specs.Runs as runs
 use Rattle.opl_meaning.specs.Solutions.{plain_of, plain_where, scope_from, scope_of}
-use Rattle.opl_meaning.specs.Variables.{each_set, item_in, item_over, item_with, set_in, spaced, variables_in, with_decl}
+use Rattle.opl_meaning.specs.Variables.{each_set, few_variables, item_in, item_over, item_with, set_in, spaced, totals_of, variables_in, with_decl}
 use Rattle.opl_meaning.specs.VariableLaws.{ScopeIsDeclared, SinglesHaveOneSet, VariablesAreNamed}
 
 -- ---- what is made one after another
 
 -- the first is made, and what comes of it
-record Went {A B : Type 0} (a : Made A) (next : A → Made B) (y : B) : Type 0 where
+pub record Went {A B : Type 0} (a : Made A) (next : A → Made B) (y : B) : Type 0 where
   pub value : A
   pub is : a ≡ Ok value
   pub more : next value ≡ Ok y
 
-went : {A B : Type 0} (a : Made A) (next : A → Made B) (y : B) → then a next ≡ Ok y → Went a next y
+pub went : {A B : Type 0} (a : Made A) (next : A → Made B) (y : B) → then a next ≡ Ok y → Went a next y
 went (Ok x) next y h = record { value = x; is = refl; more = h }
 went (Err e) next y h = cc
 
-ok_same : {A : Type 0} (x y : A) → ◌≡◌ {A = Made A} (Ok x) (Ok y) → x ≡ y
+pub ok_same : {A : Type 0} (x y : A) → ◌≡◌ {A = Made A} (Ok x) (Ok y) → x ≡ y
 ok_same x y h = cc
 
 -- ---- one declaration
@@ -49,26 +52,36 @@ record Declared (t : VariableTree) (dims : Option DimsTree) (v : VariableItem) :
   pub name : v.name ≡ t.name.text
   pub plain : plain_by v.name v.space ≡ plain_name t.name.text dims
 
-declared : (env : Environment) (t : VariableTree) (dims : Option DimsTree) (v : VariableItem) → item_over env t dims ≡ Ok v → Declared t dims v
-declared env t None v h =
-    let w = went (set_in t env) (λ set. Ok (item_with t env None (set ∷ []))) v h in
+-- where the limit is kept
+pub few-made : {A : Type 0} (at before more : ℕ) (made : Made A) (v : A) → few_variables at before more made ≡ Ok v → (nat_le (before + more) 65536 ≡ true) × (made ≡ Ok v)
+few-made at before more made v h = by (nat_le (before + more) 65536) refl h
+  where
+    by : (b : Bool) → nat_le (before + more) 65536 ≡ b → cond b made (Err (TooManyVariables at)) ≡ Ok v → (nat_le (before + more) 65536 ≡ true) × (made ≡ Ok v)
+    by true e h = (e, h)
+    by false e h = absurd (cc)
+
+declared : (env : Environment) (before : Totals) (t : VariableTree) (dims : Option DimsTree) (v : VariableItem) → item_over env before t dims ≡ Ok v → Declared t dims v
+declared env before t None v h =
+    let made : Made VariableItem = then (set_in t before.values env) (λ set. Ok (item_with t env None (set ∷ []))) in
+    let w = went (set_in t before.values env) (λ set. Ok (item_with t env None (set ∷ []))) v (few-made t.at before.variables 1 made v h).1 in
     subst (Declared t None) (ok_same (item_with t env None (w.value ∷ [])) v w.more) (record { one_set = λ e. refl; name = refl; plain = refl })
-declared env t (Some dims) v h =
-    let w = went (spaced (space_in env dims)) (λ space. found (item_with t env (Some space)) (each_set t (dims.first ∷ dims.rest) (lists space) env [])) v h in
-    let u = went (each_set t (dims.first ∷ dims.rest) (lists w.value) env []) (λ sets. Ok (item_with t env (Some w.value) sets)) v w.more in
+declared env before t (Some dims) v h =
+    let each : IndexSpace → Made (List DeclaredSet) = λ space. each_set t before.values (dims.first ∷ dims.rest) (lists space) env [] in
+    let w = went (spaced (space_in env dims)) (λ space. few_variables t.at before.variables (elements (lists space)) (found (item_with t env (Some space)) (each space))) v h in
+    let u = went (each w.value) (λ sets. Ok (item_with t env (Some w.value) sets)) v (few-made t.at before.variables (elements (lists w.value)) (found (item_with t env (Some w.value)) (each w.value)) v w.more).1 in
     subst (Declared t (Some dims)) (ok_same (item_with t env (Some w.value) u.value) v u.more) (record { one_set = λ e. cc; name = refl; plain = refl })
 
-declared_in : (env : Environment) (t : VariableTree) (v : VariableItem) → item_in env t ≡ Ok v → Declared t t.dims v
+declared_in : (env : Environment) (before : Totals) (t : VariableTree) (v : VariableItem) → item_in env before t ≡ Ok v → Declared t t.dims v
 unfolding item_in
-declared_in env t v h = declared env t t.dims v h
+declared_in env before t v h = declared env before t t.dims v h
 
 -- ---- each has one set
 
 decl_one_set : (env : Environment) (before : List VariableItem) (t : DeclTree) (more : List VariableItem) → All HasOneSet before → with_decl env before t ≡ Ok more → All HasOneSet more
 decl_one_set env before (decls.Variable t) more b h =
-    let w = went (item_in env t) (λ v. Ok (before ++ v ∷ [])) more h in
+    let w = went (item_in env (totals_of before) t) (λ v. Ok (before ++ v ∷ [])) more h in
     subst (All HasOneSet) (ok_same (before ++ w.value ∷ []) more w.more)
-    (All-append HasOneSet before (w.value ∷ []) b (All-cons HasOneSet w.value [] (declared_in env t w.value w.is).one_set (All-nil HasOneSet)))
+    (All-append HasOneSet before (w.value ∷ []) b (All-cons HasOneSet w.value [] (declared_in env (totals_of before) t w.value w.is).one_set (All-nil HasOneSet)))
 decl_one_set env before t more b h = subst (All HasOneSet) (ok_same before more h) b
 
 all_one_set : (env : Environment) (before : List VariableItem) (ts : List DeclTree) (items : List VariableItem) → All HasOneSet before → variables_in env before ts ≡ Ok items → All HasOneSet items
@@ -112,9 +125,9 @@ named-declared names t v d = λ i. record { all = names.all ++ d.name i ∷ []; 
 
 decl_names : (env : Environment) (before : List VariableItem) (t : DeclTree) (more : List VariableItem) → with_decl env before t ≡ Ok more → names_in (scope_of more) ≡ with_names (names_in (scope_of before)) t
 decl_names env before (decls.Variable t) more h =
-    let w = went (item_in env t) (λ v. Ok (before ++ v ∷ [])) more h in
+    let w = went (item_in env (totals_of before) t) (λ v. Ok (before ++ v ∷ [])) more h in
     subst (λ vs. names_in (scope_of vs) ≡ with_names (names_in (scope_of before)) (decls.Variable t)) (ok_same (before ++ w.value ∷ []) more w.more)
-    (scope_from-more 0 (record { all = []; plain = [] }) before w.value ∙ named-declared (names_in (scope_of before)) t w.value (declared_in env t w.value w.is))
+    (scope_from-more 0 (record { all = []; plain = [] }) before w.value ∙ named-declared (names_in (scope_of before)) t w.value (declared_in env (totals_of before) t w.value w.is))
 decl_names env before t more h = ap (λ vs. names_in (scope_of vs)) (sym (ok_same before more h)) ∙ sym (with_names-none (names_in (scope_of before)))
 
 all_names : (env : Environment) (before : List VariableItem) (ts : List DeclTree) (items : List VariableItem) → variables_in env before ts ≡ Ok items → names_in (scope_of items) ≡ names_of (names_in (scope_of before)) ts

@@ -1,5 +1,5 @@
 -- Declared sets by the expressions of their ends, and those of an array of variables, key by key.
-use Rattle.std.specs.Prelude.{ℤ, List, [], ◌∷◌, ◌++◌, Option, None, Some, Ok}
+use Rattle.std.specs.Prelude.{ℕ, ◌+◌, ℤ, List, [], ◌∷◌, ◌++◌, Option, None, Some, Ok}
 use Rattle.opl_tree.specs.declared.declaration.BoundsTree.{BoundsTree}
 use Rattle.opl_tree.specs.declared.declaration.DimTree.{DimTree}
 use Rattle.opl_tree.specs.declared.declaration.VariableTree.{VariableTree}
@@ -14,7 +14,7 @@ use Rattle.opl_meaning.specs.declared.ends.EndTerms.{EndTerms}
 use Rattle.opl_meaning.specs.declared.variable.DeclaredSet.{DeclaredSet}
 use Rattle.opl_meaning.specs.declared.variable.Kind.TheVariants.{Number}
 use Rattle.opl_meaning.specs.Faults.{Made, evaluated, found, then}
-use Rattle.opl_meaning.specs.Variables.{Ends, ends_of_type, near_set}
+use Rattle.opl_meaning.specs.Variables.{Ends, ends_of_type, limited_set, values_of}
 
 -- what the ends that are written say
 abbrev pub terms_of : BoundsTree → EndTerms
@@ -30,15 +30,15 @@ ends_by env kind None = Ok (ends_of_type env kind)
 ends_by env kind (Some ends) =
     then (end_by env ends.low) (λ low. then (end_by env ends.high) (λ high. Ok (record { kind = Number; low = low; high = high })))
 
--- the declared set of a variable, or of one element of an array of them
-abbrev pub set_by : VariableTree → Option EndTerms → Environment → Made DeclaredSet
-set_by t ends env = then (ends_by env t.kind ends) (near_set t.at)
+-- the declared set of a variable, or of one element of an array of them, where those before have so many values
+abbrev pub set_by : VariableTree → Option EndTerms → ℕ → Environment → Made DeclaredSet
+set_by t ends before env = then (ends_by env t.kind ends) (limited_set t.at before)
 
 -- one key after another, behind what was found before
 abbrev pub over_keys : {A : Type 0} → (List Value → List A → Made (List A)) → List A → List (List Value) → Made (List A)
 over_keys next before [] = Ok before
 over_keys next before (key ∷ keys) = then (next key before) (λ more. over_keys next more keys)
 
--- the declared set for a key, behind what was found before
-abbrev pub set_at : (Environment → Made DeclaredSet) → List DimTree → Environment → List Value → List DeclaredSet → Made (List DeclaredSet)
-set_at set ts env key before = then (set (with_names ts key env)) (λ s. Ok (before ++ s ∷ []))
+-- the declared set for a key, behind what was found before, where those of earlier declarations have so many values
+abbrev pub set_at : (ℕ → Environment → Made DeclaredSet) → ℕ → List DimTree → Environment → List Value → List DeclaredSet → Made (List DeclaredSet)
+set_at set earlier ts env key before = then (set (earlier + values_of before) (with_names ts key env)) (λ s. Ok (before ++ s ∷ []))

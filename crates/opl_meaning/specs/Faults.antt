@@ -2,7 +2,7 @@
 use Rattle.std.specs.Prelude.{◌≡◌, Result, Ok, Err}
 use Rattle.opl_eval.specs.Evaluation.{Found}
 use Rattle.opl_meaning.specs.declared.fault.MeaningFault.{MeaningFault}
-use Rattle.opl_meaning.specs.declared.fault.MeaningFault.TheVariants.{Eval, TooFar, OutOfMemory}
+use Rattle.opl_meaning.specs.declared.fault.MeaningFault.TheVariants.{Eval, TooManyVariables, TooFar, TooWide, TooManyValues, OutOfMemory}
 
 -- a value, or the first fault
 abbrev pub Made : Type 0 → Type 0
@@ -26,7 +26,10 @@ abbrev pub Gives : {A B : Type 0} → (B → A) → Made A → Result B MeaningF
 Gives reading made (Ok b) = made ≡ Ok (reading b)
 Gives reading made (Err OutOfMemory) = Unit {0}
 Gives reading made (Err (Eval fault)) = made ≡ Err (Eval fault)
+Gives reading made (Err (TooManyVariables at)) = made ≡ Err (TooManyVariables at)
 Gives reading made (Err (TooFar at)) = made ≡ Err (TooFar at)
+Gives reading made (Err (TooWide at)) = made ≡ Err (TooWide at)
+Gives reading made (Err (TooManyValues at)) = made ≡ Err (TooManyValues at)
 
 -- a function that answers what is made itself
 abbrev pub Makes : {A : Type 0} → Made A → Result A MeaningFault → Type 0

@@ -10,6 +10,7 @@ ghost use Rattle.opl_meaning.specs.VariableReadings.{reach, sees, whole};
 ghost use Rattle.opl_meaning.specs.Variables as spec;
 
 use crate::fault::MeaningFault;
+use crate::totals::size_of;
 use crate::variable::{DeclaredSet, Kind};
 use crate::visible::{Visible, end_in, is_hidden};
 use opl_eval::{Environment, eval_set};
@@ -22,6 +23,12 @@ use std::alloc::{AllocError, Global};
 
 /// The greatest absolute value of an end of a declared set: 2^62.
 const FARTHEST: u128 = 4611686018427387904;
+
+/// The greatest number of values of a declared set.
+const MOST_VALUES: u128 = 1048576;
+
+/// The greatest number of values of all declared sets together.
+const MOST_VALUES_TOGETHER: u128 = 33554432;
 
 /// The ends of a declared set, before it is known that they are near enough.
 #[derive(Clone, Copy)]
@@ -145,29 +152,58 @@ fn near_set(at: u32, ends: &Ends) -> Result<DeclaredSet, MeaningFault>
     Ok(DeclaredSet { low, high })
 }
 
-/// The declared set of a variable, or of one element of an array of them, by the expressions of its ends.
+/// The declared set, if it has not too many values, and those before, which have so many, not too many with it.
+fn few_values(at: u32, before: u128, set: DeclaredSet) -> Result<DeclaredSet, MeaningFault>
+    ensures { Makes (spec.few_values at before set) result }
+{
+    let size = size_of(&set);
+    if size > MOST_VALUES {
+        return Err(MeaningFault::TooWide(at));
+    }
+    match before.checked_add(size) {
+        None => Err(MeaningFault::TooManyValues(at)),
+        Some(together) => {
+            if together > MOST_VALUES_TOGETHER {
+                return Err(MeaningFault::TooManyValues(at));
+            }
+            Ok(set)
+        }
+    }
+}
+
+/// The declared set with these ends, within the limits.
+fn limited_set(at: u32, before: u128, ends: &Ends) -> Result<DeclaredSet, MeaningFault>
+    ensures { Makes (spec.limited_set at before (whole ends.now)) result }
+{
+    let set = near_set(at, ends)?;
+    few_values(at, before, set)
+}
+
+/// The declared set of a variable, or of one element of an array of them, by the expressions of its ends. Those before have so many values.
 pub(crate) fn set_by(
     alloc: Global,
     visible: Visible<'_>,
     t: &VariableTree,
     ends: &Option<EndTerms>,
+    before: u128,
 ) -> Result<DeclaredSet, MeaningFault>
-    ensures { Makes (set_by t.now ends.now (sees visible.entry)) result }
+    ensures { Makes (set_by t.now ends.now before (sees visible.entry)) result }
 {
     let ends = ends_by(alloc, visible, &t.kind, ends)?;
-    near_set(t.at, &ends)
+    limited_set(t.at, before, &ends)
 }
 
-/// The declared set of a variable.
+/// The declared set of a variable. Those before have so many values.
 pub(crate) fn set_in(
     alloc: Global,
     visible: Visible<'_>,
     t: &VariableTree,
+    before: u128,
 ) -> Result<DeclaredSet, MeaningFault>
-    ensures { Makes (spec.set_in t.now (sees visible.entry)) result }
+    ensures { Makes (spec.set_in t.now before (sees visible.entry)) result }
 {
     let ends = end_terms(alloc, &t.bounds)?;
-    set_by(alloc, visible, t, &ends)
+    set_by(alloc, visible, t, &ends, before)
 }
 
 /// What the values of a type are, where an enumeration has this number of its declaration.

@@ -3,6 +3,7 @@
 
 mod assignment;
 mod condition;
+mod counted;
 mod ends;
 mod evaluation;
 mod fault;
@@ -19,6 +20,7 @@ mod plain;
 mod runs;
 mod scope;
 mod sets;
+mod totals;
 mod variable;
 pub mod variable_laws;
 mod visible;

@@ -11,6 +11,7 @@ ghost use Rattle.opl_meaning.specs.Variables as spec;
 
 use crate::ends::{EndTerms, end_terms, set_by};
 use crate::fault::MeaningFault;
+use crate::totals::values_with;
 use crate::variable::DeclaredSet;
 use crate::visible::Visible;
 use opl_bind::{Turn, Walk, with_names};
@@ -43,7 +44,7 @@ fn sets_of<'d>(alloc: Global, dimensions: &'d [Dimension]) -> Result<Vec<Element
     Ok(sets)
 }
 
-/// The declared set of one key.
+/// The declared set of one key. Those before have so many values.
 fn set_at(
     alloc: Global,
     visible: Visible<'_>,
@@ -52,34 +53,41 @@ fn set_at(
     first: &DimTree,
     rest: &[DimTree],
     key: &[Turn<'_, '_>],
+    before: u128,
 ) -> Result<DeclaredSet, MeaningFault>
-    ensures { Makes (keys.set_by t.now ends.now (with_names (first.now ∷ rest.now) (chosen key.now) (sees visible.entry))) result }
+    ensures { Makes (keys.set_by t.now ends.now before (with_names (first.now ∷ rest.now) (chosen key.now) (sees visible.entry))) result }
 {
     let parameters = with_names(alloc, visible.parameters, first, rest, key)?;
     let inner = Visible {
         environment: visible.environment,
         parameters: parameters.as_slice(),
     };
-    set_by(alloc, inner, t, ends)
+    set_by(alloc, inner, t, ends, before)
 }
 
-/// The declared set for each key of an array of variables, in index order. The expressions of its ends are made once for all.
+/// The declared set for each key of an array of variables, in index order. Those of earlier declarations have so many values. The
+/// expressions of its ends are made once for all.
+#[tactic(auto, using(crate::proofs::Limits::sums))]
 pub(crate) fn each_set(
     alloc: Global,
     visible: Visible<'_>,
     t: &VariableTree,
+    earlier: u128,
     first: &DimTree,
     rest: &[DimTree],
     dimensions: &[Dimension],
 ) -> Result<Seq<DeclaredSet>, MeaningFault>
-    ensures { Makes (spec.each_set t.now (first.now ∷ rest.now) (map dimension_values dimensions.now) (sees visible.entry) []) result }
+    ensures { Makes (spec.each_set t.now earlier (first.now ∷ rest.now) (map dimension_values dimensions.now) (sees visible.entry) []) result }
 {
     let ends = end_terms(alloc, &t.bounds)?;
     let index_sets = sets_of(alloc, first_of(dimensions, rest.len() + 1))?;
     let mut walk = Walk::new(alloc, index_sets.as_slice());
     let mut sets = Seq::new(alloc);
+    let mut values = earlier;
     while walk.advance()? {
-        sets.push(set_at(alloc, visible, t, &ends, first, rest, walk.key())?)?;
+        let set = set_at(alloc, visible, t, &ends, first, rest, walk.key(), values)?;
+        values = values_with(values, &set)?;
+        sets.push(set)?;
     }
     Ok(sets)
 }

@@ -154,7 +154,10 @@ data_told binding.OutOfMemory some other = absurd (some refl)
 
 variables_told : (fault : MeaningFault) → fault ≢ meaning.OutOfMemory → fault ≢ meaning.Eval evaluation.OutOfMemory → IsTold refusal_of_variables fault
 variables_told (meaning.Eval fault) some other = value_told fault (λ e. other (ap meaning.Eval e))
+variables_told (meaning.TooManyVariables at) some other = (At faults.LimitVariables 0 at, refl)
 variables_told (meaning.TooFar at) some other = (At faults.LimitValue 0 at, refl)
+variables_told (meaning.TooWide at) some other = (At faults.LimitDomain 0 at, refl)
+variables_told (meaning.TooManyValues at) some other = (At faults.LimitDomains 0 at, refl)
 variables_told meaning.OutOfMemory some other = absurd (some refl)
 
 data_comes : (tree : ModelTree) (files : List DataFile) → Comes (HasData tree files)

@@ -56,7 +56,10 @@ refusal_of_data binding.OutOfMemory = None
 
 abbrev pub refusal_of_variables : MeaningFault → Option Refusal
 refusal_of_variables (meaning.Eval fault) = refusal_of_value fault
+refusal_of_variables (meaning.TooManyVariables at) = Some (At faults.LimitVariables 0 at)
 refusal_of_variables (meaning.TooFar at) = Some (At faults.LimitValue 0 at)
+refusal_of_variables (meaning.TooWide at) = Some (At faults.LimitDomain 0 at)
+refusal_of_variables (meaning.TooManyValues at) = Some (At faults.LimitDomains 0 at)
 refusal_of_variables meaning.OutOfMemory = None
 
 -- what a definition comes to: a value, or the refusal at its first fault

@@ -5,7 +5,7 @@ use Rattle.opl_outside.specs.Counts.{Rose}
 use Rattle.opl_tool.specs.declared.answer.Answer.{Answer}
 use Rattle.opl_tool.specs.declared.answer.Answer.TheVariants as answer
 use Rattle.opl_tool.specs.declared.refusal.Fault.{Fault}
-use Rattle.opl_tool.specs.declared.refusal.Fault.TheVariants.{BadByte, OpenComment, OpenString, NumberTooLarge, Syntax, TooDeep, Unknown, Duplicate, NotData, Mismatch, NotYet, Shape, Outside, DivByZero, OutOfIndex, TooLarge, EmptyMinMax, LimitValue}
+use Rattle.opl_tool.specs.declared.refusal.Fault.TheVariants.{BadByte, OpenComment, OpenString, NumberTooLarge, Syntax, TooDeep, Unknown, Duplicate, NotData, Mismatch, NotYet, Shape, Outside, DivByZero, OutOfIndex, TooLarge, EmptyMinMax, LimitVariables, LimitValue, LimitDomain, LimitDomains}
 use Rattle.opl_tool.specs.declared.refusal.ItemFault.{ItemFault}
 use Rattle.opl_tool.specs.declared.refusal.ItemFault.TheVariants as items
 use Rattle.opl_tool.specs.declared.refusal.Refusal.{Refusal}
@@ -42,7 +42,10 @@ word_of DivByZero = codes "DivByZero"
 word_of OutOfIndex = codes "OutOfIndex"
 word_of TooLarge = codes "TooLarge"
 word_of EmptyMinMax = codes "EmptyMinMax"
+word_of LimitVariables = codes "Limit Variables"
 word_of LimitValue = codes "Limit Value"
+word_of LimitDomain = codes "Limit Domain"
+word_of LimitDomains = codes "Limit Domains"
 
 -- the word for what is wrong with an item
 abbrev pub word_of_item : ItemFault → List ℕ

@@ -68,7 +68,10 @@ fn word_of(fault: Fault) -> &'static str
         Fault::OutOfIndex => "OutOfIndex",
         Fault::TooLarge => "TooLarge",
         Fault::EmptyMinMax => "EmptyMinMax",
+        Fault::LimitVariables => "Limit Variables",
         Fault::LimitValue => "Limit Value",
+        Fault::LimitDomain => "Limit Domain",
+        Fault::LimitDomains => "Limit Domains",
     }
 }
 

@@ -65,7 +65,10 @@ fn stop_of_meaning(fault: MeaningFault) -> Stop
 {
     match fault {
         MeaningFault::Eval(fault) => stop_of_value(fault),
+        MeaningFault::TooManyVariables(at) => refused(Fault::LimitVariables, 0, at),
         MeaningFault::TooFar(at) => refused(Fault::LimitValue, 0, at),
+        MeaningFault::TooWide(at) => refused(Fault::LimitDomain, 0, at),
+        MeaningFault::TooManyValues(at) => refused(Fault::LimitDomains, 0, at),
         MeaningFault::OutOfMemory => Stop::OutOfMemory,
     }
 }

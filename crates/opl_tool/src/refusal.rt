@@ -38,8 +38,14 @@ pub enum Fault {
     TooLarge,
     /// A least or a greatest of no numbers.
     EmptyMinMax,
+    /// Too many decision variables.
+    LimitVariables,
     /// An end of a declared set that is too far from 0.
     LimitValue,
+    /// Too many values in a declared set.
+    LimitDomain,
+    /// Too many values in all declared sets.
+    LimitDomains,
 }
 
 /// What is wrong with an item of a model's data.

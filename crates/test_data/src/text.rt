@@ -181,14 +181,16 @@ fn push_keys(
     name: &[u8],
     dims: &DimsTree,
 ) -> Result<(), AllocError> {
-    let Ok(keys) = index_space(alloc, &data.environment, dims) else {
+    let Ok(space) = index_space(alloc, &data.environment, dims) else {
         return Err(AllocError);
     };
-    let copy = keys.copy(alloc)?;
+    let Some(keys) = space.elements() else {
+        return Err(AllocError);
+    };
     text.extend_from_slice(b"  ")?;
     text.extend_from_slice(name)?;
     text.extend_from_slice(b" has ")?;
-    text.extend_from_slice(Buffer::new().format(copy.elements()).as_bytes())?;
+    text.extend_from_slice(Buffer::new().format(keys).as_bytes())?;
     text.extend_from_slice(b" keys\n")?;
     Ok(())
 }
