@@ -141,6 +141,20 @@ impl Engine {
         self.members.set_best(best);
     }
 
+    /// The core.
+    pub fn core(&self) -> &Core
+        ensures { result.now ≡ (seen self.now).core }
+    {
+        self.core.as_ref()
+    }
+
+    /// The best value.
+    pub fn best(&self) -> Option<i128>
+        ensures { result ≡ (seen self.now).best }
+    {
+        self.best
+    }
+
     /// How many levels are open.
     pub fn levels(&self) -> u64
         ensures { result ≡ length (seen self.now).levels }
@@ -188,6 +202,7 @@ impl Engine {
         requires fits { (below : List Family) × Fits (seen self.old) (N.family store.old) below }
         ensures closed { Closes (seen self.old).core (seen self.old).posted (seen self.old).best (N.family store.new) result }
         ensures can { CanClose (seen self.old) (N.family store.new) }
+        ensures below { Below (N.family store.new) (N.family store.old) }
         ensures leads_to { N.leads_to store.old store.new }
         ensures same { SameBeside (seen self.old) (seen self.new) }
         ensures posted { (seen self.new).posted ≡ (seen self.old).posted }

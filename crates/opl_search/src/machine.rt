@@ -1,5 +1,5 @@
 //! A machine: the search of a core, suspended between two solutions.
-ghost use Rattle.std.specs.Prelude.{◌≡◌, ◌<◌, ◌≤◌, ◌+◌, ◌∷◌, [], ℕ, ℤ, pos, int_lt, true, length, reverse, slice_index_or, Some, None, OnOk, IfOk};
+ghost use Rattle.std.specs.Prelude.{◌≡◌, ◌<◌, ◌≤◌, ◌+◌, ◌∷◌, [], ℕ, ℤ, pos, int_lt, true, length, reverse, slice_index_or, Some, None, cond, IfOk};
 ghost use Rattle.std.specs.List.{list_any};
 ghost use Rattle.opl_expr.specs.Options.{lift1};
 ghost use Rattle.opl_expr.specs.Solutions.{declared};
@@ -112,7 +112,7 @@ fn ask<S: Solver>(
 ) -> Result<Step1, OutOfMemory>
     requires { CanAsk begins (lift1 (λ s. seen (S.state s.solver) (reverse s.opens.items) s.left) running.old) }
     ensures asked { Asked (lift1 (λ s. seen (S.state s.solver) (reverse s.opens.items) s.left) running.old) begins (lift1 (λ s. seen (S.state s.solver) (reverse s.opens.items) s.left) running.new) result }
-    ensures steps { OnOk result (left_in (lift1 (λ s. seen (S.state s.solver) (reverse s.opens.items) s.left) running.new) + steps.new ≤ left_in (lift1 (λ s. seen (S.state s.solver) (reverse s.opens.items) s.left) running.old) + steps.old + 1) }
+    ensures steps { left_in (lift1 (λ s. seen (S.state s.solver) (reverse s.opens.items) s.left) running.new) + steps.new ≤ cond begins 1 0 + left_in (lift1 (λ s. seen (S.state s.solver) (reverse s.opens.items) s.left) running.old) + steps.old }
 {
     match running {
         None => Ok(Step1::End),
@@ -158,12 +158,13 @@ impl<S: Solver> Machine<S> {
     }
 
     /// Goes to the next solution of the trace, or to its end, or to the choice at which as many as the budget have been made.
-    /// After the end, after such a choice and after want of memory each call answers the same again.
+    /// After the end, after such a choice and after want of memory each call answers the same again. Each choice closes the sets
+    /// once, and so does the first call.
     pub fn next(&mut self, alloc: Global, steps: &mut Steps) -> Result<Step1, OutOfMemory>
         ensures comes { GoesOn self.old.last → Comes self.old self.new result }
         ensures again { (GoesOn self.old.last → ⊥) → (self.new ≡ self.old) × Again self.old.last result }
         ensures same { (self.new.core ≡ self.old.core) × (self.new.way ≡ self.old.way) × (self.new.budget ≡ self.old.budget) }
-        ensures steps { OnOk result (steps.new + self.old.choices ≤ steps.old + self.new.choices + 1) }
+        ensures steps { steps.new + self.old.choices ≤ cond (is_first self.old.last) 1 0 + steps.old + self.new.choices }
     {
         match self.last() {
             Last::Nothing => self.advance(true, alloc, steps),
@@ -196,6 +197,13 @@ impl<S: Solver> Machine<S> {
         }
     }
 
+    /// The core that is searched.
+    pub fn core(&self) -> &Core
+        ensures { result.now ≡ self.now.core }
+    {
+        self.core.as_ref()
+    }
+
     /// How many choices have been made.
     pub fn choices(&self) -> u64
         ensures { result ≡ self.now.choices }
@@ -224,7 +232,7 @@ impl<S: Solver> Machine<S> {
         requires begins { begins ≡ is_first self.old.last }
         ensures comes { Comes self.old self.new result }
         ensures same { (self.new.core ≡ self.old.core) × (self.new.way ≡ self.old.way) × (self.new.budget ≡ self.old.budget) }
-        ensures steps { OnOk result (steps.new + self.old.choices ≤ steps.old + self.new.choices + 1) }
+        ensures steps { steps.new + self.old.choices ≤ cond (is_first self.old.last) 1 0 + steps.old + self.new.choices }
     {
         match ask(&mut self.running, begins, alloc, steps) {
             Ok(step) => {

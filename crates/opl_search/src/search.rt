@@ -308,6 +308,7 @@ impl<S: Solver> Search<S> {
         ensures goes { IfOk result (Goes (S.state self.old.solver) (comes (S.state self.old.solver) (reverse self.old.opens.items) self.old.left turn) self.old.left (S.state self.new.solver) (reverse self.new.opens.items) self.new.left) }
         ensures less { IfOk result (λ t. self.new.left ≡ self.old.left → answer_of turn ≡ None → weight (S.state self.new.solver) (reverse self.new.opens.items) self.new.left t < weight (S.state self.old.solver) (reverse self.old.opens.items) self.old.left turn) }
         ensures closings { IfOk result (λ t. closings t + self.new.left + steps.new ≤ closings turn + self.old.left + steps.old) }
+        ensures steps { self.new.left + steps.new ≤ closings turn + self.old.left + steps.old }
         ensures leaves { IfOk result (λ t. leaves t + self.new.left ≤ leaves turn + self.old.left) }
     {
         match turn {
@@ -333,6 +334,7 @@ impl<S: Solver> Search<S> {
         ensures goes { IfOk result (Goes (S.state self.old.solver) (comes (S.state self.old.solver) (reverse self.old.opens.items) self.old.left first) self.old.left (S.state self.new.solver) (reverse self.new.opens.items) self.new.left) }
         ensures less { IfOk result (λ t. answer_of t ≡ None → self.new.left < self.old.left) }
         ensures closings { IfOk result (λ t. closings t + self.new.left + steps.new ≤ closings first + self.old.left + steps.old) }
+        ensures steps { self.new.left + steps.new ≤ closings first + self.old.left + steps.old }
         ensures leaves { IfOk result (λ t. leaves t + self.new.left ≤ leaves first + self.old.left) }
     {
         let left = self.left;
@@ -358,7 +360,7 @@ impl<S: Solver> Search<S> {
         requires none { answer_of first ≡ None }
         ensures fewer { self.new.left ≤ self.old.left }
         ensures goes { IfOk result (λ e. Goes (S.state self.old.solver) (comes (S.state self.old.solver) (reverse self.old.opens.items) self.old.left first) self.old.left (S.state self.new.solver) (reverse self.new.opens.items) self.new.left (at.Done e)) }
-        ensures closings { OnOk result (self.new.left + steps.new ≤ closings first + self.old.left + steps.old) }
+        ensures steps { self.new.left + steps.new ≤ closings first + self.old.left + steps.old }
         ensures leaves { IfOk result (λ e. leaves (at.Done e) + self.new.left ≤ leaves first + self.old.left) }
     {
         let mut turn = first;
@@ -376,7 +378,7 @@ impl<S: Solver> Search<S> {
         ensures none { IfOk result (λ t. answer_of t ≡ None) }
         ensures turn { IfOk result (λ t. IsTurn (S.state self.now.solver) t) }
         ensures comes { IfOk result (λ t. comes (S.state self.now.solver) (reverse self.now.opens.items) self.now.left t ≡ start_of begins (seen (S.state self.now.solver) (reverse self.now.opens.items) self.now.left)) }
-        ensures closings { IfOk result (λ t. closings t ≤ 1) }
+        ensures closings { IfOk result (λ t. closings t ≡ cond begins 1 0) }
         ensures leaves { IfOk result (λ t. leaves t ≡ cond begins 1 0) }
     {
         if begins {
@@ -396,7 +398,7 @@ impl<S: Solver> Search<S> {
         requires { CanStart begins (seen (S.state self.old.solver) (reverse self.old.opens.items) self.old.left) }
         ensures fewer { self.new.left ≤ self.old.left }
         ensures advances { IfOk result (Advances begins (seen (S.state self.old.solver) (reverse self.old.opens.items) self.old.left) (seen (S.state self.new.solver) (reverse self.new.opens.items) self.new.left)) }
-        ensures steps { OnOk result (self.new.left + steps.new ≤ self.old.left + steps.old + 1) }
+        ensures steps { self.new.left + steps.new ≤ cond begins 1 0 + self.old.left + steps.old }
     {
         let first = self.first(begins, alloc)?;
         let step = self.go_on(alloc, first, steps)?;

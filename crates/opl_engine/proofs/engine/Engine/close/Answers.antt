@@ -2,6 +2,7 @@ use Rattle.std.proofs.Common.{◌≡◌, map, reverse, ap, subst, sym}
 use Rattle.opl_domain.specs.Family.{Family, Below}
 use Rattle.opl_expr.specs.Solutions.{declared}
 use Rattle.opl_trace.specs.Removals.{Kept}
+use Rattle.opl_trace.proofs.Removals.{kept_self, kept_below}
 use Rattle.opl_closure.specs.Members.{refutes_one, Each, WaitOrAreStable}
 use Rattle.opl_engine.specs.Members.{fact_of, IsMember}
 use Rattle.opl_closure.specs.Members as propagation
@@ -58,6 +59,15 @@ returns-clause-can g c =
     let k = kept_of s.core.value s.best s.members os (seen c.args.self.now) F c.self.invariant v c.vars-vars.ensures.sets c.requires.can in
     let a = can_of s.core.value s.best s.members os (seen c.args.self.now) G c.self.invariant v ((subst (λ d. (D : Family) → Kept (refutes_one (map (fact_of d) s.members.members)) D F → Kept (refutes_one (map (fact_of d) s.members.members)) D G) c.as_ref.ensures c.propagate.ensures.kept) (declared s.core.value) k) in
     a
+
+pub returns-clause-below : goal.returns-clause-below
+returns-clause-below g c =
+    let s = c.self.inside in
+    let F = g.N.View.family c.args.store.now in
+    let G = g.N.View.family c.propagate.new.n in
+    let tests = refutes_one (map (fact_of s.core.value) s.members.members) in
+    let k = (subst (λ d. (D : Family) → Kept (refutes_one (map (fact_of d) s.members.members)) D F → Kept (refutes_one (map (fact_of d) s.members.members)) D G) c.as_ref.ensures c.propagate.ensures.kept) F (kept_self tests F) in
+    kept_below tests F G k
 
 pub returns-clause-same : goal.returns-clause-same
 returns-clause-same g c =

@@ -1,0 +1,3 @@
+pub mod Objectives
+pub mod Pairs
+pub mod Beginnings
