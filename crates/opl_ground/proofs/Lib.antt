@@ -1,0 +1,9 @@
+pub mod Arrays
+pub mod Cores
+pub mod Ground
+pub mod Indices
+pub mod Limits
+pub mod Measured
+pub mod Named
+pub mod Variables
+pub mod Whole

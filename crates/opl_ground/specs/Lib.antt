@@ -1,0 +1,9 @@
+pub mod Cores
+pub mod Declared
+pub mod Ground
+pub mod Laws
+pub mod Measured
+pub mod Named
+pub mod Names
+pub mod Variables
+pub mod Whole

@@ -1,0 +1,5 @@
+pub mod Knowns
+pub mod Measures
+pub mod Pushes
+pub mod Tests
+pub mod Views
