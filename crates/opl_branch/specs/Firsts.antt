@@ -1,6 +1,6 @@
 -- The first variable without a value, and the order of lists.
 use Rattle.std.specs.Prelude.{◌≡◌, ℕ, ◌<◌, Bool, true, false, cond, List, [], ◌∷◌, length, ℤ, int_lt, slice_index_or, Option, Some, None}
-use Rattle.opl_domain.specs.Family.{Family}
+use Rattle.opl_domain.specs.Family.{Family, set_of, IsLeast, IsNext}
 use Rattle.opl_trace.specs.Answers.{is_single}
 
 -- the variables at the first places of a list have one value each
@@ -17,6 +17,20 @@ pub record IsOpenAt (F : Family) (xs : List ℕ) (i : ℕ) : Type 0 where
 abbrev pub IsFirstOpen : Family → List ℕ → Option ℕ → Type 0
 IsFirstOpen F xs None = AreSingle F xs (length xs)
 IsFirstOpen F xs (Some i) = IsOpenAt F xs i
+
+-- each variable of the list is one of the family's
+abbrev pub AreAmong : Family → List ℕ → Type 0
+AreAmong F xs = (k : ℕ) → k < length xs → slice_index_or xs k 0 < length F
+
+-- the first choice of labelling: the first variable of the list that has not one value, with its least value, or none
+abbrev pub IsFirstChoice : Family → List ℕ → Option (ℕ × ℤ) → Type 0
+IsFirstChoice F xs None = AreSingle F xs (length xs)
+IsFirstChoice F xs (Some c) = (i : ℕ) × IsOpenAt F xs i × (c.0 ≡ slice_index_or xs i 0) × IsLeast (set_of F c.0) c.1
+
+-- the choice behind another one: the same variable, with its next value, or none
+abbrev pub IsNextChoice : Family → ℕ × ℤ → Option (ℕ × ℤ) → Type 0
+IsNextChoice F c None = IsNext (set_of F c.0) c.1 None
+IsNextChoice F c (Some d) = (d.0 ≡ c.0) × IsNext (set_of F c.0) c.1 (Some d.1)
 
 -- one list comes before another of equal length: at the first place where they differ its number is less
 abbrev pub is_before : List ℤ → List ℤ → Bool

@@ -5,7 +5,7 @@ ghost use Rattle.std.specs.Prelude.{◌≡◌, ◌<◌, ◌^◌, length, Some};
 ghost use Rattle.opl_expr.specs.Forms.{Term};
 ghost use Rattle.opl_trace.specs.Answers.{is_single};
 ghost use Rattle.opl_trace.specs.Objective.{is_better};
-ghost use Rattle.opl_branch.specs.Firsts.{IsFirstOpen, is_before};
+ghost use Rattle.opl_branch.specs.Firsts.{IsFirstOpen, AreAmong, IsFirstChoice, IsNextChoice, is_before};
 
 use opl_domain::View;
 use opl_expr::Goal;
@@ -31,6 +31,28 @@ pub fn first_unbound<V: View>(list: &[u32], v: &V) -> Option<u32>
         }
     }
     None
+}
+
+/// The first choice of labelling: the first variable of the list whose set has not one value, with the least of its values; None
+/// exactly where all have one. It takes no memory.
+pub fn first_choice<V: View>(list: &[u32], v: &V) -> Option<(u32, i64)>
+    requires few { length list.now < 2 ^ 32 }
+    requires among { AreAmong (V.family v.now) list.now }
+    ensures { IsFirstChoice (V.family v.now) list.now result }
+{
+    let place = first_unbound(list, v)?;
+    let x = list[place as usize];
+    Some((x, v.min(x)))
+}
+
+/// The choice behind another one of the same variable: its next value; None exactly where no value is left. It takes no memory.
+pub fn next_choice<V: View>(choice: (u32, i64), v: &V) -> Option<(u32, i64)>
+    requires { choice.0 < length (V.family v.now) }
+    ensures { IsNextChoice (V.family v.now) choice result }
+{
+    let (x, value) = choice;
+    let next = v.next(x, value)?;
+    Some((x, next))
 }
 
 /// Whether a value of the objective is better than the best so far; than none each value is.
