@@ -1,5 +1,5 @@
 pub mod Along
-pub mod Consumed
+pub mod Asked
 pub mod Declared
 pub mod Examples
 pub mod Followed

@@ -50,16 +50,19 @@ use Rattle.opl_type_rules.specs.Expressions.Need.{data_alone}
 use Rattle.opl_model_types.specs.Declarations.{shaped, initial, initial_cells, initial_pairs, initial_kinds}
 use Rattle.opl_term.proofs.Layers as term_is
 use Rattle.opl_type_rules.proofs.Forms as form_is
+use Rattle.opl_fields.specs.declared.place.FieldPlace.{FieldPlace}
 use Rattle.opl_fields.specs.Walk.{Pass, one, each, in_turn, walk}
 use Rattle.opl_fields.specs.Trees.{walk_initial}
+use Rattle.opl_fields.specs.Typed.{form_fields, parts_fields, pairs_fields}
+use Rattle.opl_fields.specs.Whole.{in_initial}
 use Rattle.opl_fields.proofs.Walks.{walk-Array, walk-KeyedArray}
-use Rattle.opl_fields.proofs.Taken.{Follows, went, same}
+use Rattle.opl_fields.proofs.Taken.{Takes, Follows, takes-none, takes-both, takes-by, went, same}
 use Rattle.opl_fields.proofs.Followed.{by-both, follows-add, follows-mul, follows-open, follows-sign, follows-post, follows-prim, follows-keyed}
-use Rattle.opl_fields.proofs.Consumed.{Consumes, consumes-none, consumes-both, consumes-one, consumes-by, consumes-typed}
+use Rattle.opl_fields.proofs.Asked.{takes-one, takes-typed}
 
--- whatever initial value the form is, the walk takes what typing lists
+-- whatever initial value the form is, the walk takes what typing lists, and finds the fields of the form
 abbrev pub Starts : List DeclTree → Form → Pass → Type 0
-Starts ds f g = (sc : Scope) (s : Sort) (is : List Sort) (ks : List Sort) → initial sc s is f ≡ Ok ks → Consumes g ks
+Starts ds f g = (sc : Scope) (s : Sort) (is : List Sort) (ks : List Sort) → initial sc s is f ≡ Ok ks → Takes g ks (form_fields ds sc f)
 
 -- ---- values that are typed like other expressions
 
@@ -81,7 +84,7 @@ unfolding initial
 alone f sc s = refl
 
 typed-starts : (ds : List DeclTree) (f : Form) (g : Pass) → Follows ds f g → is_array f ≡ false → Starts ds f g
-typed-starts ds f g p h sc s is ks e = consumes-typed ds f g p sc data_alone (fits_in sc (shaped is s)) ks (sym (plain f h sc s is) ∙ e)
+typed-starts ds f g p h sc s is ks e = takes-typed ds f g p sc data_alone (fits_in sc (shaped is s)) ks (sym (plain f h sc s is) ∙ e)
 
 -- the same by an equal form
 starts-when : (ds : List DeclTree) (f f' : Form) (g : Pass) → f ≡ f' → is_array f' ≡ false → Follows ds f g → Starts ds f g
@@ -194,20 +197,21 @@ inner_keyed ds = map-KeyedTree (In_compare ds) (In_mul ds) (In_neg ds) (In_open 
 -- ---- cells
 
 cells-start : (ds : List DeclTree) (es : List (In_add ds)) (sc : Scope) (s : Sort) (is ks : List Sort) → initial_cells sc s is (forms_of (map form_add (map (λ e. e.0) es))) ≡ Ok ks →
-    Consumes (each (map (walk ds) (map add_term (map (λ e. e.0) es)))) ks
-unfolding initial initial_cells
-cells-start ds [] sc s is ks h = subst (λ ks. Consumes (each []) ks) (same [] ks h) consumes-none
+    Takes (each (map (walk ds) (map add_term (map (λ e. e.0) es)))) ks (parts_fields ds sc (forms_of (map form_add (map (λ e. e.0) es))))
+unfolding initial initial_cells parts_fields
+cells-start ds [] sc s is ks h = subst (λ ks. Takes (each []) ks []) (same [] ks h) takes-none
 cells-start ds (e ∷ es) sc s is ks h =
     let w = went (initial sc s is (form_add e.0)) _ ks h in
     let x = went (initial_cells sc s is (forms_of (map form_add (map (λ e. e.0) es)))) _ ks w.2 in
     let g : Pass = each (map (walk ds) (map add_term (map (λ e. e.0) es))) in
-    subst (λ ks. Consumes (λ st. g (walk ds (add_term e.0) st)) ks) (same _ ks x.2)
-    (consumes-both (walk ds (add_term e.0)) g w.0 x.0 (e.1 sc s is w.0 w.1) (cells-start ds es sc s is x.0 x.1))
+    let b : List FieldPlace = parts_fields ds sc (forms_of (map form_add (map (λ e. e.0) es))) in
+    subst (λ ks. Takes (λ st. g (walk ds (add_term e.0) st)) ks (form_fields ds sc (form_add e.0) ++ b)) (same _ ks x.2)
+    (takes-both (walk ds (add_term e.0)) g w.0 x.0 (form_fields ds sc (form_add e.0)) b (e.1 sc s is w.0 w.1) (cells-start ds es sc s is x.0 x.1))
 
 pairs-start : (ds : List DeclTree) (es : List (In_keyed ds)) (sc : Scope) (s i : Sort) (is ks : List Sort) → initial_pairs sc s i is (pairs_of (map form_keyed (map (λ e. e.0) es))) ≡ Ok ks →
-    Consumes (in_turn (map (walk ds) (map (λ p. p.key) (map keyed_pair (map (λ e. e.0) es)))) (map (walk ds) (map (λ p. p.cell) (map keyed_pair (map (λ e. e.0) es))))) ks
-unfolding initial initial_pairs
-pairs-start ds [] sc s i is ks h = subst (λ ks. Consumes (in_turn [] []) ks) (same [] ks h) consumes-none
+    Takes (in_turn (map (walk ds) (map (λ p. p.key) (map keyed_pair (map (λ e. e.0) es)))) (map (walk ds) (map (λ p. p.cell) (map keyed_pair (map (λ e. e.0) es))))) ks (pairs_fields ds sc (pairs_of (map form_keyed (map (λ e. e.0) es))))
+unfolding initial initial_pairs pairs_fields
+pairs-start ds [] sc s i is ks h = subst (λ ks. Takes (in_turn [] []) ks []) (same [] ks h) takes-none
 pairs-start ds (e ∷ es) sc s i is ks h =
     let w = went (and_then (typing sc (form_keyed e.0).key) (used data_alone (fits_in sc i))) _ ks h in
     let x = went (initial sc s is (form_keyed e.0).cell) _ ks w.2 in
@@ -215,21 +219,25 @@ pairs-start ds (e ∷ es) sc s i is ks h =
     let k : Pass = walk ds (keyed_pair e.0).key in
     let c : Pass = walk ds (keyed_pair e.0).cell in
     let g : Pass = in_turn (map (walk ds) (map (λ p. p.key) (map keyed_pair (map (λ e. e.0) es)))) (map (walk ds) (map (λ p. p.cell) (map keyed_pair (map (λ e. e.0) es)))) in
-    subst (λ ks. Consumes (λ st. g (c (k st))) ks) (same _ ks y.2)
-    (consumes-both k (λ st. g (c st)) (kinds w.0) (x.0 ++ y.0)
-    (consumes-typed ds (form_keyed e.0).key k (follows-keyed ds e.0).key_follows sc data_alone (fits_in sc i) (kinds w.0) (ap (λ d. and_then d (λ n. Ok (kinds n))) w.1))
-    (consumes-both c g x.0 y.0 (e.1 sc s is x.0 x.1) (pairs-start ds es sc s i is y.0 y.1)))
+    let a : List FieldPlace = form_fields ds sc (form_keyed e.0).key in
+    let b : List FieldPlace = form_fields ds sc (form_keyed e.0).cell in
+    let d : List FieldPlace = pairs_fields ds sc (pairs_of (map form_keyed (map (λ e. e.0) es))) in
+    subst (λ ks. Takes (λ st. g (c (k st))) ks (a ++ (b ++ d))) (same _ ks y.2)
+    (takes-both k (λ st. g (c st)) (kinds w.0) (x.0 ++ y.0) a (b ++ d)
+    (takes-typed ds (form_keyed e.0).key k (follows-keyed ds e.0).key_follows sc data_alone (fits_in sc i) (kinds w.0) (ap (λ d. and_then d (λ n. Ok (kinds n))) w.1))
+    (takes-both c g x.0 y.0 b d (e.1 sc s is x.0 x.1) (pairs-start ds es sc s i is y.0 y.1)))
 
 starts-Array : (ds : List DeclTree) (at : ℕ) (es : List (In_add ds)) → Follows ds (cells at (forms_of (map form_add (map (λ e. e.0) es)))) (walk ds (terms.Array at (map add_term (map (λ e. e.0) es)))) →
     Starts ds (cells at (forms_of (map form_add (map (λ e. e.0) es)))) (walk ds (terms.Array at (map add_term (map (λ e. e.0) es))))
-unfolding initial
-starts-Array ds at es p sc s [] ks h = consumes-typed ds (cells at (forms_of (map form_add (map (λ e. e.0) es)))) (walk ds (terms.Array at (map add_term (map (λ e. e.0) es)))) p sc data_alone (fits_in sc (shaped [] s)) ks (sym (alone _ sc s) ∙ h)
+unfolding initial form_fields
+starts-Array ds at es p sc s [] ks h = takes-typed ds (cells at (forms_of (map form_add (map (λ e. e.0) es)))) (walk ds (terms.Array at (map add_term (map (λ e. e.0) es)))) p sc data_alone (fits_in sc (shaped [] s)) ks (sym (alone _ sc s) ∙ h)
 starts-Array ds at es p sc s (i ∷ is) ks h =
     let w = went (initial_cells sc s is (forms_of (map form_add (map (λ e. e.0) es)))) _ ks h in
     let g : Pass = each (map (walk ds) (map add_term (map (λ e. e.0) es))) in
-    subst (λ ks. Consumes (walk ds (terms.Array at (map add_term (map (λ e. e.0) es)))) ks) (same _ ks w.2)
-    (consumes-by (walk ds (terms.Array at (map add_term (map (λ e. e.0) es)))) (λ st. g (one st)) (shaped (i ∷ is) s ∷ w.0) (walk-Array ds at (map add_term (map (λ e. e.0) es)))
-    (consumes-one g (shaped (i ∷ is) s) w.0 (cells-start ds es sc s is w.0 w.1)))
+    let a : List FieldPlace = parts_fields ds sc (forms_of (map form_add (map (λ e. e.0) es))) in
+    subst (λ ks. Takes (walk ds (terms.Array at (map add_term (map (λ e. e.0) es)))) ks a) (same _ ks w.2)
+    (takes-by (walk ds (terms.Array at (map add_term (map (λ e. e.0) es)))) (λ st. g (one st)) (shaped (i ∷ is) s ∷ w.0) a (walk-Array ds at (map add_term (map (λ e. e.0) es)))
+    (takes-one g (shaped (i ∷ is) s) w.0 a (cells-start ds es sc s is w.0 w.1)))
 
 abbrev keys_of : (ds : List DeclTree) → List (In_keyed ds) → List Term
 keys_of ds es = map (λ p. p.key) (map keyed_pair (map (λ e. e.0) es))
@@ -239,14 +247,15 @@ cells_of ds es = map (λ p. p.cell) (map keyed_pair (map (λ e. e.0) es))
 
 starts-KeyedArray : (ds : List DeclTree) (at : ℕ) (es : List (In_keyed ds)) → Follows ds (keyed_cells at (pairs_of (map form_keyed (map (λ e. e.0) es)))) (walk ds (terms.KeyedArray at (keys_of ds es) (cells_of ds es))) →
     Starts ds (keyed_cells at (pairs_of (map form_keyed (map (λ e. e.0) es)))) (walk ds (terms.KeyedArray at (keys_of ds es) (cells_of ds es)))
-unfolding initial
-starts-KeyedArray ds at es p sc s [] ks h = consumes-typed ds (keyed_cells at (pairs_of (map form_keyed (map (λ e. e.0) es)))) (walk ds (terms.KeyedArray at (keys_of ds es) (cells_of ds es))) p sc data_alone (fits_in sc (shaped [] s)) ks (sym (alone _ sc s) ∙ h)
+unfolding initial form_fields
+starts-KeyedArray ds at es p sc s [] ks h = takes-typed ds (keyed_cells at (pairs_of (map form_keyed (map (λ e. e.0) es)))) (walk ds (terms.KeyedArray at (keys_of ds es) (cells_of ds es))) p sc data_alone (fits_in sc (shaped [] s)) ks (sym (alone _ sc s) ∙ h)
 starts-KeyedArray ds at es p sc s (i ∷ is) ks h =
     let w = went (initial_pairs sc s i is (pairs_of (map form_keyed (map (λ e. e.0) es)))) _ ks h in
     let g : Pass = in_turn (map (walk ds) (keys_of ds es)) (map (walk ds) (cells_of ds es)) in
-    subst (λ ks. Consumes (walk ds (terms.KeyedArray at (keys_of ds es) (cells_of ds es))) ks) (same _ ks w.2)
-    (consumes-by (walk ds (terms.KeyedArray at (keys_of ds es) (cells_of ds es))) (λ st. g (one st)) (shaped (i ∷ is) s ∷ w.0) (walk-KeyedArray ds at (keys_of ds es) (cells_of ds es))
-    (consumes-one g (shaped (i ∷ is) s) w.0 (pairs-start ds es sc s i is w.0 w.1)))
+    let a : List FieldPlace = pairs_fields ds sc (pairs_of (map form_keyed (map (λ e. e.0) es))) in
+    subst (λ ks. Takes (walk ds (terms.KeyedArray at (keys_of ds es) (cells_of ds es))) ks a) (same _ ks w.2)
+    (takes-by (walk ds (terms.KeyedArray at (keys_of ds es) (cells_of ds es))) (λ st. g (one st)) (shaped (i ∷ is) s ∷ w.0) a (walk-KeyedArray ds at (keys_of ds es) (cells_of ds es))
+    (takes-one g (shaped (i ∷ is) s) w.0 a (pairs-start ds es sc s i is w.0 w.1)))
 
 -- ---- chains and what stands behind a primary
 
@@ -348,6 +357,6 @@ starts-add ds = ind-AddTree (λ t. Unit {0}) (λ t. Starts ds (form_mul t) (walk
     (λ x y is. tt)
     (λ x y is. tt)
 
-pub starts-initial : (ds : List DeclTree) (t : InitialTree) (sc : Scope) (s : Sort) (is ks : List Sort) → initial_kinds sc s is t ≡ Ok ks → Consumes (walk_initial ds t) ks
-starts-initial ds (initials.External at) sc s is ks h = subst (λ ks. Consumes (λ st. st) ks) (same [] ks h) consumes-none
+pub starts-initial : (ds : List DeclTree) (t : InitialTree) (sc : Scope) (s : Sort) (is ks : List Sort) → initial_kinds sc s is t ≡ Ok ks → Takes (walk_initial ds t) ks (in_initial ds t sc)
+starts-initial ds (initials.External at) sc s is ks h = subst (λ ks. Takes (λ st. st) ks []) (same [] ks h) takes-none
 starts-initial ds (initials.Written t) sc s is ks h = starts-add ds t sc s is ks h

@@ -20,6 +20,7 @@ use Rattle.opl_fields.specs.Walk.{State, walk}
 use Rattle.opl_fields.specs.Trees.{walk_model}
 use Rattle.opl_fields.specs.Fields.{record_of}
 use Rattle.opl_fields.specs.Typed.{form_fields}
+use Rattle.opl_fields.specs.Whole.{model_fields}
 
 -- what a walk knows, of the types that follow
 abbrev pub known : List FieldPlace → List (Option ℕ) → State
@@ -33,11 +34,11 @@ WalkFollowsTyping =
     (found : List FieldPlace) (rest : List (Option ℕ)) →
     walk ds (expr_term t) (known found (map record_of (kinds n) ++ rest)) ≡ known (found ++ form_fields ds sc (form_expr t)) rest
 
--- where typing accepts a model, the walk over it takes exactly the types that typing lists, whatever follows them
-abbrev pub WalkTakesAll : Type 0
-WalkTakesAll =
+-- where typing accepts a model, the walk over it takes exactly the types that typing lists, whatever follows them, and finds the fields that the model names
+abbrev pub WalkFindsAll : Type 0
+WalkFindsAll =
     (t : ModelTree) (ks : List Sort) → model t ≡ Ok ks → (found : List FieldPlace) (rest : List (Option ℕ)) →
-    (walk_model t (known found (map record_of ks ++ rest))).records ≡ rest
+    walk_model t (known found (map record_of ks ++ rest)) ≡ known (found ++ model_fields t) rest
 
 -- at the position of a field stands the field's name
 abbrev pub PositionsAreRight : Type 0

@@ -4,3 +4,4 @@ pub mod Structs
 pub mod Trees
 pub mod Typed
 pub mod Walk
+pub mod Whole

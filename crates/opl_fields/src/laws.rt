@@ -1,5 +1,5 @@
 //! Laws of the walk, as contracts of functions without effect.
-ghost use Rattle.opl_fields.specs.Laws.{FieldsAreTold, FieldsHavePositions, ParametersKeepPositions, PositionsAreRight, WalkFollowsTyping, WalkTakesAll};
+ghost use Rattle.opl_fields.specs.Laws.{FieldsAreTold, FieldsHavePositions, ParametersKeepPositions, PositionsAreRight, WalkFollowsTyping, WalkFindsAll};
 
 /// Where typing accepts an expression, the walk over it takes exactly the types that typing lists, whatever follows them, and finds
 /// the fields that typing tells.
@@ -7,9 +7,10 @@ pub fn walk_follows_typing()
     ensures { WalkFollowsTyping }
 {}
 
-/// Where typing accepts a model, the walk over it takes exactly the types that typing lists, whatever follows them.
-pub fn walk_takes_all()
-    ensures { WalkTakesAll }
+/// Where typing accepts a model, the walk over it takes exactly the types that typing lists, whatever follows them, and finds the
+/// fields that the model names.
+pub fn walk_finds_all()
+    ensures { WalkFindsAll }
 {}
 
 /// At the position of a field stands the field's name.
