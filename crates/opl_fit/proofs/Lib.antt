@@ -1,0 +1,9 @@
+pub mod Assigned
+pub mod Cells
+pub mod Examples
+pub mod Given
+pub mod Items
+pub mod OfKind
+pub mod Quotients
+pub mod Written
+pub mod WrittenCells

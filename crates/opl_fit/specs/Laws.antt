@@ -1,0 +1,96 @@
+-- Laws of the values of data.
+use Rattle.std.specs.Prelude.{◌≡◌, ◌≤◌, ◌<◌, ◌⊎◌, ℕ, ℤ, ◌+ℤ◌, ◌*ℤ◌, ◌≤ℤ◌, pos, unsigned_abs, true, List, ◌∷◌, ◌++◌, Some, Ok, false, []}
+use Rattle.std.specs.List.{list_any, slice_get}
+use Rattle.opl_tree.specs.declared.declaration.DataTree.{DataTree}
+use Rattle.opl_tree.specs.declared.declaration.DeclTree.{DeclTree}
+use Rattle.opl_tree.specs.declared.declaration.DeclTree.TheVariants as decls
+use Rattle.opl_tree.specs.declared.declaration.DimTree.{DimTree}
+use Rattle.opl_tree.specs.declared.declaration.InitialTree.TheVariants as initials
+use Rattle.opl_term.specs.declared.term.Term.{Term}
+use Rattle.opl_term.specs.declared.term.Term.TheVariants as terms
+use Rattle.opl_tree.specs.declared.expression.AddTree.{AddTree}
+use Rattle.opl_data.specs.declared.tree.DataFile.{DataFile}
+use Rattle.opl_data.specs.declared.tree.DataValue.{DataValue}
+use Rattle.opl_value.specs.declared.value.Value.{Value}
+use Rattle.opl_value.specs.Places.{place_in, place_of}
+use Rattle.opl_eval.specs.Evaluation.{Environment, eval}
+use Rattle.opl_eval.specs.Arithmetic.{quotient, remainder}
+use Rattle.opl_given.specs.declared.assigned.Override.{Override}
+use Rattle.opl_given.specs.declared.fault.BindFault.{BindFault}
+use Rattle.opl_given.specs.declared.form.Form.{Form}
+use Rattle.opl_given.specs.declared.form.Form.TheVariants as forms
+use Rattle.opl_given.specs.Arrays.{Axis, elements_in, values_of}
+use Rattle.opl_given.specs.Assigned.{is_assigned}
+use Rattle.opl_given.specs.Forms.{Known, form_of}
+use Rattle.opl_given.specs.Given.{Given, all_given}
+use Rattle.opl_given.specs.Items.{lists_of}
+use Rattle.opl_given.specs.Values.{value_in}
+use Rattle.opl_bind.specs.Bind.{Data, bound}
+use Rattle.opl_bind.specs.Written.{has_name, written_cells, written_value}
+use Rattle.opl_fit.specs.Declared.{ItemIs, Stands}
+use Rattle.opl_fit.specs.Fits.{Fits}
+use Rattle.opl_fit.specs.Keys.{Says}
+use Rattle.opl_fit.specs.OfKind.{HasKind}
+
+-- ---- the forms of values
+
+-- a type whose values are numbers
+abbrev pub TakesNumbers : Form → Type 0
+TakesNumbers form = (form ≡ forms.Int) ⊎ ((low : ℤ) × (high : ℤ) × (form ≡ forms.Range low high))
+
+-- where numbers are assigned to an item only if its type takes them, its value fits its type
+abbrev pub ItemFits : List Override → DataTree → Data → Value → Type 0
+ItemFits os t d v =
+    (is_assigned t.name.text os ≡ true → TakesNumbers (form_of t.kind d.known)) → ItemIs (Fits d.known (form_of t.kind d.known)) d t.dims v
+
+-- each item whose value a data file gives, or is assigned, has a value of the form of its type
+abbrev pub GivenValuesFit : Type 0
+GivenValuesFit = (position : ℕ → ℕ) (before after : List DeclTree) (t : DataTree) (at : ℕ) (files : List DataFile) (os : List Override) (final : Data) →
+    t.initial ≡ initials.External at → bound position (before ++ decls.Data t ∷ after) files os ≡ Ok final →
+    (given : Given) × (all_given (before ++ decls.Data t ∷ after) files ≡ Ok given) × Stands position given os before t final (ItemFits os t)
+
+-- a value of the kind of its type, as typing tells it, fits the type
+abbrev pub FitsByKind : Known → Form → Value → Type 0
+FitsByKind known form v = HasKind known form v → Fits known form v
+
+abbrev pub ItemFitsByKind : DataTree → Data → Value → Type 0
+ItemFitsByKind t d v = ItemIs (FitsByKind d.known (form_of t.kind d.known)) d t.dims v
+
+-- each item whose value the model itself gives has a value of the form of its type, where it is of the kind of the type
+abbrev pub WrittenValuesFit : Type 0
+WrittenValuesFit = (position : ℕ → ℕ) (before after : List DeclTree) (t : DataTree) (e : AddTree) (files : List DataFile) (os : List Override) (final : Data) →
+    t.initial ≡ initials.Written e → bound position (before ++ decls.Data t ∷ after) files os ≡ Ok final →
+    (given : Given) × (all_given (before ++ decls.Data t ∷ after) files ≡ Ok given) × Stands position given os before t final (ItemFitsByKind t)
+
+-- ---- the cells of arrays
+
+-- of an array that a data file gives, the cell at a key's place is what the array says for the key
+abbrev pub CellsStandByTheirKeys : Type 0
+CellsStandByTheirKeys =
+    (known : Known) (file : ℕ) (wrong : BindFault) (axes : List Axis) (form : Form) (value : DataValue) (cells : List Value) (key : List Value) (cell : DataValue) →
+    elements_in known file wrong axes form value ≡ Ok cells → Says known axes value key cell →
+    (place : ℕ) × (v : Value) × (place_of (lists_of axes) key ≡ Some place) × (slice_get cells place ≡ Some v) × (value_in known file cell form ≡ Ok v)
+
+-- in `#[..]#` of the model over one index set without a name, the cell at the place of a key is the value behind the key
+abbrev pub WrittenCellsStandByTheirKeys : Type 0
+WrittenCellsStandByTheirKeys =
+    (known : Known) (env : Environment) (form : Form) (ts : List DimTree) (axis : Axis) (at : ℕ) (ks us : List Term) (cells : List Value) (i : ℕ) (k u : Term) →
+    list_any has_name ts ≡ false → written_cells known env form ts (axis ∷ []) (terms.KeyedArray at ks us) ≡ Ok cells → slice_get ks i ≡ Some k → slice_get us i ≡ Some u →
+    (place : ℕ) × (key : Value) × (v : Value) × (eval k env ≡ Ok key) × (place_in key (values_of axis) ≡ Some place) × (slice_get cells place ≡ Some v) × (written_value known env form u ≡ Ok v)
+
+-- ---- numbers
+
+-- a remainder has the sign of the number that is divided, unless it is 0
+abbrev pub HasSignOf : ℤ → ℤ → Type 0
+HasSignOf r a = ((pos 0 ≤ℤ a) × (pos 0 ≤ℤ r)) ⊎ ((a ≤ℤ pos 0) × (r ≤ℤ pos 0))
+
+-- a quotient is cut off towards 0: what it leaves is nearer to 0 than the divisor and has the sign of the number that is divided, and times the divisor it is no
+-- further from 0 than that number
+pub record IsCutOff (a b q r : ℤ) : Type 0 where
+  pub whole : a ≡ b *ℤ q +ℤ r
+  pub near : unsigned_abs r < unsigned_abs b
+  pub towards_zero : unsigned_abs (b *ℤ q) ≤ unsigned_abs a
+  pub sign : HasSignOf r a
+
+abbrev pub QuotientsAreCutOff : Type 0
+QuotientsAreCutOff = (at : ℕ) (a b q r : ℤ) → quotient at a b ≡ Ok q → remainder at a b ≡ Ok r → IsCutOff a b q r

@@ -1,0 +1,5 @@
+pub mod Declared
+pub mod Fits
+pub mod Keys
+pub mod OfKind
+pub mod Laws

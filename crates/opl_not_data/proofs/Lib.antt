@@ -1,0 +1,4 @@
+pub mod Known
+pub mod Outcomes
+pub mod Parameters
+pub mod Truths

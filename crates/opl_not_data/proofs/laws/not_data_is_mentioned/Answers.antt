@@ -1,0 +1,5 @@
+use Rattle.opl_not_data.proofs.Known.{not_data_is_mentioned}
+use Rattle.opl_not_data.proofs.laws.not_data_is_mentioned.Goals as goal
+
+pub returns : goal.returns
+returns c = not_data_is_mentioned

@@ -1,0 +1,5 @@
+mod Decls
+mod Items
+mod Lawful
+mod Places
+mod Resources

@@ -1,0 +1,4 @@
+pub mod Declares
+pub mod Laws
+pub mod Parts
+pub mod Places
