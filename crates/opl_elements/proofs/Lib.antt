@@ -1,0 +1,10 @@
+pub mod Cells
+pub mod Differing
+pub mod Dimensional
+pub mod Folded
+pub mod Measured
+pub mod Relations
+pub mod Selected
+pub mod Sorted
+pub mod Successive
+pub mod ValueSorts

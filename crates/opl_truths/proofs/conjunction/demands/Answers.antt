@@ -1,0 +1,9 @@
+use Rattle.std.proofs.Common.{arith}
+use Rattle.opl_truths.proofs.Depths.{depth-And, nodes-And}
+use Rattle.opl_truths.proofs.conjunction.demands.Goals as goal
+
+pub condition_node-requires-clause-depth : goal.condition_node-requires-clause-depth
+condition_node-requires-clause-depth c = grind (arith, depth-And)
+
+pub condition_node-requires-clause-nodes : goal.condition_node-requires-clause-nodes
+condition_node-requires-clause-nodes c = grind (arith, nodes-And)
