@@ -1,0 +1,5 @@
+use Rattle.opl_linear.proofs.Carrying as laws
+use Rattle.opl_linear.proofs.laws.comparisons_by_forms.Goals as goal
+
+pub returns : goal.returns
+returns c = laws.comparisons_by_forms
