@@ -1,79 +1,82 @@
-//! The answers to questions on the search of a core.
+//! The answers to questions on a core of a kind.
 //!
-//! A question is `WORD BUDGET KIND SIZE`, a budget of choices and a core. `find?` goes to the end of the search, `first?` to three
-//! answers, `again?` asks six times, whatever the answers are, `turns?` asks one machine and another one, which has no budget,
-//! in turns, and `count?` only counts solutions and choices.
+//! A question is `WORD NUMBER KIND SIZE`. `find?`, `first?`, `again?`, `turns?` and `count?` ask the machine with a budget of so
+//! many choices; `plain?` counts as `count?` does, by the plain program that computes the sets of each moment anew, and
+//! `refuted?` asks so many times whether the declared sets refute the last constraint.
 use crate::cores::core_of;
-use crate::found::{push_again, push_count, push_found, push_turns};
-use crate::shown::push_words;
 use opl_domain::OutOfMemory;
-use opl_expr::Core;
-use opl_search::{Machine, Way};
-use opl_solver::{Pair, search};
-use opl_sound::is_ground;
+use opl_expr::{Cons, Core};
+use opl_range::refuted;
+use opl_reference_labelling::{CoreRanges, Mark, default_marks};
+use opl_search::has_empty_set;
+use opl_solver::Pair;
+use opl_sound::{is_ground, is_sound, is_sound_constraint, is_within};
 use std::alloc::Global;
 use std::rc::Rc;
+use test_machine::{NOT_ASKED, push_asked, push_number, push_words};
 
-/// What is told where there is nothing to ask: the core is no ground core, or the word is no question.
-const NOT_ASKED: &str = "not asked";
-
-/// The search of a ground core in its default order.
-fn machine(
-    alloc: Global,
-    core: &Rc<Core>,
-    budget: u64,
-) -> Result<Option<Machine<Pair>>, OutOfMemory> {
-    if !is_ground(core.as_ref()) {
-        return Ok(None);
+/// Adds how many solutions and choices marks have.
+fn push_counts(text: &mut Vec<u8>, marks: &[Mark]) -> Result<(), OutOfMemory> {
+    let mut solutions: u64 = 0;
+    let mut choices: u64 = 0;
+    for mark in marks {
+        match mark {
+            Mark::Solution(_) => solutions = solutions.saturating_add(1),
+            Mark::Choice(_) => choices = choices.saturating_add(1),
+            _ => {}
+        }
     }
-    let way = Way {
-        default_search: true,
+    push_number(text, solutions as i128)?;
+    push_words(text, " solutions, ")?;
+    push_number(text, choices as i128)?;
+    push_words(text, " choices")
+}
+
+/// Adds how many solutions and choices the plain program makes.
+fn push_plain(
+    alloc: Global,
+    text: &mut Vec<u8>,
+    core: &Core,
+    budget: u64,
+) -> Result<(), OutOfMemory> {
+    if !is_sound(core) {
+        return push_words(text, NOT_ASKED);
+    }
+    let marks = default_marks(alloc, &CoreRanges, core, budget)?;
+    push_counts(text, marks.as_slice())
+}
+
+/// How often the sets of a view refute a constraint that is asked so many times; none where it can't be asked.
+fn times_refuted(core: &Core, c: &Cons, sets: &Pair, times: u64) -> Option<u64> {
+    if !is_sound_constraint(core, c) || !is_within(core, sets) {
+        return None;
+    }
+    let mut count: u64 = 0;
+    for _ in 0..times {
+        if refuted(core, c, sets) {
+            count = count.saturating_add(1);
+        }
+    }
+    Some(count)
+}
+
+/// Adds how often the declared sets refute the last constraint of a core.
+fn push_refuted(
+    alloc: Global,
+    text: &mut Vec<u8>,
+    core: &Rc<Core>,
+    times: u64,
+) -> Result<(), OutOfMemory> {
+    if !is_ground(core.as_ref()) || has_empty_set(core.as_ref()) {
+        return push_words(text, NOT_ASKED);
+    }
+    let sets = Pair::new(alloc, core.clone()?)?;
+    let Some(c) = core.as_ref().cons.as_slice().last() else {
+        return push_words(text, NOT_ASKED);
     };
-    Ok(Some(search(alloc, core.clone()?, way, budget)?))
-}
-
-/// Adds what a machine and another one, which has no budget, find in turns.
-fn push_both(
-    alloc: Global,
-    text: &mut Vec<u8>,
-    core: &Rc<Core>,
-    one: &mut Machine<Pair>,
-) -> Result<(), OutOfMemory> {
-    match machine(alloc, core, u64::MAX)? {
+    match times_refuted(core.as_ref(), c, &sets, times) {
         None => push_words(text, NOT_ASKED),
-        Some(mut other) => push_turns(alloc, text, one, &mut other, 1000),
-    }
-}
-
-/// Adds what a machine finds.
-fn push_asked(
-    alloc: Global,
-    text: &mut Vec<u8>,
-    core: &Rc<Core>,
-    word: &str,
-    machine: &mut Machine<Pair>,
-) -> Result<(), OutOfMemory> {
-    match word {
-        "find?" => push_found(alloc, text, machine, u64::MAX),
-        "first?" => push_found(alloc, text, machine, 3),
-        "again?" => push_again(alloc, text, machine, 6),
-        "turns?" => push_both(alloc, text, core, machine),
-        "count?" => push_count(alloc, text, machine),
-        _ => push_words(text, NOT_ASKED),
-    }
-}
-
-/// Adds the answer to a question on a core.
-fn push_on(
-    alloc: Global,
-    text: &mut Vec<u8>,
-    core: &Rc<Core>,
-    word: &str,
-    budget: u64,
-) -> Result<(), OutOfMemory> {
-    match machine(alloc, core, budget)? {
-        None => push_words(text, NOT_ASKED),
-        Some(mut machine) => push_asked(alloc, text, core, word, &mut machine),
+        Some(count) => push_number(text, count as i128),
     }
 }
 
@@ -85,9 +88,13 @@ fn number(text: &str) -> u64 {
 /// Adds the answer to a question.
 pub fn push_answer(alloc: Global, text: &mut Vec<u8>, line: &str) -> Result<(), OutOfMemory> {
     let (word, rest) = line.split_once(" ").unwrap_or((line, ""));
-    let (budget, rest) = rest.split_once(" ").unwrap_or((rest, ""));
+    let (count, rest) = rest.split_once(" ").unwrap_or((rest, ""));
     let (kind, size) = rest.split_once(" ").unwrap_or((rest, ""));
     let size = u32::try_from(number(size)).unwrap_or(0);
     let core = core_of(alloc, kind, size)?;
-    push_on(alloc, text, &core, word, number(budget))
+    match word {
+        "plain?" => push_plain(alloc, text, core.as_ref(), number(count)),
+        "refuted?" => push_refuted(alloc, text, &core, number(count)),
+        _ => push_asked(alloc, text, &core, word, number(count)),
+    }
 }

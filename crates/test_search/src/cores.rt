@@ -1,9 +1,12 @@
 //! Cores that are made in code.
 use opl_domain::OutOfMemory;
-use opl_expr::{Cons, Core, Expr, Goal, Op};
+use opl_expr::{Cell, Cons, Core, Expr, Goal, Op, Table};
 use opl_list::{Boxed, Seq};
 use std::alloc::Global;
 use std::rc::Rc;
+
+/// The numbers 0 to 9 in some order.
+const DIGITS: [i128; 10] = [3, 0, 7, 4, 1, 8, 5, 2, 9, 6];
 
 /// The parts of a core, as they are made.
 #[derive(Drop)]
@@ -11,6 +14,7 @@ struct Made {
     alloc: Global,
     names: Seq<Seq<u8>>,
     sets: Seq<(i64, i64)>,
+    tables: Seq<Table>,
     cons: Seq<Cons>,
     goal: Option<Goal>,
 }
@@ -50,12 +54,37 @@ fn difference(alloc: Global, x: u32, y: u32) -> Result<Boxed<Expr>, OutOfMemory>
     Ok(Boxed::new(alloc, Expr::Sum(parts))?)
 }
 
+/// The cell of table 0 at a subscript.
+fn cell_at(alloc: Global, subscript: Boxed<Expr>) -> Result<Boxed<Expr>, OutOfMemory> {
+    let mut subscripts = Seq::new(alloc);
+    subscripts.push(subscript.into_inner())?;
+    Ok(Boxed::new(alloc, Expr::At(0, subscripts))?)
+}
+
+/// A table of ten cells.
+fn digits(alloc: Global) -> Result<Table, OutOfMemory> {
+    let mut indices = Seq::new(alloc);
+    let mut cells = Seq::new(alloc);
+    for (index, cell) in DIGITS.iter().enumerate() {
+        indices.push(index as i128)?;
+        cells.push(Cell::Const(*cell))?;
+    }
+    let mut dims = Seq::new(alloc);
+    dims.push(indices)?;
+    Ok(Table {
+        name: Seq::new(alloc),
+        dims,
+        cells,
+    })
+}
+
 impl Made {
     fn new(alloc: Global) -> Made {
         Made {
             alloc,
             names: Seq::new(alloc),
             sets: Seq::new(alloc),
+            tables: Seq::new(alloc),
             cons: Seq::new(alloc),
             goal: None,
         }
@@ -189,6 +218,26 @@ impl Made {
         Ok(())
     }
 
+    /// One comparison, of the first and the last variable.
+    fn comparison(&mut self, count: u32) -> Result<(), OutOfMemory> {
+        self.variables(count, 0, 9)?;
+        let sum = sum_of(self.alloc, 0, count.saturating_sub(1))?;
+        let limit = constant(self.alloc, 9)?;
+        self.compare(Op::Le, sum, limit)
+    }
+
+    /// A cell at a cell at a variable, so many times, is another variable.
+    fn nested(&mut self, depth: u32) -> Result<(), OutOfMemory> {
+        self.variables(2, 0, 9)?;
+        self.tables.push(digits(self.alloc)?)?;
+        let mut cell = variable(self.alloc, 0)?;
+        for _ in 0..depth {
+            cell = cell_at(self.alloc, cell)?;
+        }
+        let value = variable(self.alloc, 1)?;
+        self.compare(Op::Eq, cell, value)
+    }
+
     /// The parts of a core of a kind.
     fn grow(&mut self, kind: &str, size: u32) -> Result<(), OutOfMemory> {
         match kind {
@@ -198,6 +247,8 @@ impl Made {
             "golomb" => self.golomb(size),
             "sums" => self.sums(size),
             "bits" => self.variables(size, 0, 1),
+            "comparison" => self.comparison(size),
+            "nested" => self.nested(size),
             "empty" => self.variables(size, 1, 0),
             _ => Ok(()),
         }
@@ -209,13 +260,14 @@ impl Made {
             alloc,
             names,
             sets,
+            tables,
             cons,
             goal,
         } = self;
         Core {
             names,
             sets,
-            tables: Seq::new(alloc),
+            tables,
             resources: Seq::new(alloc),
             cons,
             goal,
@@ -226,7 +278,8 @@ impl Made {
 
 /// A core of a kind: `queens` on a board, `pigeons` in one hole too few, a `chain` of variables with two values each, and the
 /// shortest ruler with so many marks whose distances differ, `golomb`; the greatest of the `sums` of two numbers; `bits` without a
-/// constraint, and variables with `empty` sets. A core of another kind has no variables.
+/// constraint; one `comparison` of the first and the last of so many variables, and one of a cell whose subscripts are `nested` so
+/// deep; variables with `empty` sets. A core of another kind has no variables.
 pub fn core_of(alloc: Global, kind: &str, size: u32) -> Result<Rc<Core>, OutOfMemory> {
     let mut made = Made::new(alloc);
     made.grow(kind, size)?;

@@ -3,15 +3,13 @@
 
 mod answers;
 mod cores;
-mod found;
-mod shown;
 
 use answers::push_answer;
 use opl_domain::OutOfMemory;
-use shown::push_words;
 use std::alloc::Global;
 use std::io;
 use std::io::Write;
+use test_machine::push_words;
 
 /// Adds a line with its answer. A blank line has none.
 fn push_line(alloc: Global, text: &mut Vec<u8>, line: &str) -> Result<(), OutOfMemory> {

@@ -1,17 +1,14 @@
 //! The answers to questions on a model.
 //!
 //! A question is a line of a case whose first word ends in `?`. With `copy ` before it, it is asked of a copy of the model.
-use crate::model::number;
+//! `find?`, `first?`, `again?`, `turns?` and `count?` ask the machine, `follow?` and `levels?` what it stands on, and all others
+//! definitions and plain programs.
 use crate::noted::Noted;
-use crate::reader::{constraint, expression};
-use crate::shown::{
-    push_choices, push_ends, push_interval, push_marks, push_number, push_sets, push_solutions,
-    push_truth, push_words,
-};
+use crate::shown::{push_choices, push_interval, push_marks, push_solutions, push_truth};
 use opl_domain::{Domain, Steps, View};
 use opl_expr::{Cons, Core, Expr, OutOfMemory, holds};
 use opl_filter::{Filter, GenericFilter, Outcome, sweep, variables_of};
-use opl_list::{Boxed, Seq};
+use opl_list::Seq;
 use opl_range::{cons_range, range, refuted};
 use opl_reference_labelling::{CoreRanges, closure_of, default_marks};
 use opl_reference_search::marks;
@@ -21,9 +18,11 @@ use opl_sound::{
 };
 use opl_trace::Sets;
 use std::alloc::Global;
-
-/// What is told of a question that can't be asked: a text is none, or a part isn't sound.
-const NOT_ASKED: &str = "not asked";
+use std::rc::Rc;
+use test_cores::{constraint, expression, number};
+use test_machine::{
+    NOT_ASKED, push_asked, push_ends, push_followed, push_number, push_sets, push_words,
+};
 
 /// The sets that the constraints of a sound model leave.
 fn left(alloc: Global, core: &Core) -> Result<Option<Sets>, OutOfMemory> {
@@ -341,14 +340,14 @@ fn push_domain(alloc: Global, text: &mut Vec<u8>) -> Result<(), OutOfMemory> {
     push_number(text, steps.count() as i128)
 }
 
-/// Adds the answer to a question.
-fn push_answer(
+/// Adds the answer to a question that definitions and plain programs answer.
+fn push_plain(
     alloc: Global,
     text: &mut Vec<u8>,
     core: &Core,
-    line: &str,
+    word: &str,
+    written: &str,
 ) -> Result<(), OutOfMemory> {
-    let (word, written) = line.split_once(" ").unwrap_or((line, ""));
     let budget = number(written).unsigned_abs();
     match word {
         "sound?" => push_truth(text, is_sound(core)),
@@ -372,6 +371,24 @@ fn push_answer(
     }
 }
 
+/// Adds the answer to a question.
+fn push_answer(
+    alloc: Global,
+    text: &mut Vec<u8>,
+    core: &Rc<Core>,
+    line: &str,
+) -> Result<(), OutOfMemory> {
+    let (word, written) = line.split_once(" ").unwrap_or((line, ""));
+    match word {
+        "find?" | "first?" | "again?" | "turns?" | "count?" => {
+            push_asked(alloc, text, core, word, number(written).unsigned_abs())
+        }
+        "follow?" => push_followed(alloc, text, core, written, false),
+        "levels?" => push_followed(alloc, text, core, written, true),
+        _ => push_plain(alloc, text, core.as_ref(), word, written),
+    }
+}
+
 /// Adds the answer to a question on a copy of the model.
 fn push_copied(
     alloc: Global,
@@ -379,22 +396,22 @@ fn push_copied(
     core: &Core,
     line: &str,
 ) -> Result<(), OutOfMemory> {
-    let copy = Boxed::new(alloc, core.copy(alloc)?)?;
-    push_answer(alloc, text, copy.get(), line)
+    let copy = Rc::new(alloc, core.copy(alloc)?)?;
+    push_answer(alloc, text, &copy, line)
 }
 
 /// Adds a line, and its answer where it is a question.
 fn push_line(
     alloc: Global,
     text: &mut Vec<u8>,
-    core: &Core,
+    core: &Rc<Core>,
     line: &str,
 ) -> Result<(), OutOfMemory> {
     text.extend_from_slice(line.as_bytes())?;
     let (word, rest) = line.split_once(" ").unwrap_or((line, ""));
     if word == "copy" {
         push_words(text, " -> ")?;
-        push_copied(alloc, text, core, rest)?;
+        push_copied(alloc, text, core.as_ref(), rest)?;
     } else if word.as_bytes().ends_with(b"?") {
         push_words(text, " -> ")?;
         push_answer(alloc, text, core, line)?;
@@ -406,7 +423,7 @@ fn push_line(
 pub fn push_answers(
     alloc: Global,
     text: &mut Vec<u8>,
-    core: &Core,
+    core: &Rc<Core>,
     written: &str,
 ) -> Result<(), OutOfMemory> {
     for line in written.split("\n") {

@@ -2,21 +2,18 @@
 #![tactic(auto)]
 
 mod answers;
-mod model;
 mod noted;
-mod reader;
-mod section;
 mod shown;
 
 use answers::push_answers;
-use model::Parts;
 use opl_expr::OutOfMemory;
-use opl_list::Boxed;
 use opl_outside::{Found, OutsideError, RealShelf, RealSink, Shelf, Sink};
 use std::alloc::Global;
 use std::process::ExitCode;
+use std::rc::Rc;
 use std::rt::Env;
 use std::{env, io, str};
+use test_cores::Parts;
 
 /// The words after the program's name.
 fn words<R: Env + AllocGlobal>(rt: &R) -> io::Result<Vec<String>> {
@@ -41,8 +38,8 @@ fn parts_of(alloc: Global, written: &str) -> Result<Parts, OutOfMemory> {
 /// Adds the lines of a case, each question with its answer.
 fn push_case(alloc: Global, text: &mut Vec<u8>, written: &str) -> Result<(), OutOfMemory> {
     let parts = parts_of(alloc, written)?;
-    let core = Boxed::new(alloc, parts.into_core())?;
-    push_answers(alloc, text, core.get(), written)
+    let core = Rc::new(alloc, parts.into_core())?;
+    push_answers(alloc, text, &core, written)
 }
 
 /// The cases of a file with their answers. A blank line stands between cases.

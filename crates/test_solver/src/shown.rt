@@ -1,31 +1,12 @@
 //! Answers as plain text.
-use itoa::Buffer;
-use opl_domain::{Interval, View};
+use opl_domain::Interval;
 use opl_expr::OutOfMemory;
 use opl_reference_labelling::Mark;
-
-/// Adds a number.
-pub fn push_number(text: &mut Vec<u8>, number: i128) -> Result<(), OutOfMemory> {
-    text.extend_from_slice(Buffer::new().format(number).as_bytes())?;
-    Ok(())
-}
-
-/// Adds words.
-pub fn push_words(text: &mut Vec<u8>, words: &str) -> Result<(), OutOfMemory> {
-    text.extend_from_slice(words.as_bytes())?;
-    Ok(())
-}
+use test_machine::{push_ends, push_number, push_words};
 
 /// Adds `yes` or `no`.
 pub fn push_truth(text: &mut Vec<u8>, is_so: bool) -> Result<(), OutOfMemory> {
     push_words(text, if is_so { "yes" } else { "no" })
-}
-
-/// Adds `low..high`.
-pub fn push_ends(text: &mut Vec<u8>, low: i128, high: i128) -> Result<(), OutOfMemory> {
-    push_number(text, low)?;
-    push_words(text, "..")?;
-    push_number(text, high)
 }
 
 /// Adds an interval, or `none`.
@@ -34,17 +15,6 @@ pub fn push_interval(text: &mut Vec<u8>, interval: Option<Interval>) -> Result<(
         None => push_words(text, "none"),
         Some(a) => push_ends(text, a.lo(), a.hi()),
     }
-}
-
-/// Adds for each variable the ends of its set and the number of its values, as ` 1..4/3`.
-pub fn push_sets<V: View>(text: &mut Vec<u8>, view: &V) -> Result<(), OutOfMemory> {
-    for x in 0..view.vars() {
-        push_words(text, " ")?;
-        push_ends(text, view.min(x) as i128, view.max(x) as i128)?;
-        push_words(text, "/")?;
-        push_number(text, view.size(x) as i128)?;
-    }
-    Ok(())
 }
 
 /// Adds a solution, as `(2 4 1 3) `.

@@ -1,6 +1,6 @@
 use Rattle.std.proofs.Common.{length, ap, arith}
 use Rattle.opl_solver.proofs.Pairs.{declared_length}
-use Rattle.test_search.proofs.found.push_solution.Goals as goal
+use Rattle.test_machine.proofs.found.push_solution.Goals as goal
 
 pub value-requires-clause-variable : goal.value-requires-clause-variable
 value-requires-clause-variable c =

@@ -3,7 +3,7 @@ use Rattle.std.specs.Prelude.{Ok}
 use Rattle.opl_search.specs.declared.machine.Last.TheVariants as last
 use Rattle.opl_search.specs.declared.search.Step1.TheVariants as step
 use Rattle.opl_search.specs.Machines.{Searching, GoesOn, Comes, Again}
-use Rattle.test_search.proofs.found.next.Goals as goal
+use Rattle.test_machine.proofs.found.next.Goals as goal
 
 -- behind a solution the last answer is a solution
 solution_last : (m n : Searching) → (GoesOn m.last → Comes m n (Ok step.Solution)) → ((GoesOn m.last → ⊥) → (n ≡ m) × Again m.last (Ok step.Solution)) → n.last ≡ last.Solution
