@@ -1,6 +1,6 @@
 -- The ranges of comparisons, as the code makes them.
 use Rattle.std.proofs.Common.{◌≡◌, ℕ, zero, suc, ◌+◌, ◌≤◌, Bool, true, false, cond, ◌&&◌, refl, length, ℤ, pos, ◌+ℤ◌, ◌*ℤ◌, neg_ℤ, ◌≤ℤ◌, ap, sym, ◌∙◌, subst, arith}
-use Rattle.std.specs.Prelude.{unsigned_abs, Option, Some, int_le, int_lt}
+use Rattle.std.specs.Prelude.{unsigned_abs, not, Option, Some, None, int_le, int_lt}
 use Rattle.std.specs.Ordering.{int_eq}
 use Rattle.std.proofs.lemmas.Int.{ints}
 use Rattle.std.proofs.lemmas.Bool.Decides.{Decides-int_eq}
@@ -14,7 +14,7 @@ use Rattle.opl_expr.specs.declared.forms.Expr.TheVariants as E
 use Rattle.opl_expr.specs.Forms.{Term, Fact}
 use Rattle.opl_expr.specs.Forms.Relation.{equal, at_most, below}
 use Rattle.opl_expr.specs.Options.{lift, lift1}
-use Rattle.opl_expr.specs.Range.{verdict, span_scale, weighted, with_variables, is_one_or_two, has_zero, misses_zero, never_zero, compare, coef, pure, rest, ends, may_be, is_possible, fact_range}
+use Rattle.opl_expr.specs.Range.{verdict, span_scale, weighted, with_variables, is_one_or_two, has_zero, misses_zero, never_zero, compare, coef, pure, rest, ends, may_be, is_possible, flip, fact_range, is_refuted}
 use Rattle.opl_expr.specs.Solutions.{declared}
 use Rattle.opl_expr.specs.Sound.{IsSmall, term_magnitude, IsSoundTerm}
 use Rattle.opl_expr.proofs.Bounds.{lift1_parts, sound_small}
@@ -82,6 +82,31 @@ unfolding between compare
 equal_is F core a b r d v s n e i j k l =
     ap Some (l ∙ ap (λ z. verdict z n) (j ∙ ap (is_point (pos 0)) i) ∙ ap (verdict (is_point (pos 0) (with_variables F (between core a b) (length F) r))) k)
     ∙ ap (lift1 (compare equal F (between core a b) (length F) (is_pure_between core a b))) e
+
+surely_refuted : (s n : Bool) → (s ≡ true → n ≡ false) → s ≡ cond (is_possible (lift1 flip (Some (verdict s n)))) false true
+unfolding flip
+surely_refuted true true h = let f = h refl in cc
+surely_refuted true false h = refl
+surely_refuted false true h = refl
+surely_refuted false false h = refl
+
+pub equal_refuted : (F : Family) → Full F → (core : Core) (a b : Expr) (r d : Span) (s : Bool) → r.low ≤ℤ r.high → Some r ≡ rest_between F core a b → d ≡ with_variables F (between core a b) (length F) r → s ≡ is_point (pos 0) d
+    → s ≡ is_refuted F (Fact.not (Fact.cmp equal (term_of core a) (term_of core b)))
+equal_refuted F f core a b r d s o e i j =
+    let n = never_zero F (between core a b) (length F) (is_pure_between core a b) r in
+    surely_refuted s n (λ t. zero_apart F f (between core a b) (is_pure_between core a b) r d o i (sym j ∙ t))
+    ∙ ap (λ v. cond (is_possible (lift1 flip v)) false true) (equal_is F core a b r d (verdict s n) s n e i j refl refl)
+
+pub missing_refuted : (F : Family) (core : Core) (a b : Expr) → None ≡ rest_between F core a b → true ≡ is_refuted F (Fact.not (Fact.cmp equal (term_of core a) (term_of core b)))
+unfolding between
+missing_refuted F core a b e = ap (λ o. cond (is_possible (lift1 flip (lift1 (compare equal F (between core a b) (length F) (is_pure_between core a b)) o))) false true) e
+
+unless : (b : Bool) → not b ≡ cond b false true
+unless true = refl
+unless false = refl
+
+pub refuted_by : (F : Family) (c : Fact) (o : Option Span) (p : Bool) → o ≡ fact_range F c → p ≡ is_possible o → not p ≡ is_refuted F c
+refuted_by F c o p e f = ap not (f ∙ ap is_possible e) ∙ unless (is_possible (fact_range F c))
 
 pub at_most_is : (F : Family) (core : Core) (a b : Expr) (r d v : Span) → Some r ≡ rest_between F core a b → d ≡ with_variables F (between core a b) (length F) r → v ≡ verdict (int_le d.high (pos 0)) (int_lt (pos 0) d.low)
     → Some v ≡ fact_range F (Fact.cmp at_most (term_of core a) (term_of core b))

@@ -1,5 +1,5 @@
 -- The linear form of a difference, and how large its numbers are.
-use Rattle.std.proofs.Common.{◌≡◌, true, inl, inr, ℕ, zero, suc, ◌+◌, ◌*◌, ◌≤◌, ◌<◌, List, length, ℤ, ◌+ℤ◌, ◌*ℤ◌, neg_ℤ, ap, sym, ◌∙◌, subst, arith}
+use Rattle.std.proofs.Common.{◌≡◌, ◌≢◌, true, inl, inr, ℕ, zero, suc, ◌+◌, ◌*◌, ◌≤◌, ◌<◌, List, length, ℤ, pos, ◌+ℤ◌, ◌*ℤ◌, neg_ℤ, ap, sym, ◌∙◌, subst, arith}
 use Rattle.std.specs.Prelude.{unsigned_abs, Some}
 use Rattle.std.proofs.Math.Nat.{mul-le-mul_left}
 use Rattle.std.proofs.lemmas.Int.{ints, unsigned_abs-mul}
@@ -18,7 +18,7 @@ use Rattle.opl_range.specs.Between.{term_of, between, rest_between, CanCompare}
 use Rattle.opl_range.proofs.Bounds.{add_bound, neg_bound}
 use Rattle.opl_range.proofs.Weights.{has_declared, hulls_small, weight_minus, coef_weight, weighted_bound, rest_bound}
 use Rattle.opl_range.proofs.Parts.{coef_small}
-use Rattle.opl_range.proofs.Roots.{last_or_before}
+use Rattle.opl_range.proofs.Roots.{last_or_before, positive_abs}
 
 pub minus_small : (core : Core) (a b : Expr) (x : ℕ) (u v : ℤ) → CanCompare core a b → u ≡ coef (term_of core a) x → v ≡ coef (term_of core b) x → IsSmall (unsigned_abs u + unsigned_abs v)
 minus_small core a b x u v s i j =
@@ -71,13 +71,18 @@ weight_covers sets c (suc n) x h = elim (last_or_before x n h) [
   | inr p ↦ omega (arith, weight_covers sets c n x p)
 ]
 
-pub value_fits : (core : Core) (F : Family) (c : ℕ → ℤ) (x : ℕ) (k v : ℤ) → Below F (declared core) → x < length F → has F x v ≡ true → IsSmall (weight core.sets c (length F) + unsigned_abs k) → IsSmall (unsigned_abs k + unsigned_abs (c x *ℤ v))
+value_fits : (core : Core) (F : Family) (c : ℕ → ℤ) (x : ℕ) (k v : ℤ) → Below F (declared core) → x < length F → has F x v ≡ true → IsSmall (weight core.sets c (length F) + unsigned_abs k) → IsSmall (unsigned_abs k + unsigned_abs (c x *ℤ v))
 value_fits core F c x k v w h m s =
     let p = mul-le-mul_left (unsigned_abs (c x)) (has_declared core x v (w.sub x v m)) in
     omega (arith, s, p, unsigned_abs-mul (c x) v, weight_covers core.sets c (length F) x h)
 
-pub added_fits : (k m j : ℤ) → j ≡ k +ℤ m → IsSmall (unsigned_abs k + unsigned_abs m) → IsSmall (unsigned_abs j)
-added_fits k m j e s = omega (arith, ints, e, s)
+as_much : (m n : ℕ) → 0 < m → n ≤ m * n
+as_much zero n h = absurd (omega (arith, h))
+as_much (suc m) n h = omega arith
+
+pub bare_fits : (core : Core) (F : Family) (c : ℕ → ℤ) (x : ℕ) (k v : ℤ) → Below F (declared core) → x < length F → c x ≢ pos 0 → has F x v ≡ true → IsSmall (weight core.sets c (length F) + unsigned_abs k) → IsSmall (unsigned_abs v + unsigned_abs k)
+bare_fits core F c x k v w h n m s =
+    omega (arith, value_fits core F c x k v w h m s, unsigned_abs-mul (c x) v, as_much (unsigned_abs (c x)) (unsigned_abs v) (positive_abs (c x) n))
 
 pub part_fits : (m : ℕ) (k : ℤ) → IsSmall (m + unsigned_abs k) → IsSmall (unsigned_abs k)
 part_fits m k s = omega (arith, s)

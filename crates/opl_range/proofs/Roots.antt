@@ -1,6 +1,6 @@
 -- Values of one or two variables that make a linear form zero.
-use Rattle.std.proofs.Common.{◌≡◌, ◌≢◌, ◌⊎◌, ℕ, zero, suc, ◌+◌, ◌*◌, ◌≤◌, ◌<◌, Bool, true, false, cond, ◌&&◌, ◌||◌, refl, List, [], ◌∷◌, length, ℤ, pos, negsuc, ◌+ℤ◌, ◌*ℤ◌, neg_ℤ, ◌≤ℤ◌, ◌<ℤ◌, ap, sym, ◌∙◌, subst, arith, inl, inr}
-use Rattle.std.specs.Prelude.{Some, None, nat_eq, unsigned_abs, int_div, int_rem, int_le, not}
+use Rattle.std.proofs.Common.{◌≡◌, ◌≢◌, ◌↔◌, ◌⊎◌, ℕ, zero, suc, ◌+◌, ◌*◌, ◌≤◌, ◌<◌, Bool, true, false, cond, ◌&&◌, ◌||◌, refl, List, [], ◌∷◌, length, ℤ, pos, negsuc, ◌+ℤ◌, ◌*ℤ◌, neg_ℤ, ◌≤ℤ◌, ◌<ℤ◌, ap, sym, ◌∙◌, subst, arith, inl, inr}
+use Rattle.std.specs.Prelude.{Option, Some, None, nat_eq, unsigned_abs, int_div, int_rem, int_le, not}
 use Rattle.std.specs.List.{list_any}
 use Rattle.std.specs.Ordering.{int_eq}
 use Rattle.std.proofs.lemmas.Int.{ints, quot-rem, rem_below, unsigned_abs-mul}
@@ -18,7 +18,7 @@ use Rattle.std.specs.Prelude.{FitsSigned}
 use mir.Syntax.{w128}
 use Rattle.opl_expr.specs.Sound.{IsSmall}
 use Rattle.opl_range.proofs.Bounds.{abs_div}
-use Rattle.opl_range.specs.Between.{IsLast, IsLastVariable, IsRoot, has_root, have_root, zero_by_values}
+use Rattle.opl_range.specs.Between.{IsLastFactor, IsLastVariable, IsRoot, has_root, meets, are_opposite_units, zero_by_two, zero_by_values}
 
 -- ---- tests of lists
 
@@ -72,15 +72,14 @@ only_zeros F f c k (suc n) l b =
     let w = f n (omega (arith, l)) in
     skip_one F c k n w.0 w.1 (b n (omega arith)) ∙ only_zeros F f c k n (omega (arith, l)) (λ y r. b y (omega (arith, r)))
 
-zero_of_one : (F : Family) → Full F → (c : ℕ → ℤ) (k : ℤ) (n x : ℕ) → n ≤ length F → IsLastVariable c n x → IsLast c x None → has_zero F c k n ≡ has_root F c x k
+zero_of_one : (F : Family) → Full F → (c : ℕ → ℤ) (k : ℤ) (n x : ℕ) → n ≤ length F → IsLastVariable c n x → IsLastFactor c x None → has_zero F c k n ≡ has_root F c x k
 unfolding has_root
 zero_of_one F f c k n x l v b =
     let h = v.below in
     skip_zeros F f c k n x l v.below v.behind
     ∙ any_ap (λ w. has_zero F c (k +ℤ (c x *ℤ w)) x) (λ w. int_eq (k +ℤ (c x *ℤ w)) (pos 0)) (set_of F x) (λ w. only_zeros F f c (k +ℤ (c x *ℤ w)) x (omega (arith, l, h)) b)
 
-zero_of_two : (F : Family) → Full F → (c : ℕ → ℤ) (k : ℤ) (n x y : ℕ) → n ≤ length F → IsLastVariable c n x → IsLastVariable c x y → IsLast c y None → has_zero F c k n ≡ have_root F c x y k
-unfolding have_root
+zero_of_two : (F : Family) → Full F → (c : ℕ → ℤ) (k : ℤ) (n x y : ℕ) → n ≤ length F → IsLastVariable c n x → IsLastVariable c x y → IsLastFactor c y None → has_zero F c k n ≡ list_any (λ v. has_root F c y (k +ℤ (c x *ℤ v))) (set_of F x)
 zero_of_two F f c k n x y l v u b =
     let h = v.below in
     skip_zeros F f c k n x l v.below v.behind
@@ -107,10 +106,10 @@ no_counts p z c (suc n) b =
 nonzeros : (c : ℕ → ℤ) (n x : ℕ) → IsLastVariable c n x → count is_nonzero c n ≡ suc (count is_nonzero c x)
 nonzeros c n x v = skip_counts is_nonzero refl c n x v.below v.behind ∙ rw (to_nonzero (c x) v.nonzero) (omega arith)
 
-pub none_of : (c : ℕ → ℤ) (n : ℕ) → IsLast c n None → is_one_or_two c n ≡ false
+pub none_of : (c : ℕ → ℤ) (n : ℕ) → IsLastFactor c n None → is_one_or_two c n ≡ false
 none_of c n b = rw (no_counts is_nonzero refl c n b) refl
 
-one_of : (c : ℕ → ℤ) (n x : ℕ) → IsLastVariable c n x → IsLast c x None → is_one_or_two c n ≡ true
+one_of : (c : ℕ → ℤ) (n x : ℕ) → IsLastVariable c n x → IsLastFactor c x None → is_one_or_two c n ≡ true
 one_of c n x v b = rw (nonzeros c n x v ∙ ap suc (no_counts is_nonzero refl c x b)) refl
 
 not_so_few : (m : ℕ) (b : Bool) → (nat_eq (suc (suc (suc m))) 1 || (nat_eq (suc (suc (suc m))) 2 && b)) ≡ false
@@ -143,8 +142,8 @@ one_each false false true false h k = refl
 one_each false false false true h k = refl
 one_each false false false false h k = refl
 
-two_of : (c : ℕ → ℤ) (n x y : ℕ) → IsLastVariable c n x → IsLastVariable c x y → IsLast c y None
-    → is_one_or_two c n ≡ ((int_eq (pos 1) (c x) && int_eq (negsuc 0) (c y)) || (int_eq (negsuc 0) (c x) && int_eq (pos 1) (c y)))
+two_of : (c : ℕ → ℤ) (n x y : ℕ) → IsLastVariable c n x → IsLastVariable c x y → IsLastFactor c y None
+    → is_one_or_two c n ≡ are_opposite_units (c x) (c y)
 two_of c n x y v u b =
     let e = nonzeros c n x v ∙ ap suc (nonzeros c x y u ∙ ap suc (no_counts is_nonzero refl c y b)) in
     let each : (p : ℤ → Bool) → p (pos 0) ≡ false → count p c n ≡ cond (p (c x)) 1 0 + (cond (p (c y)) 1 0 + 0) =
@@ -154,30 +153,34 @@ two_of c n x y v u b =
 
 -- ---- zero by values
 
-pub by_none : (F : Family) (c : ℕ → ℤ) (n : ℕ) (k : ℤ) → IsLast c n None → None ≡ zero_by_values F c n k
+pub by_none : (F : Family) (c : ℕ → ℤ) (n : ℕ) (k : ℤ) → IsLastFactor c n None → None ≡ zero_by_values F c n k
 by_none F c n k b = rw (none_of c n b) refl
 
-pub by_one : (F : Family) → Full F → (c : ℕ → ℤ) (n x : ℕ) (k : ℤ) (r : Bool) → n ≤ length F → IsLastVariable c n x → IsLast c x None → r ≡ has_root F c x k → Some r ≡ zero_by_values F c n k
-by_one F f c n x k r l v b e = rw (one_of c n x v b) (ap Some (e ∙ sym (zero_of_one F f c k n x l v b)))
+-- a root depends on the variable's own coefficient alone
+root_alike : (F : Family) (c : ℕ → ℤ) (x : ℕ) (k d : ℤ) → d ≡ c x → has_root F (λ y. d) x k ≡ has_root F c x k
+unfolding has_root
+root_alike F c x k d p = ap (λ e. list_any (λ v. int_eq (k +ℤ (e *ℤ v)) (pos 0)) (set_of F x)) p
+
+pub by_one : (F : Family) → Full F → (c : ℕ → ℤ) (n x : ℕ) (k d : ℤ) (r : Bool) → n ≤ length F → IsLastVariable c n x → IsLastFactor c x None → d ≡ c x → r ≡ has_root F (λ y. d) x k → Some r ≡ zero_by_values F c n k
+by_one F f c n x k d r l v b p e = rw (one_of c n x v b) (ap Some (e ∙ root_alike F c x k d p ∙ sym (zero_of_one F f c k n x l v b)))
 
 pub by_three : (F : Family) (c : ℕ → ℤ) (n x y z : ℕ) (k : ℤ) → IsLastVariable c n x → IsLastVariable c x y → IsLastVariable c y z → None ≡ zero_by_values F c n k
 by_three F c n x y z k v u t = rw (three_of c n x y z v u t) refl
 
-pub by_two : (F : Family) → Full F → (c : ℕ → ℤ) (n x y : ℕ) (k i j : ℤ) (u r : Bool) → n ≤ length F → IsLastVariable c n x → IsLastVariable c x y → IsLast c y None
-    → i ≡ c x → j ≡ c y → u ≡ ((int_eq (pos 1) i && int_eq (negsuc 0) j) || (int_eq (negsuc 0) i && int_eq (pos 1) j)) → u ≡ true → r ≡ have_root F c x y k → Some r ≡ zero_by_values F c n k
-by_two F f c n x y k i j u r l v t b p q e g h =
-    let s : is_one_or_two c n ≡ true = two_of c n x y v t b ∙ rw (sym p) (rw (sym q) (sym e ∙ g)) in
-    rw s (ap Some (h ∙ sym (zero_of_two F f c k n x y l v t b)))
+two_alike : (F : Family) (c : ℕ → ℤ) (x y : ℕ) (k : ℤ) → zero_by_two F x (c x) y (c y) k ≡ cond (are_opposite_units (c x) (c y)) (Some (list_any (λ v. has_root F c y (k +ℤ (c x *ℤ v))) (set_of F x))) None
+unfolding has_root
+two_alike F c x y k = refl
 
-pub by_two_else : (F : Family) (c : ℕ → ℤ) (n x y : ℕ) (k i j : ℤ) (u : Bool) → IsLastVariable c n x → IsLastVariable c x y → IsLast c y None
-    → i ≡ c x → j ≡ c y → u ≡ ((int_eq (pos 1) i && int_eq (negsuc 0) j) || (int_eq (negsuc 0) i && int_eq (pos 1) j)) → u ≡ false → None ≡ zero_by_values F c n k
-by_two_else F c n x y k i j u v t b p q e g =
-    let s : is_one_or_two c n ≡ false = two_of c n x y v t b ∙ rw (sym p) (rw (sym q) (sym e ∙ g)) in
-    rw s refl
+pub by_two : (F : Family) → Full F → (c : ℕ → ℤ) (n x y : ℕ) (k i j : ℤ) (r : Option Bool) → n ≤ length F → IsLastVariable c n x → IsLastVariable c x y → IsLastFactor c y None
+    → i ≡ c x → j ≡ c y → r ≡ zero_by_two F x i y j k → r ≡ zero_by_values F c n k
+by_two F f c n x y k i j r l v t b p q h =
+    h ∙ ap (λ u. zero_by_two F x u y j k) p ∙ ap (λ u. zero_by_two F x (c x) y u k) q ∙ two_alike F c x y k
+    ∙ ap (λ u. cond u (Some (list_any (λ v. has_root F c y (k +ℤ (c x *ℤ v))) (set_of F x))) None) (sym (two_of c n x y v t b))
+    ∙ ap (λ u. cond (is_one_or_two c n) (Some u) None) (sym (zero_of_two F f c k n x y l v t b))
 
 -- ---- the root of one variable
 
-positive_abs : (c : ℤ) → c ≢ pos 0 → 0 < unsigned_abs c
+pub positive_abs : (c : ℤ) → c ≢ pos 0 → 0 < unsigned_abs c
 positive_abs (pos zero) n = absurd (n refl)
 positive_abs (pos (suc k)) n = omega arith
 positive_abs (negsuc k) n = omega arith
@@ -248,28 +251,28 @@ no_value_above F x l v p h = elim (has F x v) as (λ b. has F x v ≡ b → fals
 
 -- ---- the values of the first of two variables, one after another
 
--- v is a value of x, and no lesser one leaves a root for y
-pub record Passed (F : Family) (c : ℕ → ℤ) (x y : ℕ) (k v : ℤ) : Type 0 where
+-- v is a value of x, and no lesser one, shifted, is a value of y
+pub record Passed (F : Family) (x y : ℕ) (shift v : ℤ) : Type 0 where
   pub value : has F x v ≡ true
-  pub lesser : (w : ℤ) → has F x w ≡ true → w <ℤ v → has_root F c y (k +ℤ (c x *ℤ w)) ≡ false
+  pub lesser : (w : ℤ) → has F x w ≡ true → w <ℤ v → has F y (w +ℤ shift) ≡ false
 
-pub first_value : (F : Family) (c : ℕ → ℤ) (x y : ℕ) (k v : ℤ) → IsLeast (set_of F x) v → Passed F c x y k v
-first_value F c x y k v p = record { value = p.among; lesser = λ w m h. absurd (omega (arith, ints, p.least w m, h)) }
+pub first_value : (F : Family) (x y : ℕ) (s v : ℤ) → IsLeast (set_of F x) v → Passed F x y s v
+first_value F x y s v p = record { value = p.among; lesser = λ w m h. absurd (omega (arith, ints, p.least w m, h)) }
 
 -- a value is lesser than v, or it is v
 up_to : (w v : ℤ) → w ≤ℤ v → (w <ℤ v) ⊎ (w ≡ v)
 up_to w v h = grind (arith, ints)
 
-passes : (F : Family) (c : ℕ → ℤ) (x y : ℕ) (k v j : ℤ) (r : Bool) → Passed F c x y k v → j ≡ k +ℤ (c x *ℤ v) → r ≡ has_root F c y j → r ≡ false → (w : ℤ) → has F x w ≡ true → w ≤ℤ v → has_root F c y (k +ℤ (c x *ℤ w)) ≡ false
-passes F c x y k v j r p i e f w m h = elim (up_to w v h) [
+passes : (F : Family) (x y : ℕ) (s v j : ℤ) (r : Bool) → Passed F x y s v → j ≡ v +ℤ s → r ≡ has F y j → r ≡ false → (w : ℤ) → has F x w ≡ true → w ≤ℤ v → has F y (w +ℤ s) ≡ false
+passes F x y s v j r p i e f w m h = elim (up_to w v h) [
   | inl q ↦ p.lesser w m q
-  | inr q ↦ ap (λ u. has_root F c y (k +ℤ (c x *ℤ u))) q ∙ ap (has_root F c y) (sym i) ∙ sym e ∙ f
+  | inr q ↦ ap (λ u. has F y (u +ℤ s)) q ∙ ap (has F y) (sym i) ∙ sym e ∙ f
 ]
 
-pub next_value : (F : Family) (c : ℕ → ℤ) (x y : ℕ) (k v j u : ℤ) (r : Bool) → Passed F c x y k v → j ≡ k +ℤ (c x *ℤ v) → r ≡ has_root F c y j → r ≡ false → IsNext (set_of F x) v (Some u) → Passed F c x y k u
-next_value F c x y k v j u r p i e f n = record {
+pub next_value : (F : Family) (x y : ℕ) (s v j u : ℤ) (r : Bool) → Passed F x y s v → j ≡ v +ℤ s → r ≡ has F y j → r ≡ false → IsNext (set_of F x) v (Some u) → Passed F x y s u
+next_value F x y s v j u r p i e f n = record {
   value = n.among;
-  lesser = λ w m h. passes F c x y k v j r p i e f w m (not_above w u v h (n.least w m));
+  lesser = λ w m h. passes F x y s v j r p i e f w m (not_above w u v h (n.least w m));
 }
   where
     not_above : (w u v : ℤ) → w <ℤ u → (v <ℤ w → u ≤ℤ w) → w ≤ℤ v
@@ -278,13 +281,73 @@ next_value F c x y k v j u r p i e f n = record {
       | false ↦ λ e. let q : v <ℤ w = grind (arith, ints) in absurd (omega (arith, ints, t q, h))
     ] refl
 
-pub last_value : (F : Family) (c : ℕ → ℤ) (x y : ℕ) (k v j : ℤ) (r : Bool) → Passed F c x y k v → j ≡ k +ℤ (c x *ℤ v) → r ≡ has_root F c y j → r ≡ false → IsNext (set_of F x) v None → false ≡ have_root F c x y k
-unfolding have_root
-last_value F c x y k v j r p i e f n = sym (any_none (λ w. has_root F c y (k +ℤ (c x *ℤ w))) (set_of F x) (λ w m. passes F c x y k v j r p i e f w m (n w m)))
+pub last_value : (F : Family) (x y : ℕ) (s v j : ℤ) (r : Bool) → Passed F x y s v → j ≡ v +ℤ s → r ≡ has F y j → r ≡ false → IsNext (set_of F x) v None → false ≡ meets F x y s
+unfolding meets
+last_value F x y s v j r p i e f n = sym (any_none (λ w. has F y (w +ℤ s)) (set_of F x) (λ w m. passes F x y s v j r p i e f w m (n w m)))
 
-pub found_value : (F : Family) (c : ℕ → ℤ) (x y : ℕ) (k v j : ℤ) (r : Bool) → Passed F c x y k v → j ≡ k +ℤ (c x *ℤ v) → r ≡ has_root F c y j → r ≡ true → true ≡ have_root F c x y k
-unfolding have_root
-found_value F c x y k v j r p i e f = sym (any_found (λ w. has_root F c y (k +ℤ (c x *ℤ w))) (set_of F x) v p.value (ap (has_root F c y) (sym i) ∙ sym e ∙ f))
+pub found_value : (F : Family) (x y : ℕ) (s v j : ℤ) (r : Bool) → Passed F x y s v → j ≡ v +ℤ s → r ≡ has F y j → r ≡ true → true ≡ meets F x y s
+unfolding meets
+found_value F x y s v j r p i e f = sym (any_found (λ w. has F y (w +ℤ s)) (set_of F x) v p.value (ap (has F y) (sym i) ∙ sym e ∙ f))
+
+-- ---- two variables with coefficients 1 and -1
+
+-- a root of the second variable is the value of the first, shifted
+root_at : (F : Family) (y : ℕ) (k j u : ℤ) → ((w : ℤ) → ((k +ℤ (j *ℤ w)) ≡ pos 0) ↔ (u ≡ w)) → has_root F (λ z. j) y k ≡ has F y u
+unfolding has_root
+root_at F y k j u h =
+    any_member (λ w. int_eq (k +ℤ (j *ℤ w)) (pos 0)) u (set_of F y) (λ w.
+    both_ways (int_eq (k +ℤ (j *ℤ w)) (pos 0)) (int_eq u w)
+    (λ f. (Decides-int_eq u w).1 ((h w).0 ((Decides-int_eq (k +ℤ (j *ℤ w)) (pos 0)).0 f)))
+    (λ f. (Decides-int_eq (k +ℤ (j *ℤ w)) (pos 0)).1 ((h w).1 ((Decides-int_eq u w).0 f))))
+
+once : (v : ℤ) → pos 1 *ℤ v ≡ v
+once (pos n) = omega (arith, ints)
+once (negsuc n) = omega (arith, ints)
+
+less_once : (v : ℤ) → negsuc 0 *ℤ v ≡ neg_ℤ v
+less_once (pos n) = omega (arith, ints)
+less_once (negsuc n) = omega (arith, ints)
+
+rises : (k v w : ℤ) → ((k +ℤ (pos 1 *ℤ v) +ℤ (negsuc 0 *ℤ w)) ≡ pos 0) ↔ (v +ℤ k ≡ w)
+rises k v w = (λ e. omega (arith, ints, e, once v, less_once w), λ e. omega (arith, ints, e, once v, less_once w))
+
+falls : (k v w : ℤ) → ((k +ℤ (negsuc 0 *ℤ v) +ℤ (pos 1 *ℤ w)) ≡ pos 0) ↔ (v +ℤ neg_ℤ k ≡ w)
+falls k v w = (λ e. omega (arith, ints, e, less_once v, once w), λ e. omega (arith, ints, e, less_once v, once w))
+
+unit_up : (i j : ℤ) → are_opposite_units i j ≡ true → i ≡ pos 1 → j ≡ negsuc 0
+unit_up i j e p = sym ((Decides-int_eq (negsuc 0) j).0 (cond_up (int_eq (negsuc 0) j) (int_eq (pos 1) j) (subst (λ v. are_opposite_units v j ≡ true) p e)))
+  where
+    cond_up : (b c : Bool) → ((true && b) || (false && c)) ≡ true → b ≡ true
+    cond_up true c e = refl
+    cond_up false c e = e
+
+unit_down : (i j : ℤ) → are_opposite_units i j ≡ true → i ≢ pos 1 → (i ≡ negsuc 0) × (j ≡ pos 1)
+unit_down i j e n = let d = cond_down (int_eq (pos 1) i) (int_eq (negsuc 0) j) (int_eq (negsuc 0) i) (int_eq (pos 1) j) (λ f. n (sym ((Decides-int_eq (pos 1) i).0 f))) e in
+    (sym ((Decides-int_eq (negsuc 0) i).0 d.0), sym ((Decides-int_eq (pos 1) j).0 d.1))
+  where
+    cond_down : (p q r s : Bool) → p ≢ true → ((p && q) || (r && s)) ≡ true → (r ≡ true) × (s ≡ true)
+    cond_down true q r s n e = absurd (n refl)
+    cond_down false q true true n e = (refl, refl)
+    cond_down false q true false n e = cc
+    cond_down false q false s n e = cc
+
+two_known : (F : Family) (x y : ℕ) (k i j : ℤ) (r : Bool) → are_opposite_units i j ≡ true → r ≡ list_any (λ v. has_root F (λ z. j) y (k +ℤ (i *ℤ v))) (set_of F x) → Some r ≡ zero_by_two F x i y j k
+two_known F x y k i j r e h = rw e (ap Some h)
+
+pub two_rise : (F : Family) (x y : ℕ) (k i j : ℤ) (r : Bool) → are_opposite_units i j ≡ true → i ≡ pos 1 → r ≡ meets F x y k → Some r ≡ zero_by_two F x i y j k
+unfolding meets
+two_rise F x y k i j r e p h =
+    let q = unit_up i j e p in
+    two_known F x y k i j r e (h ∙ sym (any_ap (λ v. has_root F (λ z. j) y (k +ℤ (i *ℤ v))) (λ v. has F y (v +ℤ k)) (set_of F x)
+    (λ v. ap (λ u. has_root F (λ z. u) y (k +ℤ (i *ℤ v))) q ∙ ap (λ u. has_root F (λ z. negsuc 0) y (k +ℤ (u *ℤ v))) p ∙ root_at F y (k +ℤ (pos 1 *ℤ v)) (negsuc 0) (v +ℤ k) (rises k v))))
+
+pub two_fall : (F : Family) (x y : ℕ) (k i j s : ℤ) (r : Bool) → are_opposite_units i j ≡ true → i ≢ pos 1 → s ≡ neg_ℤ k → r ≡ meets F x y s → Some r ≡ zero_by_two F x i y j k
+unfolding meets
+two_fall F x y k i j s r e n t h =
+    let q = unit_down i j e n in
+    two_known F x y k i j r e (h ∙ ap (λ u. list_any (λ v. has F y (v +ℤ u)) (set_of F x)) t
+    ∙ sym (any_ap (λ v. has_root F (λ z. j) y (k +ℤ (i *ℤ v))) (λ v. has F y (v +ℤ neg_ℤ k)) (set_of F x)
+    (λ v. ap (λ u. has_root F (λ z. u) y (k +ℤ (i *ℤ v))) q.1 ∙ ap (λ u. has_root F (λ z. pos 1) y (k +ℤ (u *ℤ v))) q.0 ∙ root_at F y (k +ℤ (negsuc 0 *ℤ v)) (pos 1) (v +ℤ neg_ℤ k) (falls k v))))
 
 pub quotient_fits : (x y : ℤ) → IsSmall (unsigned_abs x) → FitsSigned w128 (int_div x y)
 quotient_fits x y s = small_fits (int_div x y) (omega (arith, s, abs_div x y))

@@ -1,10 +1,10 @@
 -- The difference of two expressions of a core: the linear form on which a comparison is decided.
-use Rattle.std.specs.Prelude.{◌≡◌, ◌≢◌, ◌↔◌, ℕ, ◌<◌, max, Bool, cond, ◌&&◌, List, [], ◌∷◌, ℤ, pos, ◌+ℤ◌, ◌*ℤ◌, neg_ℤ, Option, Some, None}
+use Rattle.std.specs.Prelude.{◌≡◌, ◌≢◌, ◌↔◌, ℕ, ◌<◌, max, Bool, cond, ◌&&◌, ◌||◌, List, [], ◌∷◌, ℤ, pos, negsuc, ◌+ℤ◌, ◌*ℤ◌, neg_ℤ, Option, Some, None}
 use Rattle.std.specs.List.{list_any}
 use Rattle.std.specs.Ordering.{int_eq}
 use Rattle.opl_domain.specs.Span.{Span}
 use Rattle.opl_domain.specs.Arithmetic.{span_add, span_neg}
-use Rattle.opl_domain.specs.Family.{Family, set_of}
+use Rattle.opl_domain.specs.Family.{Family, set_of, has}
 use Rattle.opl_expr.specs.declared.model.Core.{Core}
 use Rattle.opl_expr.specs.declared.forms.Expr.{Expr}
 use Rattle.opl_expr.specs.Forms.{Relation, Term, Fact, term}
@@ -63,10 +63,10 @@ pub record IsLastVariable (c : ℕ → ℤ) (n x : ℕ) : Type 0 where
   pub nonzero : c x ≢ pos 0
   pub behind : (y : ℕ) → x < y → y < n → c y ≡ pos 0
 
--- the last of the first n variables whose coefficient isn't 0, or none
-abbrev pub IsLast : (ℕ → ℤ) → ℕ → Option ℕ → Type 0
-IsLast c n None = (y : ℕ) → y < n → c y ≡ pos 0
-IsLast c n (Some x) = IsLastVariable c n x
+-- the last of the first n variables whose coefficient isn't 0, with that coefficient, or none
+abbrev pub IsLastFactor : (ℕ → ℤ) → ℕ → Option (ℕ × ℤ) → Type 0
+IsLastFactor c n None = (y : ℕ) → y < n → c y ≡ pos 0
+IsLastFactor c n (Some last) = IsLastVariable c n last.0 × (last.1 ≡ c last.0)
 
 -- the number that makes k plus its multiple by c zero, or none
 abbrev pub IsRoot : ℤ → ℤ → Option ℤ → Type 0
@@ -77,9 +77,19 @@ IsRoot k c (Some r) = (v : ℤ) → ((k +ℤ (c *ℤ v)) ≡ pos 0) ↔ (v ≡ r
 unfoldable pub has_root : Family → (ℕ → ℤ) → ℕ → ℤ → Bool
 has_root F c x k = list_any (λ v. int_eq (k +ℤ (c x *ℤ v)) (pos 0)) (set_of F x)
 
--- some values of the variables x and y make k plus their multiples zero
-unfoldable pub have_root : Family → (ℕ → ℤ) → ℕ → ℕ → ℤ → Bool
-have_root F c x y k = list_any (λ v. has_root F c y (k +ℤ (c x *ℤ v))) (set_of F x)
+-- some value of variable x, with the shift added, is a value of variable y
+unfoldable pub meets : Family → ℕ → ℕ → ℤ → Bool
+meets F x y shift = list_any (λ v. has F y (v +ℤ shift)) (set_of F x)
+
+-- 1 and -1, in any order
+abbrev pub are_opposite_units : ℤ → ℤ → Bool
+are_opposite_units i j = (int_eq (pos 1) i && int_eq (negsuc 0) j) || (int_eq (negsuc 0) i && int_eq (pos 1) j)
+
+-- whether some values of the variables x and y make k plus their multiples zero, where these are by 1 and -1
+abbrev pub zero_by_two : Family → ℕ → ℤ → ℕ → ℤ → ℤ → Option Bool
+zero_by_two F x first y second k =
+    cond (are_opposite_units first second)
+    (Some (list_any (λ v. has_root F (λ z. second) y (k +ℤ (first *ℤ v))) (set_of F x))) None
 
 -- whether some values make k plus the form zero, where it has one variable, or two with coefficients 1 and -1
 abbrev pub zero_by_values : Family → (ℕ → ℤ) → ℕ → ℤ → Option Bool

@@ -4,7 +4,7 @@ ghost use Rattle.opl_domain.specs.Family.{Below};
 ghost use Rattle.opl_expr.specs.Forms.{Relation, Fact, compared};
 ghost use Rattle.opl_expr.specs.Forms.Relation.{below};
 ghost use Rattle.opl_expr.specs.Options.{lift1};
-ghost use Rattle.opl_expr.specs.Range.{coef, pure, rest, ends, may_be, fact_range};
+ghost use Rattle.opl_expr.specs.Range.{coef, pure, rest, ends, may_be, fact_range, is_refuted};
 ghost use Rattle.opl_expr.specs.Solutions.{declared};
 ghost use Rattle.opl_expr.specs.Sound.{IsSmall, IsSoundTerm, IsSoundFact, term_magnitude};
 ghost use Rattle.opl_range.specs.Between.{term_of, rest_between, CanCompare};
@@ -147,6 +147,52 @@ pub fn compared<V: View>(
             rest_of_difference(core, b, a, second, first, view),
             view,
         ),
+    }
+}
+
+/// Whether `a <> b` is refuted: what both have beside their variables is missing, or their difference is 0 alone. The
+/// values of the variables need not be asked.
+fn are_equal<V: View>(core: &Core, a: &Expr, b: &Expr, rest: Option<Interval>, view: &V) -> bool
+    requires sound { CanCompare core.now a.now b.now }
+    requires within { Below (V.family view.now) (declared core.now) }
+    requires rest { rest ≡ rest_between (V.family view.now) core.now a.now b.now }
+    ensures { result ≡ is_refuted (V.family view.now) (Fact.not (Fact.cmp Relation.equal (term_of core.now a.now) (term_of core.now b.now))) }
+{
+    let _vars = view.vars();
+    match rest {
+        None => true,
+        Some(rest) => {
+            let _lo = rest.lo();
+            rows::is_point(0, with_variables(core, a, b, rest, view))
+        }
+    }
+}
+
+/// Whether a comparison is refuted; `first` and `second` are what `a` and `b` have beside their variables.
+pub fn refutes<V: View>(
+    core: &Core,
+    op: Op,
+    a: &Expr,
+    first: Option<Interval>,
+    b: &Expr,
+    second: Option<Interval>,
+    view: &V,
+) -> bool
+    requires sound { IsSoundFact core.now.sets (compared op (term_of core.now a.now) (term_of core.now b.now)) }
+    requires within { Below (V.family view.now) (declared core.now) }
+    requires first { first ≡ rest (V.family view.now) (term_of core.now a.now) }
+    requires second { second ≡ rest (V.family view.now) (term_of core.now b.now) }
+    ensures { result ≡ is_refuted (V.family view.now) (compared op (term_of core.now a.now) (term_of core.now b.now)) }
+{
+    match op {
+        Op::Ne => are_equal(
+            core,
+            a,
+            b,
+            rest_of_difference(core, a, b, first, second, view),
+            view,
+        ),
+        _ => !rows::is_possible(compared(core, op, a, first, b, second, view)),
     }
 }
 

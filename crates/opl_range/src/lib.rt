@@ -12,4 +12,6 @@ mod table_row;
 mod uses;
 mod zeros;
 
+pub use coefficients::{constant, is_linear};
 pub use ranges::{cons_range, range, refuted};
+pub use zeros::last_factor;

@@ -5,13 +5,14 @@ ghost use Rattle.opl_domain.specs.Span.{point};
 ghost use Rattle.opl_domain.specs.Arithmetic.{span_hull, span_min, span_max};
 ghost use Rattle.opl_domain.specs.Family.{Below};
 ghost use Rattle.opl_expr.specs.Options.{joined};
-ghost use Rattle.opl_expr.specs.Forms.{Term, Fact, term, fact, terms_of, facts_of};
+ghost use Rattle.opl_expr.specs.Forms.{Term, Fact, term, fact, compared, terms_of, facts_of};
 ghost use Rattle.opl_expr.specs.Range.{taken, chosen, masks, cell_range, may_be, rest, linears, range, fact_range, is_refuted};
 ghost use Rattle.opl_expr.specs.Solutions.{declared};
 ghost use Rattle.opl_expr.specs.Sound.{IsSoundTerm, AreSoundTerms, IsSoundFact, AreSoundFacts, FitDimensions, keys, is_there};
+ghost use Rattle.opl_range.specs.Between.{term_of};
 
 use crate::coefficients::constant;
-use crate::comparisons::{compared, may_be, range_of_rest};
+use crate::comparisons::{compared, may_be, range_of_rest, refutes};
 use crate::hulls::cell_range;
 use crate::rows;
 use crate::table_row::joined_row;
@@ -330,11 +331,25 @@ pub fn range<V: View>(core: &Core, e: &Expr, view: &V) -> Option<Interval>
     range_of_rest(core, e, rest_of(core, e, view), view)
 }
 
+/// Whether the sets of a view refute a comparison.
+fn refuted_comparison<V: View>(core: &Core, op: Op, a: &Expr, b: &Expr, view: &V) -> bool
+    requires sound { IsSoundFact core.now.sets (compared op (term_of core.now a.now) (term_of core.now b.now)) }
+    requires within { Below (V.family view.now) (declared core.now) }
+    ensures { result ≡ is_refuted (V.family view.now) (compared op (term_of core.now a.now) (term_of core.now b.now)) }
+{
+    let first = rest_of(core, a, view);
+    let second = rest_of(core, b, view);
+    refutes(core, op, a, first, b, second, view)
+}
+
 /// Whether the sets of a view refute a constraint: its range is missing or 0 alone.
 pub fn refuted<V: View>(core: &Core, c: &Cons, view: &V) -> bool
     requires sound { IsSoundFact core.now.sets (fact core.now.tables core.now.resources c.now) }
     requires within { Below (V.family view.now) (declared core.now) }
     ensures { result ≡ is_refuted (V.family view.now) (fact core.now.tables core.now.resources c.now) }
 {
-    !rows::is_possible(cons_range(core, c, view))
+    match c {
+        Cons::Cmp(op, a, b) => refuted_comparison(core, *op, a.get(), b.get(), view),
+        _ => !rows::is_possible(cons_range(core, c, view)),
+    }
 }

@@ -1,32 +1,32 @@
 //! Whether the difference of two expressions can be zero, by the values of its variables where it has one or two.
-ghost use Rattle.std.specs.Prelude.{◌≡◌, ◌≢◌, ◌<◌, ◌≤◌, ◌+◌, ◌&&◌, ◌||◌, ◌+ℤ◌, ◌*ℤ◌, pos, negsuc, cond, unsigned_abs, int_div, int_rem, true, false, length, Some, None};
-ghost use Rattle.std.specs.Ordering.{int_eq};
+ghost use Rattle.std.specs.Prelude.{◌≡◌, ◌≢◌, ◌<◌, ◌≤◌, ◌+◌, ◌+ℤ◌, ℤ, pos, cond, unsigned_abs, int_div, int_rem, true, false, length, Some, None};
 ghost use Rattle.opl_domain.specs.Span.{is_point};
 ghost use Rattle.opl_domain.specs.Family.{has, Below};
 ghost use Rattle.opl_expr.specs.Range.{with_variables, never_zero};
 ghost use Rattle.opl_expr.specs.Solutions.{declared};
 ghost use Rattle.opl_expr.specs.Sound.{IsSmall};
 ghost use Rattle.opl_range.specs.Magnitudes.{weight};
-ghost use Rattle.opl_range.specs.Between.{between, is_pure_between, rest_between, CanCompare, IsLast, IsLastVariable, IsRoot, has_root, have_root, zero_by_values};
+ghost use Rattle.opl_range.specs.Between.{between, is_pure_between, rest_between, CanCompare, IsLastFactor, IsRoot, are_opposite_units, has_root, meets, zero_by_two, zero_by_values};
 
-use crate::coefficients::{added, is_linear, multiplied, negated};
+use crate::coefficients::{is_linear, negated};
 use crate::differences::{coefficient_between, last_between};
 use crate::rows::misses_zero;
 use opl_domain::{Interval, View};
 use opl_expr::{Core, Expr};
 
-/// The last of the variables below `end` whose coefficient in `a` minus `b` isn't 0.
-fn last_variable(core: &Core, a: &Expr, b: &Expr, end: u32) -> Option<u32>
+/// The last of the variables below `end` whose coefficient in `a` minus `b` isn't 0, with that coefficient.
+pub fn last_factor(core: &Core, a: &Expr, b: &Expr, end: u32) -> Option<(u32, i128)>
     requires { CanCompare core.now a.now b.now }
-    ensures { IsLast (between core.now a.now b.now) end result }
+    ensures { IsLastFactor (between core.now a.now b.now) end result }
 {
     let mut left = end;
     'named: loop {
         match last_between(core, a, b, left) {
             None => return None,
             Some(x) => {
-                if coefficient_between(core, a, b, x) != 0 {
-                    return Some(x);
+                let factor = coefficient_between(core, a, b, x);
+                if factor != 0 {
+                    return Some((x, factor));
                 }
                 left = x;
             }
@@ -80,42 +80,37 @@ fn is_value<V: View>(view: &V, x: u32, v: i128) -> bool
     view.has(x, v as i64)
 }
 
-/// Whether some value of variable `x` makes `k` plus its multiple zero.
-fn has_root<V: View>(core: &Core, a: &Expr, b: &Expr, x: u32, k: i128, view: &V) -> bool
-    requires sound { CanCompare core.now a.now b.now }
+/// Whether some value of variable `x` makes `k` plus its multiple by `factor` zero.
+fn has_root<V: View>(view: &V, x: u32, factor: i128, k: i128) -> bool
     requires variable { x < length (V.family view.now) }
-    requires nonzero { between core.now a.now b.now x ≢ pos 0 }
+    requires nonzero { factor ≢ pos 0 }
     requires small { IsSmall (unsigned_abs k) }
-    ensures { result ≡ has_root (V.family view.now) (between core.now a.now b.now) x k }
+    ensures { result ≡ has_root (V.family view.now) (λ y. factor) x k }
 {
-    match root(k, coefficient_between(core, a, b, x)) {
+    match root(k, factor) {
         None => false,
         Some(v) => is_value(view, x, v),
     }
 }
 
-/// `k` plus the multiple of the value `v` of variable `x`.
-fn added_value(core: &Core, a: &Expr, b: &Expr, x: u32, k: i128, v: i64) -> i128
-    requires sound { CanCompare core.now a.now b.now }
-    requires small { IsSmall (unsigned_abs k + unsigned_abs (between core.now a.now b.now x *ℤ v)) }
-    ensures { result ≡ k +ℤ (between core.now a.now b.now x *ℤ v) }
+/// A value, with `shift` added.
+fn shifted(v: i64, shift: i128) -> i128
+    requires { IsSmall (unsigned_abs v + unsigned_abs shift) }
+    ensures { result ≡ v +ℤ shift }
 {
-    added(k, multiplied(coefficient_between(core, a, b, x), v as i128))
+    v as i128 + shift
 }
 
-/// Whether some values of the variables `x` and `y` make `k` plus their multiples zero.
-fn have_root<V: View>(core: &Core, a: &Expr, b: &Expr, x: u32, y: u32, k: i128, view: &V) -> bool
-    requires sound { CanCompare core.now a.now b.now }
-    requires within { Below (V.family view.now) (declared core.now) }
+/// Whether some value of variable `x`, with `shift` added, is a value of variable `y`.
+fn meets<V: View>(view: &V, x: u32, y: u32, shift: i128) -> bool
     requires first { x < length (V.family view.now) }
     requires second { y < length (V.family view.now) }
-    requires nonzero { between core.now a.now b.now y ≢ pos 0 }
-    requires small { IsSmall (weight core.now.sets (between core.now a.now b.now) (length (V.family view.now)) + unsigned_abs k) }
-    ensures { result ≡ have_root (V.family view.now) (between core.now a.now b.now) x y k }
+    requires small { (v : ℤ) → has (V.family view.now) x v ≡ true → IsSmall (unsigned_abs v + unsigned_abs shift) }
+    ensures { result ≡ meets (V.family view.now) x y shift }
 {
     let mut v = view.min(x);
     loop {
-        if has_root(core, a, b, y, added_value(core, a, b, x, k, v), view) {
+        if is_value(view, y, shifted(v, shift)) {
             return true;
         }
         match view.next(x, v) {
@@ -127,42 +122,34 @@ fn have_root<V: View>(core: &Core, a: &Expr, b: &Expr, x: u32, y: u32, k: i128, 
 
 /// Whether two numbers are 1 and -1, in any order.
 fn are_opposite_units(x: i128, y: i128) -> bool
-    ensures { result ≡ ((int_eq (pos 1) x && int_eq (negsuc 0) y) || (int_eq (negsuc 0) x && int_eq (pos 1) y)) }
+    ensures { result ≡ are_opposite_units x y }
 {
     x == 1 && y == -1 || x == -1 && y == 1
 }
 
-/// The same as `zero_by_values`, where `x` is the last variable and `y` the one before it.
+/// Whether some values of the variables `x` and `y` make `k` plus their multiples zero, where these are by 1 and -1, in any
+/// order, else none.
 fn zero_by_two<V: View>(
-    core: &Core,
-    a: &Expr,
-    b: &Expr,
-    x: u32,
-    y: u32,
-    k: i128,
     view: &V,
+    x: u32,
+    first: i128,
+    y: u32,
+    second: i128,
+    k: i128,
 ) -> Option<bool>
-    requires sound { CanCompare core.now a.now b.now }
-    requires within { Below (V.family view.now) (declared core.now) }
-    requires last { IsLastVariable (between core.now a.now b.now) (length (V.family view.now)) x }
-    requires before { IsLastVariable (between core.now a.now b.now) x y }
-    requires small { IsSmall (weight core.now.sets (between core.now a.now b.now) (length (V.family view.now)) + unsigned_abs k) }
-    ensures { result ≡ zero_by_values (V.family view.now) (between core.now a.now b.now) (length (V.family view.now)) k }
+    requires first { x < length (V.family view.now) }
+    requires second { y < length (V.family view.now) }
+    requires small { IsSmall (unsigned_abs k) }
+    requires fits { (v : ℤ) → has (V.family view.now) x v ≡ true → IsSmall (unsigned_abs v + unsigned_abs k) }
+    ensures { result ≡ zero_by_two (V.family view.now) x first y second k }
 {
-    let _vars = view.vars();
-    match last_variable(core, a, b, y) {
-        Some(_z) => None,
-        None => {
-            if are_opposite_units(
-                coefficient_between(core, a, b, x),
-                coefficient_between(core, a, b, y),
-            ) {
-                Some(have_root(core, a, b, x, y, k, view))
-            } else {
-                None
-            }
-        }
+    if !are_opposite_units(first, second) {
+        return None;
     }
+    if first == 1 {
+        return Some(meets(view, x, y, k));
+    }
+    Some(meets(view, x, y, negated(k)))
 }
 
 /// Whether some values make `k` plus the variables of `a` minus `b` zero. It is known where there is one variable, or two
@@ -173,10 +160,13 @@ fn zero_by_values<V: View>(core: &Core, a: &Expr, b: &Expr, k: i128, view: &V) -
     requires small { IsSmall (weight core.now.sets (between core.now a.now b.now) (length (V.family view.now)) + unsigned_abs k) }
     ensures { result ≡ zero_by_values (V.family view.now) (between core.now a.now b.now) (length (V.family view.now)) k }
 {
-    let x = last_variable(core, a, b, view.vars())?;
-    match last_variable(core, a, b, x) {
-        None => Some(has_root(core, a, b, x, k, view)),
-        Some(y) => zero_by_two(core, a, b, x, y, k, view),
+    let (x, first) = last_factor(core, a, b, view.vars())?;
+    match last_factor(core, a, b, x) {
+        None => Some(has_root(view, x, first, k)),
+        Some((y, second)) => match last_factor(core, a, b, y) {
+            None => zero_by_two(view, x, first, y, second, k),
+            Some(_third) => None,
+        },
     }
 }
 

@@ -1,28 +1,30 @@
-use Rattle.std.proofs.Common.{rules, arith, length}
+use Rattle.std.proofs.Common.{◌≡◌, pos, rules, arith, sym, ◌∙◌}
 use Rattle.std.specs.Prelude.{FitsSigned}
 use mir.Syntax.{w128}
-use Rattle.std.proofs.lemmas.Int.{to_z-of_z}
-use Rattle.opl_range.specs.Between.{between}
-use Rattle.opl_range.proofs.Roots.{by_two, by_two_else, by_three}
+use Rattle.std.proofs.lemmas.Int.{ints, to_z-of_z}
+use Rattle.opl_range.proofs.Roots.{two_rise, two_fall}
 use Rattle.opl_range.proofs.zeros.zero_by_two.Goals as goal
 
-pub returns-in-Some : goal.returns-in-Some
-returns-in-Some g c = by_three _ _ _ _ _ _ _ c.requires.last c.requires.before (c.in-Some.ensures)
+pub negated-requires : goal.negated-requires
+negated-requires g c = let k = c.ranges.k in simp to_z-of_z c.requires.small
 
-pub returns-then-are_opposite_units : goal.returns-then-are_opposite_units
-returns-then-are_opposite_units g c =
+pub returns-then-first-eq1 : goal.returns-then-first-eq1
+returns-then-first-eq1 g c =
     let k = c.ranges.k in
-    let i : FitsSigned w128 c.coefficient_between.result = search rules in
-    let j : FitsSigned w128 c.coefficient_between-in-None.result = search rules in
+    let i = c.ranges.first in
+    let j = c.ranges.second in
     let e = simp to_z-of_z at c.are_opposite_units.ensures in
-    let h = simp to_z-of_z at c.have_root.ensures in
-    by_two (g.V.View.family c.args.view.now) c.vars-vars.ensures.sets.full (between c.args.core.now c.args.a.now c.args.b.now) (length (g.V.View.family c.args.view.now)) c.args.x c.args.y c.args.k c.coefficient_between.result c.coefficient_between-in-None.result c.are_opposite_units.result c.have_root.result
-    (omega arith) c.requires.last c.requires.before (c.in-None.ensures) c.coefficient_between.ensures c.coefficient_between-in-None.ensures e c.if-are_opposite_units.true h
+    let h = simp to_z-of_z at c.meets.ensures in
+    let p : c.args.first ≡ pos 1 = omega (arith, ints, c.if-first-eq1.true) in
+    two_rise (g.V.View.family c.args.view.now) c.args.x c.args.y c.args.k c.args.first c.args.second c.meets.result (sym e ∙ c.if-not-are_opposite_units.false) p h
 
-pub returns-else-are_opposite_units : goal.returns-else-are_opposite_units
-returns-else-are_opposite_units g c =
-    let i : FitsSigned w128 c.coefficient_between.result = search rules in
-    let j : FitsSigned w128 c.coefficient_between-in-None.result = search rules in
+pub returns : goal.returns
+returns g c =
+    let k = c.ranges.k in
+    let i = c.ranges.first in
+    let j = c.ranges.second in
+    let m : FitsSigned w128 c.negated.result = search rules in
     let e = simp to_z-of_z at c.are_opposite_units.ensures in
-    by_two_else (g.V.View.family c.args.view.now) (between c.args.core.now c.args.a.now c.args.b.now) (length (g.V.View.family c.args.view.now)) c.args.x c.args.y c.args.k c.coefficient_between.result c.coefficient_between-in-None.result c.are_opposite_units.result
-    c.requires.last c.requires.before (c.in-None.ensures) c.coefficient_between.ensures c.coefficient_between-in-None.ensures e c.if-are_opposite_units.false
+    let n = simp to_z-of_z at c.negated.ensures in
+    let h = simp to_z-of_z at c.meets-2.ensures in
+    two_fall (g.V.View.family c.args.view.now) c.args.x c.args.y c.args.k c.args.first c.args.second c.negated.result c.meets-2.result (sym e ∙ c.if-not-are_opposite_units.false) (λ z. c.if-first-eq1.false (omega (arith, ints, z))) n h

@@ -1,5 +1,5 @@
 use Rattle.opl_range.proofs.Named.{passed_start, passed_none}
-use Rattle.opl_range.proofs.zeros.last_variable.Goals as goal
+use Rattle.opl_range.proofs.zeros.last_factor.Goals as goal
 
 pub named-init : goal.named-init
 named-init c = passed_start _ _
