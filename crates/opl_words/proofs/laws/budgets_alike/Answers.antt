@@ -1,0 +1,5 @@
+use Rattle.std.proofs.Common.{refl}
+use Rattle.opl_words.proofs.laws.budgets_alike.Goals as goal
+
+pub returns : goal.returns
+returns c number words = refl
