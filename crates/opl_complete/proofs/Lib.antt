@@ -1,0 +1,5 @@
+pub mod Capacity
+pub mod Ground
+pub mod Means
+pub mod Searched
+pub mod Standing

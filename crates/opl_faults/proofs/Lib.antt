@@ -1,0 +1,3 @@
+mod Instances
+mod Made
+mod Unrolled

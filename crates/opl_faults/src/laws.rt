@@ -1,0 +1,10 @@
+//! Laws of the faults of grounding, as contracts of functions without effect.
+ghost use Rattle.opl_faults.specs.Laws.{FormsNeverMemory};
+
+/// Want of memory is no fault of the constraints of a model.
+pub fn forms_never_memory()
+    ensures { FormsNeverMemory }
+{
+    opl_draft::laws::unrolled_by_form();
+    opl_draft::laws::step_by_form();
+}

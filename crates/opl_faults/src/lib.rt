@@ -1,0 +1,4 @@
+//! Faults of grounding: laws alone.
+#![tactic(auto)]
+
+pub mod laws;

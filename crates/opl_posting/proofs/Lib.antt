@@ -1,0 +1,4 @@
+mod Behind
+mod ItemForms
+mod OneConstraint
+mod Whole

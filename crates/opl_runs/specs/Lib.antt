@@ -1,0 +1,4 @@
+pub mod Runs
+pub mod Items
+pub mod Scopes
+pub mod Laws
