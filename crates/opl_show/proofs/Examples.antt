@@ -1,5 +1,5 @@
 -- Texts worked out by hand.
-use Rattle.std.proofs.Common.{◌≡◌, ℕ, pos, negsuc, List, [], ◌∷◌, ◌++◌, codes, map, Some, None, refl, ap, ◌∙◌}
+use Rattle.std.proofs.Common.{◌≡◌, ℕ, true, false, pos, negsuc, List, [], ◌∷◌, ◌++◌, codes, map, Some, None, refl, ap, ◌∙◌}
 use Rattle.std.specs.Fmt.{digits}
 use Rattle.opl_value.specs.declared.value.Value.{Value}
 use Rattle.opl_value.specs.declared.value.Value.TheVariants as values
@@ -89,6 +89,10 @@ two_lines : solution_text letters items 3 (pos 7 ∷ pos 0 ∷ []) ≡ codes "So
 unfolding digits
 two_lines = simp texts refl
 
-ten : closing 10 ≡ codes "Solutions: 10\nEnd\n"
+ten : closing 10 25 false ≡ codes "Solutions: 10\nChoices: 25\nEnd\n"
 unfolding digits
 ten = refl
+
+spent : closing 10 25 true ≡ codes "Solutions: 10\nChoices: 25\nSpent\n"
+unfolding digits
+spent = refl

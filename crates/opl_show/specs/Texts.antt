@@ -1,5 +1,5 @@
 -- The texts of values and of solutions.
-use Rattle.std.specs.Prelude.{ℕ, ◌*◌, ℤ, cond, codes, decimal, drop, get_or, length, List, [], ◌∷◌, ◌++◌, map, take}
+use Rattle.std.specs.Prelude.{ℕ, ◌*◌, ℤ, Bool, cond, codes, decimal, drop, get_or, length, List, [], ◌∷◌, ◌++◌, map, take}
 use Rattle.std.specs.Fmt.{signed_decimal}
 use Rattle.opl_value.specs.declared.value.Value.{Value}
 use Rattle.opl_value.specs.declared.value.Dimension.{Dimension}
@@ -96,6 +96,10 @@ value_lines enumerations (v ∷ vs) ns =
 abbrev pub solution_text : Enumerations → List VariableItem → ℕ → List ℤ → List ℕ
 solution_text enumerations vs number ns = codes "Solution " ++ decimal number ++ codes "\n" ++ value_lines enumerations vs ns
 
--- the closing lines, where so many solutions are shown
-abbrev pub closing : ℕ → List ℕ
-closing shown = codes "Solutions: " ++ decimal shown ++ codes "\nEnd\n"
+-- what the last of the closing lines says: whether all solutions are shown, or the choices are spent
+abbrev pub end_line : (is_spent : Bool) → List ℕ
+end_line is_spent = cond is_spent (codes "Spent\n") (codes "End\n")
+
+-- the closing lines, where so many solutions are shown and so many choices made
+abbrev pub closing : (shown choices : ℕ) (is_spent : Bool) → List ℕ
+closing shown choices is_spent = codes "Solutions: " ++ decimal shown ++ codes "\nChoices: " ++ decimal choices ++ codes "\n" ++ end_line is_spent

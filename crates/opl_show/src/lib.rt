@@ -10,3 +10,4 @@ mod solution;
 mod value;
 
 pub use solution::{closing, solution_text};
+pub use value::push_value;

@@ -1,7 +1,7 @@
 //! The texts of solutions.
 ghost use Rattle.std.specs.Prelude.{◌≡◌, ◌++◌, drop, take, IfOk, OnOk};
 ghost use Rattle.opl_show.specs.Readings.{names_of};
-ghost use Rattle.opl_show.specs.Texts.{closing, solution_text, value_line};
+ghost use Rattle.opl_show.specs.Texts.{closing, end_line, solution_text, value_line};
 
 use crate::item::push_item;
 use itoa::Buffer;
@@ -61,12 +61,28 @@ pub fn solution_text(
     Ok(text)
 }
 
-/// The closing lines, where so many solutions are shown.
-pub fn closing(alloc: Global, shown: u64) -> Result<Vec<u8>, AllocError>
-    ensures { IfOk result (λ text. text.items ≡ closing shown) }
+/// The last of the closing lines.
+fn end_line(is_spent: bool) -> &'static [u8]
+    ensures { result.now ≡ end_line is_spent }
+{
+    if is_spent { b"Spent\n" } else { b"End\n" }
+}
+
+/// The closing lines, where so many solutions are shown and so many choices made: the two numbers, and whether the search came to
+/// its end or spent its choices.
+pub fn closing(
+    alloc: Global,
+    shown: u64,
+    choices: u64,
+    is_spent: bool,
+) -> Result<Vec<u8>, AllocError>
+    ensures { IfOk result (λ text. text.items ≡ closing shown choices is_spent) }
 {
     let mut text = Vec::from_slice(alloc, b"Solutions: ")?;
     text.extend_from_slice(Buffer::new().format(shown).as_bytes())?;
-    text.extend_from_slice(b"\nEnd\n")?;
+    text.extend_from_slice(b"\nChoices: ")?;
+    text.extend_from_slice(Buffer::new().format(choices).as_bytes())?;
+    text.extend_from_slice(b"\n")?;
+    text.extend_from_slice(end_line(is_spent))?;
     Ok(text)
 }

@@ -17,7 +17,7 @@ use std::alloc::{AllocError, Global};
 /// Adds the text of a value: a number, a name of an enumeration, `<a,..>`, `{a,..}`, `[a,..]` or `#[k:a,..]#`.
 #[tactic(auto, using(crate::proofs::Texts::texts, crate::proofs::Weights::weights))]
 #[cycle(texts)]
-pub(crate) fn push_value(
+pub fn push_value(
     alloc: Global,
     text: &mut Vec<u8>,
     enumerations: &[Seq<&[u8]>],

@@ -1,9 +1,8 @@
-pub mod Advance
-pub mod Enumeration
-pub mod FoundLemmas
+pub mod Found
+pub mod Long
 pub mod Membership
 pub mod Order
 pub mod PrintingLemmas
+pub mod Reading
 pub mod Showing
 pub mod SolveLemmas
-pub mod StartLemmas

@@ -2,9 +2,10 @@
 use Rattle.std.proofs.Common.{◌≡◌, ◌⊎◌, refl, sym, ap, ◌∙◌, subst, ℕ, zero, suc, ◌+◌, Bool, true, false, cond, List, [], ◌∷◌, ◌++◌, map, filter, ℤ, pos, ◌+ℤ◌, ◌-ℤ◌, ◌≤ℤ◌, ◌<ℤ◌, int_lt, unsigned_abs, if◌then◌else◌, inl, inr, arith}
 use Rattle.std.proofs.lemmas.Int.{ints}
 use Rattle.opl_meaning.specs.declared.variable.DeclaredSet.{DeclaredSet}
+use Rattle.opl_meaning.specs.Variables.{sets_of}
+use Rattle.opl_meaning.specs.Solutions.{whole_numbers, size_between, numbers_of, product}
+use Rattle.opl_draft.specs.Solutions.{satisfies, solutions}
 use Rattle.opl_solve.specs.Laws.{IsAmong, IsAssignment, SolutionsAre}
-use Rattle.opl_solve.specs.Start.{sets_of}
-use Rattle.opl_meaning.specs.Solutions.{whole_numbers, size_between, numbers_of, product, satisfies, solutions}
 use Rattle.opl_solve.proofs.Order.{with_values}
 
 module _ {A : Type 0} (x : A) where

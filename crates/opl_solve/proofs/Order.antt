@@ -5,9 +5,10 @@ use Rattle.std.proofs.lemmas.List.Elements.{All-nil, All-append, All-map}
 use Rattle.std.proofs.lemmas.List.Kept.{AllPairs-cons, AllPairs-filter}
 use Rattle.std.proofs.lemmas.Int.{ints}
 use Rattle.opl_meaning.specs.declared.variable.DeclaredSet.{DeclaredSet}
+use Rattle.opl_meaning.specs.Variables.{sets_of}
+use Rattle.opl_meaning.specs.Solutions.{whole_numbers, size_between, numbers_of, declared_sets, product}
+use Rattle.opl_draft.specs.Solutions.{satisfies, solutions}
 use Rattle.opl_solve.specs.Laws.{Precedes, InOrder}
-use Rattle.opl_solve.specs.Start.{sets_of}
-use Rattle.opl_meaning.specs.Solutions.{whole_numbers, size_between, numbers_of, declared_sets, product, satisfies, solutions}
 
 no_pairs : {X : Type 0} (R : X → X → Type 0) → AllPairs R []
 no_pairs R i j d low high = absurd (omega arith)

@@ -1,11 +1,9 @@
 -- What the list of solutions is, in other words: which assignments stand in it, and in which order.
-use Rattle.std.specs.Prelude.{◌≡◌, ◌⊎◌, ◌↔◌, true, List, [], ◌∷◌, length, ℤ, ◌≤ℤ◌, ◌<ℤ◌}
+use Rattle.std.specs.Prelude.{◌≡◌, ◌⊎◌, ◌↔◌, true, List, [], ◌∷◌, ℤ, ◌≤ℤ◌, ◌<ℤ◌}
 use Rattle.std.specs.List.{AllPairs}
-use Rattle.opl_meaning.specs.declared.formula.Formula.{Formula}
 use Rattle.opl_meaning.specs.declared.variable.DeclaredSet.{DeclaredSet}
-use Rattle.opl_meaning.specs.Solutions.{Model, satisfies, solutions}
-use Rattle.opl_solve.specs.Found.{all_hold, found}
-use Rattle.opl_solve.specs.Start.{sets_of}
+use Rattle.opl_meaning.specs.Variables.{sets_of}
+use Rattle.opl_draft.specs.Solutions.{Model, satisfies, solutions}
 
 -- one of a list
 abbrev pub IsAmong : {A : Type 0} → A → List A → Type 0
@@ -32,12 +30,3 @@ SolutionsAre = (m : Model) (ns : List ℤ) → IsAmong ns (solutions m) ↔ (IsA
 -- each solution stands there once, and they stand in lexicographic order
 abbrev pub InOrder : Type 0
 InOrder = (m : Model) → AllPairs Precedes (solutions m)
-
--- one number for each declared set
-abbrev pub Fits : List DeclaredSet → List ℤ → Type 0
-Fits sets ns = length ns ≡ length sets
-
--- what is found by formulas are the solutions, where on each list of one number for each declared set all formulas hold exactly where all conditions do
-abbrev pub FoundAre : Type 0
-FoundAre = (m : Model) (formulas : List Formula) → ((ns : List ℤ) → Fits (sets_of m.variables) ns → all_hold formulas ns ≡ satisfies m ns) →
-    found m.variables formulas ≡ solutions m

@@ -1,6 +1,4 @@
-pub mod Places
-pub mod Start
+pub mod Answers
 pub mod Printing
-pub mod Found
 pub mod Texts
 pub mod Laws

@@ -1,5 +1,5 @@
 //! Laws of the definitions, as contracts of functions without effect.
-ghost use Rattle.opl_solve.specs.Laws.{FoundAre, InOrder, SolutionsAre};
+ghost use Rattle.opl_solve.specs.Laws.{InOrder, SolutionsAre};
 
 /// Each solution of a model stands once in the list of its solutions, and they stand in lexicographic order.
 #[tactic(auto, using(crate::proofs::Order::in_order))]
@@ -11,10 +11,4 @@ pub fn in_order()
 /// below its low end or above its high end, and every condition holds.
 pub fn solutions_are()
     ensures { SolutionsAre }
-{}
-
-/// What is found by formulas are a model's solutions, where on each list of one number for each declared set all
-/// formulas hold exactly where all conditions do.
-pub fn found_are()
-    ensures { FoundAre }
 {}

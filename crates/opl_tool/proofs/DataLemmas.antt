@@ -9,7 +9,7 @@ use Rattle.opl_tool.specs.declared.refusal.Refusal.TheVariants.{At}
 use Rattle.opl_tool.specs.declared.scanning.Tokens.{Tokens}
 use Rattle.opl_tool.specs.declared.stop.Stop.{Stop}
 use Rattle.opl_tool.specs.declared.stop.Stop.TheVariants.{Refused}
-use Rattle.opl_tool.specs.Judged.{Scanned, DataParsed}
+use Rattle.opl_tool.specs.Reading.{Scanned, DataParsed}
 use Rattle.opl_tool.specs.Stage.{Gives}
 
 stops : (file : ℕ) (tokens : Tokens) (at : ℕ) → ParseAnswers tokens.list tokens.end (Err (syntax.Syntax at)) → Gives (DataParsed file tokens) (Err (Refused (At Syntax file at)))

@@ -1,10 +1,10 @@
 -- A stage for each of a list, as a loop comes to one after another.
-use Rattle.std.proofs.Common.{◌≡◌, refl, sym, ap, ◌∙◌, subst, ℕ, ◌+◌, ◌<◌, ◌≤◌, List, [], ◌∷◌, ◌++◌, map, length, take, drop, get_or, Result, Ok, Err, inl, inr, arith, add-one}
+use Rattle.std.proofs.Common.{◌≡◌, refl, sym, ap, ◌∙◌, subst, ℕ, ◌+◌, ◌<◌, ◌≤◌, List, [], ◌∷◌, ◌++◌, length, take, drop, get_or, Ok, Err, inl, inr, arith, add-one}
 use Rattle.std.proofs.Math.Seq.{take-suc, drop-cons}
 use Rattle.std.proofs.lemmas.List.{take_all, length-take-le, take-append-drop}
 use Rattle.opl_tool.specs.declared.refusal.Refusal.{Refusal}
 use Rattle.opl_tool.specs.declared.stop.Stop.{Stop}
-use Rattle.opl_tool.specs.declared.stop.Stop.TheVariants.{Refused, ReadFault, WriteFault, OutOfMemory}
+use Rattle.opl_tool.specs.declared.stop.Stop.TheVariants.{Refused, Spent, ReadFault, WriteFault, OutOfMemory}
 use Rattle.opl_tool.specs.Stage.{Stage, Each, Gives, GivesRead}
 
 front_more : {A : Type 0} (xs : List A) (i : ℕ) (d : A) → i < length xs → take (i + 1) xs ≡ take i xs ++ get_or xs i d ∷ []
@@ -69,6 +69,7 @@ module _ {A B : Type 0} (P : ℕ → A → Stage B) where
   pub each-stops : (n m : ℕ) (xs : List A) (i : ℕ) (d x : A) (ys : List B) (stop : Stop) → i < length xs → x ≡ get_or xs i d → m ≡ n + i →
       Each P n (take i xs) (Ok ys) → Gives (P m x) (Err stop) → Gives (Each P n xs) (Err stop)
   each-stops n m xs i d x ys (Refused e) h at place given p = stopped_at n m xs i d x ys e h at place given p
+  each-stops n m xs i d x ys Spent h at place given p = p
   each-stops n m xs i d x ys ReadFault h at place given p = p
   each-stops n m xs i d x ys WriteFault h at place given p = p
   each-stops n m xs i d x ys OutOfMemory h at place given p = tt
@@ -77,6 +78,7 @@ module _ {A B : Type 0} (P : ℕ → A → Stage B) where
   pub each-stops-read : (n m : ℕ) (xs : List A) (i : ℕ) (d x : A) (ys : List B) (stop : Stop) → i < length xs → x ≡ get_or xs i d → m ≡ n + i →
       Each P n (take i xs) (Ok ys) → GivesRead (P m x) (Err stop) → GivesRead (Each P n xs) (Err stop)
   each-stops-read n m xs i d x ys (Refused e) h at place given p = stopped_at n m xs i d x ys e h at place given p
+  each-stops-read n m xs i d x ys Spent h at place given p = p
   each-stops-read n m xs i d x ys ReadFault h at place given p = tt
   each-stops-read n m xs i d x ys WriteFault h at place given p = p
   each-stops-read n m xs i d x ys OutOfMemory h at place given p = tt
@@ -84,12 +86,3 @@ module _ {A B : Type 0} (P : ℕ → A → Stage B) where
   -- the loop ends behind the last one
   pub each-ends : (n : ℕ) (xs : List A) (i : ℕ) (ys : List B) → length xs ≤ i → Each P n (take i xs) (Ok ys) → Each P n xs (Ok ys)
   each-ends n xs i ys h given = subst (λ zs. Each P n zs (Ok ys)) (take_all i xs h) given
-
--- a stage for each of the images of a list
-pub each_map : {A B C : Type 0} (P : ℕ → B → Stage C) (f : A → B) (n : ℕ) (xs : List A) (r : Result (List C) Refusal) →
-    Each (λ m x. P m (f x)) n xs r → Each P n (map f xs) r
-unfolding Each
-each_map P f n [] r h = h
-each_map P f n (x ∷ xs) r (inl (y, first, inl (ys, rest, is))) = inl (y, first, inl (ys, each_map P f (n + 1) xs (Ok ys) rest, is))
-each_map P f n (x ∷ xs) r (inl (y, first, inr (e, rest, is))) = inl (y, first, inr (e, each_map P f (n + 1) xs (Err e) rest, is))
-each_map P f n (x ∷ xs) r (inr (e, first, is)) = inr (e, first, is)

@@ -1,188 +1,269 @@
 -- From how the work of a call ends to what the call promises.
-use Rattle.std.proofs.Common.{◌≡◌, ◌≢◌, ◌⊎◌, ◌<◌, refl, sym, ap, ◌∙◌, subst, ℕ, zero, suc, ℤ, List, [], ◌∷◌, ◌++◌, Option, Some, None, Result, Ok, Err, IfSome, IfErr, inl, inr, arith}
+use Rattle.std.proofs.Common.{◌≡◌, ◌⊎◌, refl, sym, ap, ◌∙◌, subst, ℕ, Bool, true, false, ℤ, List, [], ◌∷◌, ◌++◌, Option, Some, None, Result, Ok, Err, IfSome, IfErr, inl, inr}
 use Rattle.std.proofs.lemmas.List.{append-nil}
+use Rattle.opl_expr.specs.declared.model.Core.{Core}
 use Rattle.opl_outside.specs.Becomes.{Becomes}
 use Rattle.opl_outside.specs.Files.{Files}
-use Rattle.opl_meaning.specs.Solutions.{solutions}
+use Rattle.opl_solve.proofs.PrintingLemmas.{becomes_same, becomes_so}
+use Rattle.opl_solve.specs.Printing.{GainsFront}
+use Rattle.opl_words.specs.declared.call.Command.{Command}
+use Rattle.opl_words.specs.declared.call.Command.TheVariants.{Solve, Ground}
 use Rattle.opl_tool.specs.declared.answer.Answer.{Answer}
 use Rattle.opl_tool.specs.declared.answer.Answer.TheVariants as answer
 use Rattle.opl_tool.specs.declared.refusal.Refusal.{Refusal}
+use Rattle.opl_tool.specs.declared.stop.Ended.{Ended}
+use Rattle.opl_tool.specs.declared.stop.Ended.TheVariants.{Done, NoSolution}
 use Rattle.opl_tool.specs.declared.stop.Stop.{Stop}
-use Rattle.opl_tool.specs.declared.stop.Stop.TheVariants.{Refused, ReadFault, WriteFault, OutOfMemory}
-use Rattle.opl_tool.specs.Ends.{Call, Solved, Stopped, Ends}
-use Rattle.opl_tool.specs.Headline.{Answers, IsRefused, HasSolution, HasNone, Exactly, Shows}
+use Rattle.opl_tool.specs.declared.stop.Stop.TheVariants.{Refused, Spent, ReadFault, WriteFault, OutOfMemory}
+use Rattle.opl_tool.specs.Ends.{Call, Finished, Stopped, Ends}
+use Rattle.opl_tool.specs.Headline.{Answers, CameThrough, ComesTo, Exactly, IsFree, IsRefused, Shows}
 use Rattle.opl_tool.specs.Judged.{Judged}
-use Rattle.opl_tool.specs.Lines.{refusal_text, stop_text}
-use Rattle.opl_solve.specs.Printing.{GainsFront}
-use Rattle.opl_solve.specs.Texts.{counted, count_from}
-use Rattle.opl_tool.specs.Subject.{Subject, subject_text}
 use Rattle.opl_tool.specs.Laws.{SameOutcome}
-use Rattle.opl_tool.proofs.JudgedLemmas.{judged_one, ok_no_err}
-use Rattle.opl_solve.proofs.PrintingLemmas.{becomes_same}
+use Rattle.opl_tool.specs.Lines.{refusal_text, stop_text}
+use Rattle.opl_tool.specs.Prepared.{IsReady}
+use Rattle.opl_tool.specs.Tasks.{FindsAll, FindsFirst, Task, command_answer, search_answer, task_answer, task_text}
+use Rattle.opl_tool.proofs.JudgedLemmas.{judged_one}
+use Rattle.opl_tool.proofs.StageLemmas.{ok_no_err}
 
-counted_some : (n : ℕ) → 0 < counted n
-counted_some n = omega arith
+-- ---- no task is answered by a refusal
 
-count_some : (shown : ℕ) (xs : List (List ℤ)) → 0 < shown → 0 < count_from shown xs
-unfolding count_from
-count_some shown [] h = h
-count_some shown (x ∷ xs) h = count_some (counted shown) xs (counted_some shown)
+search_not_refused : (is_cut : Bool) (found : List (List ℤ)) → search_answer is_cut found ≡ answer.Refused → ⊥
+search_not_refused true found e = absurd (cc)
+search_not_refused false [] e = absurd (cc)
+search_not_refused false (ns ∷ rest) e = absurd (cc)
 
--- a count of 0 is that of no solutions
-none_counted : (xs : List (List ℤ)) → 0 ≡ count_from 0 xs → xs ≡ []
-unfolding count_from
-none_counted [] e = refl
-none_counted (x ∷ xs) e = let some : 0 < count_from (counted 0) xs = count_some (counted 0) xs (counted_some 0) in absurd (omega arith)
+command_not_refused : (command : Command) (core : Core) → command_answer command core ≡ answer.Refused → ⊥
+command_not_refused (Solve n) core e = search_not_refused _ _ e
+command_not_refused Ground core e = absurd (cc)
 
-some_counted : (n : ℕ) (xs : List (List ℤ)) → suc n ≡ count_from 0 xs → xs ≢ []
-unfolding count_from
-some_counted n xs e none = let no : suc n ≡ 0 = e ∙ ap (count_from 0) none in absurd (omega arith)
+task_not_refused : (t : Task) → task_answer t ≡ answer.Refused → ⊥
+unfolding task_answer
+task_not_refused t e = command_not_refused t.command t.subject.core e
 
-module _ (c : Call) (files : Files) where
-  -- the same where the files are told
-  abbrev EndsAt : Result ℕ Stop → Type 0
-  EndsAt (Ok shown) = Solved c shown files
-  EndsAt (Err (Refused e)) = (c.new ≡ c.old) × Judged c.words files (Err e)
+-- a task with this answer, a refusal, or an answer whose cause is told elsewhere
+data Cause (words : List (List ℕ)) (files : Files) (a : Answer) : Type 0 where
+  of_task : (t : Task) → Judged words files (Ok t) → a ≡ task_answer t → Cause words files a
+  of_refusal : (e : Refusal) → Judged words files (Err e) → a ≡ answer.Refused → Cause words files a
+  free : IsFree a → Cause words files a
+
+-- ---- where the files are told
+
+module _ (c : Call) (words : List (List ℕ)) (files : Files) where
+  abbrev EndsAt : Result Ended Stop → Type 0
+  EndsAt (Ok Done) = Finished (Judged words) c answer.Done files
+  EndsAt (Ok NoSolution) = Finished (Judged words) c answer.NoSolution files
+  EndsAt (Err (Refused e)) = (c.new ≡ c.old) × Judged words files (Err e)
+  EndsAt (Err Spent) = Finished (Judged words) c answer.Spent files
   EndsAt (Err ReadFault) = c.new ≡ c.old
-  EndsAt (Err WriteFault) = Stopped c files
-  EndsAt (Err OutOfMemory) = (c.new ≡ c.old) ⊎ Stopped c files
+  EndsAt (Err WriteFault) = Stopped (Judged words) c files
+  EndsAt (Err OutOfMemory) = (c.new ≡ c.old) ⊎ Stopped (Judged words) c files
 
-  told_at : (r : Result ℕ Stop) → c.files ≡ Some files → Ends c r → EndsAt r
-  told_at (Ok shown) told e = subst (λ o. IfSome o (Solved c shown)) told e.2
-  told_at (Err (Refused refusal)) told e = (e.2, subst (λ o. IfSome o (λ f. Judged c.words f (Err refusal))) told e.3)
+  told_at : (r : Result Ended Stop) → c.files ≡ Some files → Ends (Judged words) c r → EndsAt r
+  told_at (Ok Done) told e = subst (λ o. IfSome o (Finished (Judged words) c answer.Done)) told e.2
+  told_at (Ok NoSolution) told e = subst (λ o. IfSome o (Finished (Judged words) c answer.NoSolution)) told e.2
+  told_at (Err (Refused refusal)) told e = (e.2, subst (λ o. IfSome o (λ f. Judged words f (Err refusal))) told e.3)
+  told_at (Err Spent) told e = subst (λ o. IfSome o (Finished (Judged words) c answer.Spent)) told e.2
   told_at (Err ReadFault) told e = e.2
-  told_at (Err WriteFault) told e = subst (λ o. IfSome o (Stopped c)) told e.2
+  told_at (Err WriteFault) told e = subst (λ o. IfSome o (Stopped (Judged words) c)) told e.2
   told_at (Err OutOfMemory) told e = memory e.2
     where
-      memory : ((c.new ≡ c.old) ⊎ IfSome c.files (Stopped c)) → (c.new ≡ c.old) ⊎ Stopped c files
+      memory : ((c.new ≡ c.old) ⊎ IfSome c.files (Stopped (Judged words) c)) → (c.new ≡ c.old) ⊎ Stopped (Judged words) c files
       memory (inl same) = inl same
-      memory (inr stopped) = inr (subst (λ o. IfSome o (Stopped c)) told stopped)
+      memory (inr stopped) = inr (subst (λ o. IfSome o (Stopped (Judged words) c)) told stopped)
 
-  not_both : (m : Subject) (e : Refusal) → Judged c.words files (Ok m) → Judged c.words files (Err e) → ⊥
-  not_both m e p q = ok_no_err m e (judged_one c.words files _ _ p q)
+  not_both : (t : Task) (e : Refusal) → Judged words files (Ok t) → Judged words files (Err e) → ⊥
+  not_both t e p q = ok_no_err t e (judged_one words files _ _ p q)
 
-  one_model : (m n : Subject) → Judged c.words files (Ok m) → Judged c.words files (Ok n) → m ≡ n
-  one_model m n p q = same_model (judged_one c.words files _ _ p q) where
-    same_model : SameOutcome {A = Subject} (Ok m) (Ok n) → m ≡ n
-    same_model (inl e) = cc
-    same_model (inr x) = absurd x
+  one_task : (t u : Task) → Judged words files (Ok t) → Judged words files (Ok u) → t ≡ u
+  one_task t u p q = same_task (judged_one words files _ _ p q) where
+    same_task : SameOutcome {A = Task} (Ok t) (Ok u) → t ≡ u
+    same_task (inl e) = cc
+    same_task (inr x) = absurd x
 
-  refused_at : (r : Result ℕ Stop) (a : Answer) → EndsAt r → Answers r a → Exactly answer.Refused (IsRefused c.words files) a
-  refused_at (Ok zero) a s is = record { only = λ e. absurd (cc); always = λ h. absurd (not_both s.subject h.0 s.judged h.1) }
-  refused_at (Ok (suc n)) a s is = record { only = λ e. absurd (cc); always = λ h. absurd (not_both s.subject h.0 s.judged h.1) }
-  refused_at (Err (Refused e)) a s (inl is) = record { only = λ h. (e, s.1); always = λ h. inl is }
-  refused_at (Err (Refused e)) a s (inr is) = record { only = λ h. (e, s.1); always = λ h. inr (inl is) }
-  refused_at (Err ReadFault) a s (inl is) = record { only = λ e. absurd (cc); always = λ h. inr (inr (inl is)) }
-  refused_at (Err ReadFault) a s (inr is) = record { only = λ e. absurd (cc); always = λ h. inr (inl is) }
-  refused_at (Err WriteFault) a s (inl is) = record { only = λ e. absurd (cc); always = λ h. inr (inr (inr is)) }
-  refused_at (Err WriteFault) a s (inr is) = record { only = λ e. absurd (cc); always = λ h. inr (inl is) }
-  refused_at (Err OutOfMemory) a s (inl is) = record { only = λ e. absurd (cc); always = λ h. inr (inl is) }
-  refused_at (Err OutOfMemory) a s (inr is) = record { only = λ e. absurd (cc); always = λ h. inr (inl is) }
+  -- ---- which answer comes
 
-  solved_at : (r : Result ℕ Stop) (a : Answer) → EndsAt r → Answers r a → Exactly answer.Done (HasSolution c.words files) a
-  solved_at (Ok zero) a s is = record {
-    only = λ e. absurd (cc);
-    always = λ h. absurd (h.2 (subst (λ m. solutions m.model ≡ []) (one_model s.subject h.0 s.judged h.1) (none_counted (solutions s.subject.model) s.count)));
+  finished_cause : (a b : Answer) → Finished (Judged words) c b files → a ≡ b → Cause words files a
+  finished_cause a b f is = of_task f.task f.judged (is ∙ sym f.answers)
+
+  cause_at : (r : Result Ended Stop) (a : Answer) → EndsAt r → Answers r a → Cause words files a
+  cause_at (Ok Done) a s is = finished_cause a answer.Done s is
+  cause_at (Ok NoSolution) a s is = finished_cause a answer.NoSolution s is
+  cause_at (Err (Refused e)) a s (inl is) = of_refusal e s.1 is
+  cause_at (Err Spent) a s (inl is) = finished_cause a answer.Spent s is
+  cause_at (Err ReadFault) a s (inl is) = free (inr (inl is))
+  cause_at (Err WriteFault) a s (inl is) = free (inr (inr is))
+  cause_at (Err OutOfMemory) a s (inl is) = free (inl is)
+  cause_at (Err stop) a s (inr is) = free (inl is)
+
+  refused_by : (a : Answer) → Cause words files a → Exactly answer.Refused (IsRefused words files) a
+  refused_by a (of_task t j is) = record { only = λ e. absurd (task_not_refused t (sym is ∙ e)); always = λ h. absurd (not_both t h.0 j h.1) }
+  refused_by a (of_refusal e j is) = record { only = λ h. (e, j); always = λ h. inl is }
+  refused_by a (free f) = record { only = λ e. absurd (unfree f e); always = λ h. inr f }
+    where
+      unfree : IsFree a → a ≡ answer.Refused → ⊥
+      unfree (inl is) e = absurd (cc)
+      unfree (inr (inl is)) e = absurd (cc)
+      unfree (inr (inr is)) e = absurd (cc)
+
+  answered_by : (b a : Answer) → (b ≡ answer.Refused → ⊥) → (IsFree b → ⊥) → Cause words files a → Exactly b (ComesTo words files b) a
+  answered_by b a unrefused unfree (of_task t j is) = record {
+    only = λ e. (t, j, sym is ∙ e);
+    always = λ h. inl (is ∙ ap task_answer (one_task t h.0 j h.1) ∙ h.2);
   }
-  solved_at (Ok (suc n)) a s is = record { only = λ e. (s.subject, s.judged, some_counted n (solutions s.subject.model) s.count); always = λ h. inl is }
-  solved_at (Err (Refused e)) a s (inl is) = record { only = λ e. absurd (cc); always = λ h. absurd (not_both h.0 e h.1 s.1) }
-  solved_at (Err (Refused e)) a s (inr is) = record { only = λ e. absurd (cc); always = λ h. absurd (not_both h.0 e h.1 s.1) }
-  solved_at (Err ReadFault) a s (inl is) = record { only = λ e. absurd (cc); always = λ h. inr (inr (inl is)) }
-  solved_at (Err ReadFault) a s (inr is) = record { only = λ e. absurd (cc); always = λ h. inr (inl is) }
-  solved_at (Err WriteFault) a s (inl is) = record { only = λ e. absurd (cc); always = λ h. inr (inr (inr is)) }
-  solved_at (Err WriteFault) a s (inr is) = record { only = λ e. absurd (cc); always = λ h. inr (inl is) }
-  solved_at (Err OutOfMemory) a s (inl is) = record { only = λ e. absurd (cc); always = λ h. inr (inl is) }
-  solved_at (Err OutOfMemory) a s (inr is) = record { only = λ e. absurd (cc); always = λ h. inr (inl is) }
+  answered_by b a unrefused unfree (of_refusal e j is) = record { only = λ h. absurd (unrefused (sym h ∙ is)); always = λ h. absurd (not_both h.0 e h.1 j) }
+  answered_by b a unrefused unfree (free f) = record { only = λ e. absurd (unfree (subst IsFree e f)); always = λ h. inr f }
 
-  unsolved_at : (r : Result ℕ Stop) (a : Answer) → EndsAt r → Answers r a → Exactly answer.NoSolution (HasNone c.words files) a
-  unsolved_at (Ok zero) a s is = record { only = λ e. (s.subject, s.judged, none_counted (solutions s.subject.model) s.count); always = λ h. inl is }
-  unsolved_at (Ok (suc n)) a s is = record {
-    only = λ e. absurd (cc);
-    always = λ h. absurd (some_counted n (solutions s.subject.model) s.count (subst (λ m. solutions m.model ≡ []) (sym (one_model s.subject h.0 s.judged h.1)) h.2));
-  }
-  unsolved_at (Err (Refused e)) a s (inl is) = record { only = λ e. absurd (cc); always = λ h. absurd (not_both h.0 e h.1 s.1) }
-  unsolved_at (Err (Refused e)) a s (inr is) = record { only = λ e. absurd (cc); always = λ h. absurd (not_both h.0 e h.1 s.1) }
-  unsolved_at (Err ReadFault) a s (inl is) = record { only = λ e. absurd (cc); always = λ h. inr (inr (inl is)) }
-  unsolved_at (Err ReadFault) a s (inr is) = record { only = λ e. absurd (cc); always = λ h. inr (inl is) }
-  unsolved_at (Err WriteFault) a s (inl is) = record { only = λ e. absurd (cc); always = λ h. inr (inr (inr is)) }
-  unsolved_at (Err WriteFault) a s (inr is) = record { only = λ e. absurd (cc); always = λ h. inr (inl is) }
-  unsolved_at (Err OutOfMemory) a s (inl is) = record { only = λ e. absurd (cc); always = λ h. inr (inl is) }
-  unsolved_at (Err OutOfMemory) a s (inr is) = record { only = λ e. absurd (cc); always = λ h. inr (inl is) }
+  -- ---- what is printed
 
-  -- what is written where a model's text stands in place of the one it came with
-  same_text : (m n : Subject) (P : List ℕ → List ℕ → List ℕ → Type 0) → m ≡ n →
-      Becomes c.old c.new (λ x y. P x y (subject_text m)) → Becomes c.old c.new (λ x y. P x y (subject_text n))
-  same_text m n P same h = subst (λ t. Becomes c.old c.new (λ x y. P x y (subject_text t))) same h
+  -- what is written where a task's text stands in place of the one it came with
+  same_text : (t u : Task) (P : List ℕ → List ℕ → List ℕ → Type 0) → t ≡ u → Becomes c.old c.new (λ x y. P x y (task_text t)) → Becomes c.old c.new (λ x y. P x y (task_text u))
+  same_text t u P same h = subst (λ k. Becomes c.old c.new (λ x y. P x y (task_text k))) same h
 
   -- nothing is written
   nothing_shown : (text : List ℕ) → c.new ≡ c.old → Becomes c.old c.new (λ x y. GainsFront x y text)
   nothing_shown text same = subst (λ o. Becomes c.old o (λ x y. GainsFront x y text)) (sym same)
       (becomes_same c.old _ (λ x. record { front = []; rest = text; gained = sym (append-nil x); whole = refl }))
 
-  as_stopped : (r : Stop) (a : Answer) (text : List ℕ) → Answers (Err r) a → Becomes c.old c.new (λ x y. GainsFront x y text) → Shows c.old c.new text a
-  as_stopped (Refused e) a text (inl is) h = rw is h
-  as_stopped ReadFault a text (inl is) h = rw is h
-  as_stopped WriteFault a text (inl is) h = rw is h
-  as_stopped OutOfMemory a text (inl is) h = rw is h
-  as_stopped r a text (inr is) h = rw is h
+  -- the whole is a front of itself
+  whole_front : (text : List ℕ) → Becomes c.old c.new (λ x y. y ≡ x ++ text) → Becomes c.old c.new (λ x y. GainsFront x y text)
+  whole_front text h = becomes_so c.old c.new _ _ (λ x y e. record { front = text; rest = []; gained = e; whole = append-nil text }) h
 
-  stopped_text : (m : Subject) → Stopped c files → Judged c.words files (Ok m) → Becomes c.old c.new (λ x y. GainsFront x y (subject_text m))
-  stopped_text m s j = same_text s.subject m (λ x y t. GainsFront x y t) (one_model s.subject m s.judged j) s.written
+  memory_shows : (a : Answer) (text : List ℕ) → a ≡ answer.OutOfMemory → Becomes c.old c.new (λ x y. GainsFront x y text) → Shows c.old c.new text a
+  memory_shows a text is h = rw is h
 
-  shown_at : (r : Result ℕ Stop) (a : Answer) → EndsAt r → Answers r a → (m : Subject) → Judged c.words files (Ok m) → Shows c.old c.new (subject_text m) a
-  shown_at (Ok zero) a s is m j = rw is (same_text s.subject m (λ x y t. y ≡ x ++ t) (one_model s.subject m s.judged j) s.written)
-  shown_at (Ok (suc n)) a s is m j = rw is (same_text s.subject m (λ x y t. y ≡ x ++ t) (one_model s.subject m s.judged j) s.written)
-  shown_at (Err (Refused e)) a s is m j = absurd (not_both m e j s.1)
-  shown_at (Err ReadFault) a s is m j = as_stopped ReadFault a (subject_text m) is (nothing_shown (subject_text m) s)
-  shown_at (Err WriteFault) a s is m j = as_stopped WriteFault a (subject_text m) is (stopped_text m s j)
-  shown_at (Err OutOfMemory) a (inl s) is m j = as_stopped OutOfMemory a (subject_text m) is (nothing_shown (subject_text m) s)
-  shown_at (Err OutOfMemory) a (inr s) is m j = as_stopped OutOfMemory a (subject_text m) is (stopped_text m s j)
+  finished_text : (b : Answer) (u : Task) → Finished (Judged words) c b files → Judged words files (Ok u) → Becomes c.old c.new (λ x y. y ≡ x ++ task_text u)
+  finished_text b u f j = same_text f.task u (λ x y t. y ≡ x ++ t) (one_task f.task u f.judged j) f.written
 
-  silent_at : (r : Result ℕ Stop) → EndsAt r → (e : Refusal) → Judged c.words files (Err e) → c.new ≡ c.old
-  silent_at (Ok n) s e j = absurd (not_both s.subject e s.judged j)
+  stopped_text : (u : Task) → Stopped (Judged words) c files → Judged words files (Ok u) → Becomes c.old c.new (λ x y. GainsFront x y (task_text u))
+  stopped_text u s j = same_text s.task u (λ x y t. GainsFront x y t) (one_task s.task u s.judged j) s.written
+
+  shown_at : (r : Result Ended Stop) (a : Answer) → EndsAt r → Answers r a → (u : Task) → Judged words files (Ok u) → Shows c.old c.new (task_text u) a
+  shown_at (Ok Done) a s is u j = rw is (finished_text _ u s j)
+  shown_at (Ok NoSolution) a s is u j = rw is (finished_text _ u s j)
+  shown_at (Err (Refused e)) a s is u j = absurd (not_both u e j s.1)
+  shown_at (Err Spent) a s (inl is) u j = rw is (finished_text _ u s j)
+  shown_at (Err Spent) a s (inr is) u j = memory_shows a (task_text u) is (whole_front (task_text u) (finished_text _ u s j))
+  shown_at (Err ReadFault) a s (inl is) u j = rw is (nothing_shown (task_text u) s)
+  shown_at (Err ReadFault) a s (inr is) u j = memory_shows a (task_text u) is (nothing_shown (task_text u) s)
+  shown_at (Err WriteFault) a s (inl is) u j = rw is (stopped_text u s j)
+  shown_at (Err WriteFault) a s (inr is) u j = memory_shows a (task_text u) is (stopped_text u s j)
+  shown_at (Err OutOfMemory) a (inl s) is u j = memory_shows a (task_text u) (either is) (nothing_shown (task_text u) s)
+    where
+      either : ((a ≡ answer.OutOfMemory) ⊎ (a ≡ answer.OutOfMemory)) → a ≡ answer.OutOfMemory
+      either (inl e) = e
+      either (inr e) = e
+  shown_at (Err OutOfMemory) a (inr s) is u j = memory_shows a (task_text u) (either is) (stopped_text u s j)
+    where
+      either : ((a ≡ answer.OutOfMemory) ⊎ (a ≡ answer.OutOfMemory)) → a ≡ answer.OutOfMemory
+      either (inl e) = e
+      either (inr e) = e
+
+  silent_at : (r : Result Ended Stop) → EndsAt r → (e : Refusal) → Judged words files (Err e) → c.new ≡ c.old
+  silent_at (Ok Done) s e j = absurd (not_both s.task e s.judged j)
+  silent_at (Ok NoSolution) s e j = absurd (not_both s.task e s.judged j)
   silent_at (Err (Refused f)) s e j = s.0
+  silent_at (Err Spent) s e j = absurd (not_both s.task e s.judged j)
   silent_at (Err ReadFault) s e j = s
-  silent_at (Err WriteFault) s e j = absurd (not_both s.subject e s.judged j)
+  silent_at (Err WriteFault) s e j = absurd (not_both s.task e s.judged j)
   silent_at (Err OutOfMemory) (inl s) e j = s
-  silent_at (Err OutOfMemory) (inr s) e j = absurd (not_both s.subject e s.judged j)
+  silent_at (Err OutOfMemory) (inr s) e j = absurd (not_both s.task e s.judged j)
+
+  -- ---- what a search finds
+
+  ready_as : (t u : Task) → IsReady t.subject → t ≡ u → IsReady u.subject
+  ready_as t u h same = subst (λ (k : Task). IsReady k.subject) same h
+
+  ready_at : (r : Result Ended Stop) (a : Answer) → EndsAt r → Answers r a → CameThrough a → (u : Task) → Judged words files (Ok u) → IsReady u.subject
+  ready_at (Ok Done) a s is through u j = ready_as s.task u s.is_ready (one_task s.task u s.judged j)
+  ready_at (Ok NoSolution) a s is through u j = ready_as s.task u s.is_ready (one_task s.task u s.judged j)
+  ready_at (Err (Refused e)) a s is through u j = absurd (not_both u e j s.1)
+  ready_at (Err Spent) a s is through u j = ready_as s.task u s.is_ready (one_task s.task u s.judged j)
+  ready_at (Err ReadFault) a s (inl is) through u j = absurd (through.0 is)
+  ready_at (Err ReadFault) a s (inr is) through u j = absurd (through.1 is)
+  ready_at (Err WriteFault) a s is through u j = ready_as s.task u s.is_ready (one_task s.task u s.judged j)
+  ready_at (Err OutOfMemory) a s (inl is) through u j = absurd (through.1 is)
+  ready_at (Err OutOfMemory) a s (inr is) through u j = absurd (through.1 is)
+
+  -- ---- what is told
 
   -- a refusal of the call, told by its line
   abbrev Told : List (List ℕ) → (List ℕ → Type 0) → Type 0
-  Told words T = (e : Refusal) × Judged c.words files (Err e) × T (refusal_text e words)
+  Told given T = (e : Refusal) × Judged words files (Err e) × T (refusal_text e given)
 
-  line_at : (r : Result ℕ Stop) (a : Answer) (words : List (List ℕ)) (T : List ℕ → Type 0) → EndsAt r → Answers r a → IfErr r (λ stop. T (stop_text stop words)) →
-      a ≡ answer.Refused → Told words T
-  line_at (Ok zero) a words T s is told refused = absurd (cc)
-  line_at (Ok (suc n)) a words T s is told refused = absurd (cc)
-  line_at (Err (Refused f)) a words T s is told refused = (f, s.1, told)
-  line_at (Err ReadFault) a words T s (inl is) told refused = absurd (cc)
-  line_at (Err ReadFault) a words T s (inr is) told refused = absurd (cc)
-  line_at (Err WriteFault) a words T s (inl is) told refused = absurd (cc)
-  line_at (Err WriteFault) a words T s (inr is) told refused = absurd (cc)
-  line_at (Err OutOfMemory) a words T s (inl is) told refused = absurd (cc)
-  line_at (Err OutOfMemory) a words T s (inr is) told refused = absurd (cc)
+  line_at : (r : Result Ended Stop) (a : Answer) (given : List (List ℕ)) (T : List ℕ → Type 0) → EndsAt r → Answers r a → IfErr r (λ stop. T (stop_text stop given)) →
+      a ≡ answer.Refused → Told given T
+  line_at (Ok Done) a given T s is told refused = absurd (cc)
+  line_at (Ok NoSolution) a given T s is told refused = absurd (cc)
+  line_at (Err (Refused f)) a given T s is told refused = (f, s.1, told)
+  line_at (Err Spent) a given T s (inl is) told refused = absurd (cc)
+  line_at (Err Spent) a given T s (inr is) told refused = absurd (cc)
+  line_at (Err ReadFault) a given T s (inl is) told refused = absurd (cc)
+  line_at (Err ReadFault) a given T s (inr is) told refused = absurd (cc)
+  line_at (Err WriteFault) a given T s (inl is) told refused = absurd (cc)
+  line_at (Err WriteFault) a given T s (inr is) told refused = absurd (cc)
+  line_at (Err OutOfMemory) a given T s (inl is) told refused = absurd (cc)
+  line_at (Err OutOfMemory) a given T s (inr is) told refused = absurd (cc)
 
 -- a fact for the files, if they are told
 with_told : (o : Option Files) (P : Files → Type 0) → ((files : Files) → o ≡ Some files → P files) → IfSome o P
 with_told None P all = tt
 with_told (Some files) P all = all files refl
 
-module _ (c : Call) (r : Result ℕ Stop) (a : Answer) (ends : Ends c r) (is : Answers r a) where
-  pub refused-exactly : IfSome c.files (λ files. Exactly answer.Refused (IsRefused c.words files) a)
-  refused-exactly = with_told c.files _ (λ files told. refused_at c files r a (told_at c files r told ends) is)
+done_unrefused : answer.Done ≡ answer.Refused → ⊥
+done_unrefused e = absurd (cc)
 
-  pub solved-exactly : IfSome c.files (λ files. Exactly answer.Done (HasSolution c.words files) a)
-  solved-exactly = with_told c.files _ (λ files told. solved_at c files r a (told_at c files r told ends) is)
+done_unfree : IsFree answer.Done → ⊥
+done_unfree (inl e) = absurd (cc)
+done_unfree (inr (inl e)) = absurd (cc)
+done_unfree (inr (inr e)) = absurd (cc)
 
-  pub unsolved-exactly : IfSome c.files (λ files. Exactly answer.NoSolution (HasNone c.words files) a)
-  unsolved-exactly = with_told c.files _ (λ files told. unsolved_at c files r a (told_at c files r told ends) is)
+unsolved_unrefused : answer.NoSolution ≡ answer.Refused → ⊥
+unsolved_unrefused e = absurd (cc)
 
-  pub shows-text : IfSome c.files (λ files. (m : Subject) → Judged c.words files (Ok m) → Shows c.old c.new (subject_text m) a)
-  shows-text = with_told c.files _ (λ files told. shown_at c files r a (told_at c files r told ends) is)
+unsolved_unfree : IsFree answer.NoSolution → ⊥
+unsolved_unfree (inl e) = absurd (cc)
+unsolved_unfree (inr (inl e)) = absurd (cc)
+unsolved_unfree (inr (inr e)) = absurd (cc)
 
-  pub shows-nothing : IfSome c.files (λ files. (e : Refusal) → Judged c.words files (Err e) → c.new ≡ c.old)
-  shows-nothing = with_told c.files _ (λ files told. silent_at c files r (told_at c files r told ends))
+spent_unrefused : answer.Spent ≡ answer.Refused → ⊥
+spent_unrefused e = absurd (cc)
 
-  pub tells-refusal : (words : List (List ℕ)) (T : List ℕ → Type 0) → IfErr r (λ stop. T (stop_text stop words)) →
-      IfSome c.files (λ files. a ≡ answer.Refused → (e : Refusal) × Judged c.words files (Err e) × T (refusal_text e words))
-  tells-refusal words T told_line = with_told c.files _ (λ files told. line_at c files r a words T (told_at c files r told ends) is told_line)
+spent_unfree : IsFree answer.Spent → ⊥
+spent_unfree (inl e) = absurd (cc)
+spent_unfree (inr (inl e)) = absurd (cc)
+spent_unfree (inr (inr e)) = absurd (cc)
+
+module _ (words : List (List ℕ)) (c : Call) (r : Result Ended Stop) (a : Answer) (ends : Ends (Judged words) c r) (is : Answers r a) where
+  at : (files : Files) → c.files ≡ Some files → EndsAt c words files r
+  at files told = told_at c words files r told ends
+
+  cause : (files : Files) → c.files ≡ Some files → Cause words files a
+  cause files told = cause_at c words files r a (at files told) is
+
+  pub refused-exactly : IfSome c.files (λ files. Exactly answer.Refused (IsRefused words files) a)
+  refused-exactly = with_told c.files _ (λ files told. refused_by c words files a (cause files told))
+
+  pub done-exactly : IfSome c.files (λ files. Exactly answer.Done (ComesTo words files answer.Done) a)
+  done-exactly = with_told c.files _ (λ files told. answered_by c words files answer.Done a done_unrefused done_unfree (cause files told))
+
+  pub unsolved-exactly : IfSome c.files (λ files. Exactly answer.NoSolution (ComesTo words files answer.NoSolution) a)
+  unsolved-exactly = with_told c.files _ (λ files told. answered_by c words files answer.NoSolution a unsolved_unrefused unsolved_unfree (cause files told))
+
+  pub spent-exactly : IfSome c.files (λ files. Exactly answer.Spent (ComesTo words files answer.Spent) a)
+  spent-exactly = with_told c.files _ (λ files told. answered_by c words files answer.Spent a spent_unrefused spent_unfree (cause files told))
+
+  pub shows-text : IfSome c.files (λ files. (t : Task) → Judged words files (Ok t) → Shows c.old c.new (task_text t) a)
+  shows-text = with_told c.files _ (λ files told. shown_at c words files r a (at files told) is)
+
+  pub finds-all : IfSome c.files (λ files. CameThrough a → (t : Task) → Judged words files (Ok t) → FindsAll t)
+  finds-all = with_told c.files _ (λ files told through t j n command. (ready_at c words files r a (at files told) is through t j).all n)
+
+  pub finds-first : IfSome c.files (λ files. CameThrough a → (t : Task) → Judged words files (Ok t) → FindsFirst t)
+  finds-first = with_told c.files _ (λ files told through t j n command. (ready_at c words files r a (at files told) is through t j).first n)
+
+  pub shows-nothing : IfSome c.files (λ files. (e : Refusal) → Judged words files (Err e) → c.new ≡ c.old)
+  shows-nothing = with_told c.files _ (λ files told. silent_at c words files r (at files told))
+
+  pub tells-refusal : (given : List (List ℕ)) (T : List ℕ → Type 0) → IfErr r (λ stop. T (stop_text stop given)) →
+      IfSome c.files (λ files. a ≡ answer.Refused → (e : Refusal) × Judged words files (Err e) × T (refusal_text e given))
+  tells-refusal given T told_line = with_told c.files _ (λ files told. line_at c words files r a given T (at files told) is told_line)

@@ -1,3 +1,4 @@
+pub mod Accepted
 pub mod DataLemmas
 pub mod EachLemmas
 pub mod EndsLemmas
@@ -7,7 +8,9 @@ pub mod LineLemmas
 pub mod LoadLemmas
 pub mod Outcomes
 pub mod PositionLemmas
-pub mod Posing
 pub mod Preparing
+pub mod PrintedLemmas
+pub mod ReadingLemmas
+pub mod ReadingOutcomes
+pub mod StageLemmas
 pub mod Stops
-pub mod VariableNames

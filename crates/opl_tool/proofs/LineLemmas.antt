@@ -1,5 +1,5 @@
 -- Lines that are told in part.
-use Rattle.std.proofs.Common.{◌≡◌, ℕ, List, [], Option, Err, inl, inr, refl, sym}
+use Rattle.std.proofs.Common.{◌≡◌, ◌<◌, ◌-◌, ℕ, zero, suc, List, [], ◌∷◌, get_or, Option, Err, inl, inr, refl, sym, arith}
 use Rattle.std.proofs.lemmas.List.{append-nil}
 use Rattle.opl_outside.specs.Counts.{Counts}
 use Rattle.opl_outside.specs.Written.{Puts}
@@ -21,3 +21,8 @@ failed-tells old new before now line answer e is p c = failed_tells old new befo
 -- nothing is told where memory is wanting
 pub nothing-tells : (o : Option (List ℕ)) (f : ℕ) (line : List ℕ) → Tells o o f f line OutOfMemory
 nothing-tells o f line = becomes_same o _ (λ x. inr (inl refl, record { front = []; rest = line; gained = sym (append-nil x); whole = refl }))
+
+-- the data files follow the model's
+pub behind-first : (model : List ℕ) (names : List (List ℕ)) (file : ℕ) → 0 < file → get_or names (file - 1) [] ≡ get_or (model ∷ names) file []
+behind-first model names zero h = absurd (omega arith)
+behind-first model names (suc n) h = let same : suc n - 1 ≡ n = omega arith in rw same refl

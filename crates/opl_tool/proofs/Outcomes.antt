@@ -1,75 +1,49 @@
 -- Words and files come to an outcome.
-use Rattle.std.proofs.Common.{◌≡◌, ◌≢◌, ◌⊎◌, ◌<◌, ◌≤◌, ◌+◌, refl, ap, ◌∙◌, ℕ, Bool, true, false, nat_lt, List, [], ◌∷◌, length, Option, Some, None, Result, Ok, Err, inl, inr, arith}
+use Rattle.std.proofs.Common.{◌≡◌, ◌≢◌, ◌<◌, ◌≤◌, refl, ap, ◌∙◌, ℕ, Bool, true, false, nat_lt, List, [], length, Option, Some, None, Result, Ok, Err, inl, inr, arith}
 use Rattle.std.proofs.lemmas.Bool.Decides.{nat_tests}
-use Rattle.opl_outside.specs.Files.{Files, max_bytes}
-use Rattle.opl_parse.proofs.TreeLaws.{parse_total}
-use Rattle.opl_tree.specs.declared.model.ModelTree.{ModelTree}
-use Rattle.opl_tree.specs.Depth.{depth_model}
-use Rattle.opl_token.proofs.Unique.{total}
-use Rattle.opl_token.specs.declared.fault.ScanFault.{ScanFault}
-use Rattle.opl_token.specs.declared.fault.ScanFault.TheVariants as scan
-use Rattle.opl_token.specs.declared.token.Token.{Token}
-use Rattle.opl_token.specs.Scan.{Scans, Faults}
-use Rattle.opl_model_types.specs.Models.{model}
-use Rattle.opl_type_rules.specs.declared.fault.TypeFault.{TypeFault}
-use Rattle.opl_type_rules.specs.declared.fault.TypeFault.TheVariants as types
-use Rattle.opl_type_rules.specs.Types.{Sort}
-use Rattle.opl_model_types.proofs.PureItems.{never_memory}
-use Rattle.opl_tree.specs.Reading.{IsTreeOf, StopsAt, OpensAt}
-use Rattle.opl_data.proofs.TreeLaws as of_data
-use Rattle.opl_data.specs.Depth.{depth_file}
-use Rattle.opl_data.specs.Reading as data_files
+use Rattle.opl_bind.specs.Bind.{Data, bound}
+use Rattle.opl_bind.proofs.NoMemoryBind.{never_memory as bound_never}
 use Rattle.opl_data.specs.declared.tree.DataFile.{DataFile}
-use Rattle.opl_tool.specs.declared.refusal.Fault.TheVariants.{BadByte, OpenComment, OpenString, NumberTooLarge, Syntax, TooDeep, NotYet, Unknown, Duplicate, NotData, Mismatch}
+use Rattle.opl_draft.specs.Clean.{is_clean_instr}
+use Rattle.opl_eval.specs.declared.fault.EvalFault.{EvalFault}
+use Rattle.opl_eval.specs.declared.fault.EvalFault.TheVariants as evaluation
+use Rattle.opl_faults.specs.Laws.{FormsNeverMemory}
+use Rattle.opl_form.specs.Nodes as forms
+use Rattle.opl_form.specs.Nodes.Fault.{eval, large, deep, many}
+use Rattle.opl_given.specs.declared.fault.BindFault.{BindFault}
+use Rattle.opl_given.specs.declared.fault.BindFault.TheVariants as binding
+use Rattle.opl_ground.specs.Ground.{constraints_of}
+use Rattle.opl_meaning.proofs.NoMemoryVariables.{variables_never_memory, variables_never_memory_evaluating}
+use Rattle.opl_meaning.specs.Runs.{names_of, no_names}
+use Rattle.opl_meaning.specs.Variables.{variables_in}
+use Rattle.opl_meaning.specs.declared.fault.MeaningFault.{MeaningFault}
+use Rattle.opl_meaning.specs.declared.fault.MeaningFault.TheVariants as meaning
+use Rattle.opl_meaning.specs.declared.variable.VariableItem.{VariableItem}
+use Rattle.opl_outside.specs.Files.{Files, max_bytes}
+use Rattle.opl_runs.specs.Runs.{not_yet}
+use Rattle.opl_tree.specs.declared.model.ModelTree.{ModelTree}
+use Rattle.opl_words.specs.Requests.{Asked, request}
+use Rattle.opl_tool.specs.declared.refusal.Fault.TheVariants.{NotYet}
 use Rattle.opl_tool.specs.declared.refusal.Fault.TheVariants as faults
 use Rattle.opl_tool.specs.declared.refusal.ItemFault.TheVariants as items
 use Rattle.opl_tool.specs.declared.refusal.Refusal.{Refusal}
 use Rattle.opl_tool.specs.declared.refusal.Refusal.TheVariants.{Words, Absent, TooLong, At, Item}
-use Rattle.opl_tool.specs.declared.scanning.Tokens.{Tokens}
-use Rattle.opl_tool.specs.Judged.{Named, Held, Scanned, Parsed, DataParsed, HasTypes, Understood, Read, Loaded, Fetched, Judged}
-use Rattle.opl_tool.specs.Data.{Comes as Made, HasData, HasFormulas, HasVariables, Posed, Prepared, Runs, formulas_of, positions, refusal_of_data, refusal_of_value, refusal_of_variables, subject_of}
-use Rattle.opl_tool.specs.Subject.{Subject}
-use Rattle.opl_bind.specs.Bind.{Data, bound}
-use Rattle.opl_given.specs.declared.fault.BindFault.{BindFault}
-use Rattle.opl_given.specs.declared.fault.BindFault.TheVariants as binding
-use Rattle.opl_eval.specs.declared.fault.EvalFault.{EvalFault}
-use Rattle.opl_eval.specs.declared.fault.EvalFault.TheVariants as evaluation
-use Rattle.opl_bind.proofs.NoMemoryBind.{never_memory as bound_never}
-use Rattle.opl_meaning.proofs.NoMemory.{formulas_never_memory}
-use Rattle.opl_meaning.proofs.NoMemoryVariables.{variables_never_memory, variables_never_memory_evaluating}
-use Rattle.opl_meaning.specs.Solutions.{scope_of}
-use Rattle.opl_meaning.specs.Runs.{not_yet}
-use Rattle.opl_meaning.specs.Variables.{variables_in}
-use Rattle.opl_meaning.specs.declared.fault.MeaningFault.{MeaningFault}
-use Rattle.opl_meaning.specs.declared.fault.MeaningFault.TheVariants as meaning
-use Rattle.opl_meaning.specs.declared.formula.Formula.{Formula}
-use Rattle.opl_meaning.specs.declared.variable.VariableItem.{VariableItem}
-use Rattle.opl_tool.specs.declared.stop.Stop.{Stop}
+use Rattle.opl_tool.specs.Data.{Comes as Made, Declared, Grounded, HasConstraints, HasData, HasVariables, IsClean, Prepared, Runs, Tested, place_of, refusal_of_data, refusal_of_forms, refusal_of_value, refusal_of_variables, subject_of}
+use Rattle.opl_tool.specs.Judged.{Named, Held, Loaded, Tasked, Answered, Judged}
 use Rattle.opl_tool.specs.Laws.{OneOutcome}
-use Rattle.opl_tool.specs.Stage.{Stage, Then, Each, Only}
-use Rattle.opl_tool.specs.Words.{is_solve, names_of}
+use Rattle.opl_tool.specs.Positions.{positions}
+use Rattle.opl_tool.specs.Stage.{Each}
+use Rattle.opl_tool.proofs.Accepted.{constraints_never_memory}
 use Rattle.opl_tool.proofs.JudgedLemmas.{judged_one}
+use Rattle.opl_tool.proofs.ReadingOutcomes.{read_comes}
+use Rattle.opl_tool.proofs.StageLemmas.{Comes, each_comes, then_comes}
 
--- a stage has an outcome
-abbrev Comes : {A : Type 0} → Stage A → Type 0
-Comes {A} P = (r : Result A Refusal) × P r
-
-then_comes : {A B : Type 0} (P : Stage A) (Q : A → Stage B) → Comes P → ((a : A) → Comes (Q a)) → Comes (Then P Q)
-then_comes P Q (Ok a, p) next = ((next a).0, inl (a, p, (next a).1))
-then_comes P Q (Err e, p) next = (Err e, inr (e, p, refl))
-
-each_comes : {A B : Type 0} (P : ℕ → A → Stage B) → ((n : ℕ) (x : A) → Comes (P n x)) → (n : ℕ) (xs : List A) → Comes (Each P n xs)
-unfolding Each
-each_comes P come n [] = (Ok [], refl)
-each_comes P come n (x ∷ xs) = then_comes (P n x) _ (come n x) (λ y. then_comes (Each P (n + 1) xs) _ (each_comes P come (n + 1) xs) (λ ys. (Ok (y ∷ ys), refl)))
-
-named_by : (words names : List (List ℕ)) (b : Bool) → is_solve words ≡ b → names_of words ≡ names → Comes (Named words)
-named_by words names false command e = (Err Words, (refl, inl command))
-named_by words [] true command e = (Err Words, (refl, inr e))
-named_by words (model ∷ more) true command e = (Ok (model, more), (command, e))
+named_by : (words : List (List ℕ)) (o : Option Asked) → request words ≡ o → Comes (Named words)
+named_by words (Some asked) e = (Ok asked, e)
+named_by words None e = (Err Words, (refl, e))
 
 named_comes : (words : List (List ℕ)) → Comes (Named words)
-named_comes words = named_by words (names_of words) (is_solve words) refl refl
+named_comes words = named_by words (request words) refl
 
 held_by : (files : Files) (file : ℕ) (name bytes : List ℕ) (b : Bool) → files name ≡ Some bytes → nat_lt max_bytes (length bytes) ≡ b → Comes (Held files file name)
 held_by files file name bytes true e t = (Err (TooLong file), inr (refl, rw e (is_less t)))
@@ -84,44 +58,6 @@ held_by files file name bytes false e t = (Ok bytes, (e, is_not t))
 held_at : (files : Files) (file : ℕ) (name : List ℕ) (o : Option (List ℕ)) → files name ≡ o → Comes (Held files file name)
 held_at files file name None e = (Err (Absent file), inl (refl, e))
 held_at files file name (Some bytes) e = held_by files file name bytes (nat_lt max_bytes (length bytes)) e refl
-
-refusal_at : (file : ℕ) (bytes : List ℕ) (fault : ScanFault) → fault ≢ scan.OutOfMemory → Faults bytes fault → Comes (Scanned file bytes)
-refusal_at file bytes (scan.BadByte at) some f = (Err (At BadByte file at), (scan.BadByte at, refl, f))
-refusal_at file bytes (scan.OpenComment at) some f = (Err (At OpenComment file at), (scan.OpenComment at, refl, f))
-refusal_at file bytes (scan.OpenString at) some f = (Err (At OpenString file at), (scan.OpenString at, refl, f))
-refusal_at file bytes (scan.NumberTooLarge at) some f = (Err (At NumberTooLarge file at), (scan.NumberTooLarge at, refl, f))
-refusal_at file bytes scan.OutOfMemory some f = absurd (some refl)
-
-scanned_by : (file : ℕ) (bytes : List ℕ) → ((ts : List Token) × Scans bytes ts) ⊎ ((fault : ScanFault) × (fault ≢ scan.OutOfMemory) × Faults bytes fault) → Comes (Scanned file bytes)
-scanned_by file bytes (inl s) = (Ok (record { list = s.0; end = length bytes }), (s.1, refl))
-scanned_by file bytes (inr f) = refusal_at file bytes f.0 f.1 f.2
-
-scanned_comes : (file : ℕ) (bytes : List ℕ) → Comes (Scanned file bytes)
-scanned_comes file bytes = scanned_by file bytes (total bytes)
-
-parsed_by : (tokens : Tokens) →
-    ((t : ModelTree) × IsTreeOf t tokens.list tokens.end × (depth_model t ≤ 256)) ⊎ (((at : ℕ) × StopsAt tokens.list tokens.end at) ⊎ ((at : ℕ) × OpensAt 256 tokens.list at)) → Comes (Parsed tokens)
-parsed_by tokens (inl t) = (Ok t.0, (t.1, t.2))
-parsed_by tokens (inr (inl s)) = (Err (At Syntax 0 s.0), inl (s.0, refl, s.1))
-parsed_by tokens (inr (inr o)) = (Err (At TooDeep 0 o.0), inr (o.0, refl, o.1))
-
-data_parsed_by : (file : ℕ) (tokens : Tokens) →
-    ((t : DataFile) × data_files.IsTreeOf t tokens.list tokens.end × (depth_file t ≤ 256))
-    ⊎ (((at : ℕ) × data_files.StopsAt tokens.list tokens.end at × data_files.NoneOpens 256 tokens.list) ⊎ ((at : ℕ) × data_files.OpensAt 256 tokens.list at)) → Comes (DataParsed file tokens)
-data_parsed_by file tokens (inl t) = (Ok t.0, (t.1, t.2))
-data_parsed_by file tokens (inr (inl s)) = (Err (At Syntax file s.0), inl (s.0, refl, s.1, s.2))
-data_parsed_by file tokens (inr (inr o)) = (Err (At TooDeep file o.0), inr (o.0, refl, o.1))
-
-data_parsed_comes : (file : ℕ) (tokens : Tokens) → Comes (DataParsed file tokens)
-data_parsed_comes file tokens = data_parsed_by file tokens (of_data.parse_total tokens.list tokens.end)
-
-typed_by : (tree : ModelTree) (r : Result (List Sort) TypeFault) → model tree ≡ r → Comes (HasTypes tree)
-typed_by tree (Ok kinds) e = (Ok tree, (refl, kinds, e))
-typed_by tree (Err (types.Unknown at)) e = (Err (At Unknown 0 at), (types.Unknown at, refl, e))
-typed_by tree (Err (types.Duplicate at)) e = (Err (At Duplicate 0 at), (types.Duplicate at, refl, e))
-typed_by tree (Err (types.NotData at)) e = (Err (At NotData 0 at), (types.NotData at, refl, e))
-typed_by tree (Err (types.Mismatch at)) e = (Err (At Mismatch 0 at), (types.Mismatch at, refl, e))
-typed_by tree (Err types.OutOfMemory) e = absurd (never_memory tree e)
 
 runs_by : (tree : ModelTree) (o : Option ℕ) → not_yet tree ≡ o → Comes (Runs tree)
 runs_by tree None e = (Ok tt, e)
@@ -160,6 +96,12 @@ variables_told (meaning.TooWide at) some other = (At faults.LimitDomain 0 at, re
 variables_told (meaning.TooManyValues at) some other = (At faults.LimitDomains 0 at, refl)
 variables_told meaning.OutOfMemory some other = absurd (some refl)
 
+forms_told : (fault : forms.Fault) → fault ≢ eval evaluation.OutOfMemory → IsTold refusal_of_forms fault
+forms_told (eval fault) some = value_told fault (λ e. some (ap eval e))
+forms_told (large at) some = (At faults.TooLarge 0 at, refl)
+forms_told (deep at) some = (At faults.LimitDepth 0 at, refl)
+forms_told (many at) some = (At faults.LimitNodes 0 at, refl)
+
 data_comes : (tree : ModelTree) (files : List DataFile) → Comes (HasData tree files)
 data_comes tree files = made_comes refusal_of_data _ (bound (positions tree) tree.decls files []) refl (λ fault e.
     data_told fault (λ is. (bound_never (positions tree) tree.decls files []).0 (e ∙ ap Err is)) (λ is. (bound_never (positions tree) tree.decls files []).1 (e ∙ ap Err is)))
@@ -168,35 +110,42 @@ variables_come : (tree : ModelTree) (d : Data) → Comes (HasVariables tree d)
 variables_come tree d = made_comes refusal_of_variables _ (variables_in d.environment [] tree.decls) refl (λ fault e.
     variables_told fault (λ is. variables_never_memory d.environment [] tree.decls (e ∙ ap Err is)) (λ is. variables_never_memory_evaluating d.environment [] tree.decls (e ∙ ap Err is)))
 
-posed_comes : (s : Subject) → Comes (Posed s)
-posed_comes s = then_comes (HasFormulas s.model) _
-    (made_comes refusal_of_value _ (formulas_of s.model) refl (λ fault e. value_told fault (λ is. formulas_never_memory (scope_of s.model.variables) s.model.conditions s.model.environment (e ∙ ap Err is)))) (λ fs. (Ok s, refl))
+clean_by : (tree : ModelTree) (vs : List VariableItem) (b : Bool) → is_clean_instr vs (names_of no_names tree.decls) tree.instr ≡ b → Comes (IsClean tree vs)
+clean_by tree vs true e = (Ok tt, e)
+clean_by tree vs false e = (Err (At NotYet 0 (place_of tree.instr)), (refl, e))
 
-prepared_comes : (tree : ModelTree) (files : List DataFile) → Comes (Prepared tree files)
-prepared_comes tree files = then_comes (Runs tree) _ (runs_by tree (not_yet tree) refl) (λ u.
-    then_comes (HasData tree files) _ (data_comes tree files) (λ d. then_comes (HasVariables tree d) _ (variables_come tree d) (λ vs. posed_comes (subject_of tree d vs))))
+constraints_come : FormsNeverMemory → (tree : ModelTree) (d : Data) (vs : List VariableItem) → Comes (HasConstraints tree d vs)
+constraints_come never tree d vs = made_comes refusal_of_forms _ (constraints_of tree d.environment vs) refl (λ fault e. forms_told fault (λ is. constraints_never_memory never tree d.environment vs (e ∙ ap Err is)))
 
-understood_comes : (tokens : Tokens) (more : List Tokens) → Comes (Understood tokens more)
-understood_comes tokens more = then_comes (Parsed tokens) _ (parsed_by tokens (parse_total tokens.list tokens.end)) (λ tree.
-    then_comes (Each DataParsed 1 more) _ (each_comes DataParsed data_parsed_comes 1 more) (λ files.
-    then_comes (HasTypes tree) _ (typed_by tree (model tree) refl) (λ t. (Ok (t, files), refl))))
+grounded_comes : FormsNeverMemory → (tree : ModelTree) (d : Data) (vs : List VariableItem) → Comes (Grounded tree d vs)
+grounded_comes never tree d vs = then_comes (HasConstraints tree d vs) _ (constraints_come never tree d vs) (λ cs. (Ok (subject_of tree d vs cs), refl))
 
-read_comes : (bytes : List ℕ) (more : List (List ℕ)) → Comes (Read bytes more)
-read_comes bytes more = then_comes (Scanned 0 bytes) _ (scanned_comes 0 bytes) (λ tokens.
-    then_comes (Each Scanned 1 more) _ (each_comes Scanned scanned_comes 1 more) (understood_comes tokens))
+tested_comes : FormsNeverMemory → (tree : ModelTree) (d : Data) (vs : List VariableItem) → Comes (Tested tree d vs)
+tested_comes never tree d vs = then_comes (IsClean tree vs) _ (clean_by tree vs (is_clean_instr vs (names_of no_names tree.decls) tree.instr) refl) (λ u. grounded_comes never tree d vs)
+
+declared_comes : FormsNeverMemory → (tree : ModelTree) (d : Data) → Comes (Declared tree d)
+declared_comes never tree d = then_comes (HasVariables tree d) _ (variables_come tree d) (tested_comes never tree d)
+
+prepared_comes : FormsNeverMemory → (tree : ModelTree) (files : List DataFile) → Comes (Prepared tree files)
+prepared_comes never tree files = then_comes (Runs tree) _ (runs_by tree (not_yet tree) refl) (λ u. then_comes (HasData tree files) _ (data_comes tree files) (declared_comes never tree))
 
 held_comes : (files : Files) (file : ℕ) (name : List ℕ) → Comes (Held files file name)
 held_comes files file name = held_at files file name (files name) refl
 
-loaded_comes : (files : Files) (names : List ℕ × List (List ℕ)) → Comes (Loaded files names)
-loaded_comes files names = then_comes (Held files 0 names.0) _ (held_comes files 0 names.0) (λ bytes.
-    then_comes (Each (Held files) 1 names.1) _ (each_comes (Held files) (held_comes files) 1 names.1) (read_comes bytes))
+loaded_comes : (files : Files) (asked : Asked) → Comes (Loaded files asked)
+loaded_comes files asked = then_comes (Held files 0 asked.model) _ (held_comes files 0 asked.model) (λ bytes.
+    then_comes (Each (Held files) 1 asked.files) _ (each_comes (Held files) (held_comes files) 1 asked.files) (read_comes bytes))
 
-judged_comes : (words : List (List ℕ)) (files : Files) → Comes (Judged words files)
-judged_comes words files = then_comes (Fetched words files) _ (then_comes (Named words) (Loaded files) (named_comes words) (loaded_comes files))
-    (λ trees. prepared_comes trees.0 trees.1)
+tasked_comes : FormsNeverMemory → (asked : Asked) (trees : ModelTree × List DataFile) → Comes (Tasked asked trees)
+tasked_comes never asked trees = then_comes (Prepared trees.0 trees.1) _ (prepared_comes never trees.0 trees.1) (λ s. (Ok (record { command = asked.command; subject = s }), refl))
 
-pub one_outcome : OneOutcome
-one_outcome words files =
-    let it = judged_comes words files in
+answered_comes : FormsNeverMemory → (files : Files) (asked : Asked) → Comes (Answered files asked)
+answered_comes never files asked = then_comes (Loaded files asked) _ (loaded_comes files asked) (tasked_comes never asked)
+
+judged_comes : FormsNeverMemory → (words : List (List ℕ)) (files : Files) → Comes (Judged words files)
+judged_comes never words files = then_comes (Named words) _ (named_comes words) (answered_comes never files)
+
+pub one_outcome : FormsNeverMemory → OneOutcome
+one_outcome never words files =
+    let it = judged_comes never words files in
     (it.0, it.1, λ other j. judged_one words files other it.0 j it.1)

@@ -1,13 +1,11 @@
 -- The positions of fields, as they are kept one after another.
-use Rattle.std.proofs.Common.{◌≡◌, refl, sym, ap, ◌∙◌, subst, ℕ, cond, nat_eq, List, [], ◌∷◌, map, Result, Ok, Err}
-use Rattle.opl_bind.specs.Bind.{Data, bound}
+use Rattle.std.proofs.Common.{◌≡◌, sym, ap, ◌∙◌, subst, ℕ, List, [], Ok, Err}
+use Rattle.opl_bind.specs.Bind.{bound}
 use Rattle.opl_given.specs.Faults as of_data
 use Rattle.opl_bind.specs.Readings.{data_of}
 use Rattle.opl_given.specs.declared.assigned.Override.{Override}
 use Rattle.opl_given.specs.declared.fault.BindFault.{BindFault}
 use Rattle.opl_data.specs.declared.tree.DataFile.{DataFile}
-use Rattle.opl_eval.specs.Visible.{seen}
-use Rattle.opl_eval.specs.declared.environment.Environment as code
 use Rattle.opl_fields.specs.Fields.{fields}
 use Rattle.opl_fields.specs.declared.place.FieldPlace.{FieldPlace}
 use Rattle.opl_tree.specs.declared.declaration.DeclTree.{DeclTree}
@@ -15,7 +13,8 @@ use Rattle.opl_tree.specs.declared.model.ModelTree.{ModelTree}
 use Rattle.opl_model_types.specs.Models.{model}
 use Rattle.opl_type_rules.specs.Types.{Sort}
 use Rattle.opl_tool.specs.declared.stop.Stop.{Stop}
-use Rattle.opl_tool.specs.Data.{HasData, kinds_or_none, position_or, positions, refusal_of_data}
+use Rattle.opl_tool.specs.Data.{HasData, refusal_of_data}
+use Rattle.opl_tool.specs.Positions.{kinds_or_none, position_or, positions}
 use Rattle.opl_tool.specs.Prepared.{stop_at}
 use Rattle.opl_tool.specs.Stage.{Gives}
 use Rattle.opl_tool.proofs.Stops.{data-stops}
@@ -26,11 +25,6 @@ pub positions-begin : (tree : ModelTree) (kinds : List Sort) (found : List Field
 unfolding positions
 positions-begin tree kinds found n place typed is none =
     (λ i. position_or (none i) place (is i)) ∙ ap (λ ks. position_or 0 place (fields tree (kinds_or_none ks))) (sym typed)
-
--- no parameter is declared
-pub no-parameters : (env : code.Environment) → (seen env).parameters ≡ []
-unfolding seen
-no-parameters env = refl
 
 -- the data of a model came to an end
 pub data-ended : (tree : ModelTree) (files fs : List DataFile) (ds : List DeclTree) (os : List Override) (p : ℕ → ℕ) (fault : BindFault) (stop : Stop) →

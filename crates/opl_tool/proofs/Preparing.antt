@@ -1,28 +1,27 @@
--- One stage behind another, up to what is solved.
-use Rattle.std.proofs.Common.{◌≡◌, refl, sym, ap, ◌∙◌, subst, List, [], Option, Some, None, Result, Ok, Err, inl, inr}
-use Rattle.opl_meaning.specs.Solutions.{solutions}
-use Rattle.opl_meaning.specs.declared.formula.Formula.{Formula}
-use Rattle.opl_solve.specs.Found.{found}
-use Rattle.opl_tool.specs.declared.problem.Problem.{Problem}
-use Rattle.opl_tool.specs.declared.refusal.Refusal.{Refusal}
-use Rattle.opl_tool.specs.declared.stop.Stop.{Stop}
-use Rattle.opl_tool.specs.declared.stop.Stop.TheVariants.{Refused, ReadFault, WriteFault, OutOfMemory}
+-- One stage behind another, up to what a call is about.
+use Rattle.std.proofs.Common.{◌≡◌, refl, ◌∙◌, subst, List, Result, Ok, Err, inl, inr, All}
 use Rattle.opl_bind.specs.Bind.{Data}
+use Rattle.opl_complete.specs.Complete.{SearchBegins, SearchFindsAll}
 use Rattle.opl_data.specs.declared.tree.DataFile.{DataFile}
+use Rattle.opl_eval.specs.ArrayKeys.{IsKeyed}
+use Rattle.opl_expr.specs.declared.model.Core.{Core}
 use Rattle.opl_meaning.specs.declared.variable.VariableItem.{VariableItem}
+use Rattle.opl_show.specs.Texts.{Enumerations}
 use Rattle.opl_tree.specs.declared.model.ModelTree.{ModelTree}
-use Rattle.opl_model_types.specs.Models.{model}
-use Rattle.opl_type_rules.specs.Types.{Sort}
-use Rattle.opl_tool.specs.Data.{HasData, HasFormulas, HasVariables, Posed, Prepared, Runs, subject_of}
-use Rattle.opl_tool.specs.Prepared.{GivesPosed, Poses, enumerations_in}
-use Rattle.opl_tool.specs.Stage.{Stage, Then, Gives}
+use Rattle.opl_tool.specs.declared.problem.Problem.{Problem}
+use Rattle.opl_tool.specs.declared.stop.Stop.{Stop}
+use Rattle.opl_tool.specs.declared.stop.Stop.TheVariants.{Refused, Spent, ReadFault, WriteFault, OutOfMemory}
+use Rattle.opl_tool.specs.Data.{Bound, Declared, Grounded, HasConstraints, HasData, HasVariables, IsClean, Prepared, Runs, Tested, subject_of}
+use Rattle.opl_tool.specs.Prepared.{GivesCore, GivesPosed, enumerations_in}
+use Rattle.opl_tool.specs.Stage.{Stage, Then, Only, Gives}
 use Rattle.opl_tool.specs.Subject.{Subject}
-use Rattle.opl_tool.proofs.Posing.{found-solutions}
+use Rattle.opl_tool.proofs.Accepted.{subject-ready}
 
--- the first stage gave a value, and what is solved comes of that
+-- the first stage gave a value, and what the call is about comes of that
 pub then-posed : {A : Type 0} (P : Stage A) (Q : A → Stage Subject) (a : A) (r : Result Problem Stop) → P (Ok a) → GivesPosed (Q a) r → GivesPosed (Then P Q) r
 then-posed P Q a (Ok p) h q = (q.0, inl (a, h, q.1), q.2)
 then-posed P Q a (Err (Refused e)) h q = inl (a, h, q)
+then-posed P Q a (Err Spent) h q = q
 then-posed P Q a (Err ReadFault) h q = q
 then-posed P Q a (Err WriteFault) h q = q
 then-posed P Q a (Err OutOfMemory) h q = q
@@ -30,56 +29,72 @@ then-posed P Q a (Err OutOfMemory) h q = q
 -- the first stage ended
 pub then-unposed : {A : Type 0} (P : Stage A) (Q : A → Stage Subject) (stop : Stop) → Gives P (Err stop) → GivesPosed (Then P Q) (Err stop)
 then-unposed P Q (Refused e) p = inr (e, p, refl)
+then-unposed P Q Spent p = p
 then-unposed P Q ReadFault p = p
 then-unposed P Q WriteFault p = p
 then-unposed P Q OutOfMemory p = tt
 
--- the formulas were made
-pub posed-by : (s : Subject) (fs : List Formula) (p : Problem) → HasFormulas s.model (Ok fs) → Poses s p → GivesPosed (Posed s) (Ok p)
-posed-by s fs p h poses = (s, inl (fs, h, refl), poses)
+-- what does not run yet ended it
+pub runs-stopped : (tree : ModelTree) (files : List DataFile) (stop : Stop) → Gives (Runs tree) (Err stop) → GivesPosed (Prepared tree files) (Err stop)
+runs-stopped tree files stop h = then-unposed (Runs tree) (λ u. Bound tree files) stop h
 
--- ---- the stages of what is prepared
+module _ (tree : ModelTree) (files these : List DataFile) (same : these ≡ files) (ran : Runs tree (Ok tt)) where
+  -- the data came to an end
+  pub data-stopped : (stop : Stop) → Gives (HasData tree these) (Err stop) → GivesPosed (Prepared tree files) (Err stop)
+  data-stopped stop h =
+      then-posed (Runs tree) (λ u. Bound tree files) tt (Err stop) ran (then-unposed (HasData tree files) (Declared tree) stop
+      (subst (λ (fs : List DataFile). Gives (HasData tree fs) (Err stop)) same h))
 
--- what comes behind the data, and behind what runs
-abbrev Variables : ModelTree → Data → Stage Subject
-Variables tree d = Then (HasVariables tree d) (λ vs. Posed (subject_of tree d vs))
+  module _ (d : Data) (given : HasData tree these (Ok d)) where
+    -- the data of these files
+    of_files : HasData tree files (Ok d)
+    of_files = subst (λ (fs : List DataFile). HasData tree fs (Ok d)) same given
 
-abbrev Bindings : ModelTree → List DataFile → Stage Subject
-Bindings tree files = Then (HasData tree files) (Variables tree)
+    behind_data : (r : Result Problem Stop) → GivesPosed (Declared tree d) r → GivesPosed (Prepared tree files) r
+    behind_data r h = then-posed (Runs tree) (λ u. Bound tree files) tt r ran (then-posed (HasData tree files) (Declared tree) d r of_files h)
 
-module _ (tree : ModelTree) (files these : List DataFile) (d : Data) (same : these ≡ files) where
-  -- the data of these files
-  of_files : HasData tree these (Ok d) → HasData tree files (Ok d)
-  of_files bound = subst (λ (fs : List DataFile). HasData tree fs (Ok d)) same bound
+    -- the variables came to an end
+    pub variables-stopped : (stop : Stop) → Gives (HasVariables tree d) (Err stop) → GivesPosed (Prepared tree files) (Err stop)
+    variables-stopped stop h = behind_data (Err stop) (then-unposed (HasVariables tree d) (Tested tree d) stop h)
 
-  -- the data are bound, and the variables came to an end
-  pub variables-stopped : (u : Unit {0}) (stop : Stop) → Runs tree (Ok u) → HasData tree these (Ok d) → Gives (HasVariables tree d) (Err stop) → GivesPosed (Prepared tree files) (Err stop)
-  variables-stopped u stop ran bound h =
-      then-posed (Runs tree) (λ v. Bindings tree files) u (Err stop) ran (then-posed (HasData tree files) (Variables tree) d (Err stop) (of_files bound)
-      (then-unposed (HasVariables tree d) (λ vs. Posed (subject_of tree d vs)) stop h))
+    module _ (vs : List VariableItem) (made : HasVariables tree d (Ok vs)) (ws : List VariableItem) (alike : ws ≡ vs) where
+      behind_variables : (r : Result Problem Stop) → GivesPosed (Tested tree d vs) r → GivesPosed (Prepared tree files) r
+      behind_variables r h = behind_data r (then-posed (HasVariables tree d) (Tested tree d) vs r made h)
 
-  -- what comes behind the variables
-  behind : (u : Unit {0}) (vs : List VariableItem) (r : Result Problem Stop) → Runs tree (Ok u) → HasData tree files (Ok d) → HasVariables tree d (Ok vs) →
-      GivesPosed (Posed (subject_of tree d vs)) r → GivesPosed (Prepared tree files) r
-  behind u vs r ran bound made h =
-      then-posed (Runs tree) (λ v. Bindings tree files) u r ran (then-posed (HasData tree files) (Variables tree) d r bound
-      (then-posed (HasVariables tree d) (λ ws. Posed (subject_of tree d ws)) vs r made h))
+      -- variables stand where they may not
+      pub clean-stopped : (stop : Stop) → Gives (IsClean tree ws) (Err stop) → GivesPosed (Prepared tree files) (Err stop)
+      clean-stopped stop h = behind_variables (Err stop) (then-unposed (IsClean tree vs) (λ u. Grounded tree d vs) stop
+          (subst (λ (xs : List VariableItem). Gives (IsClean tree xs) (Err stop)) alike h))
 
-  -- the conditions came to an end
-  pub formulas-stopped : (u : Unit {0}) (vs ws : List VariableItem) (alike : ws ≡ vs) (stop : Stop) → Runs tree (Ok u) → HasData tree these (Ok d) → HasVariables tree d (Ok vs) →
-      Gives (HasFormulas (subject_of tree d ws).model) (Err stop) → GivesPosed (Prepared tree files) (Err stop)
-  formulas-stopped u vs ws alike stop ran bound made h =
-      behind u vs (Err stop) ran (of_files bound) made (then-unposed (HasFormulas (subject_of tree d vs).model) (λ fs. λ r. r ≡ Ok (subject_of tree d vs)) stop
-      (subst (λ (xs : List VariableItem). Gives (HasFormulas (subject_of tree d xs).model) (Err stop)) alike h))
+      module _ (clean : IsClean tree ws (Ok tt)) (xs : List VariableItem) (alike_too : xs ≡ vs) where
+        clean_too : IsClean tree vs (Ok tt)
+        clean_too = subst (λ (us : List VariableItem). IsClean tree us (Ok tt)) alike clean
 
-  -- all is prepared
-  pub all-prepared : (u : Unit {0}) (vs ws : List VariableItem) (alike : ws ≡ vs) (fs : List Formula) (p : Problem) (kinds : List Sort) → model tree ≡ Ok kinds → d.environment.parameters ≡ [] →
-      Runs tree (Ok u) → HasData tree these (Ok d) → HasVariables tree d (Ok vs) → HasFormulas (subject_of tree d ws).model (Ok fs) →
-      p.variables ≡ vs → p.formulas ≡ fs → enumerations_in p ≡ d.known.enumerations → GivesPosed (Prepared tree files) (Ok p)
-  all-prepared u vs ws alike fs p kinds typed none ran bound made posed_there variables formulas names =
-      let posed = subst (λ (xs : List VariableItem). HasFormulas (subject_of tree d xs).model (Ok fs)) alike posed_there in
-      behind u vs (Ok p) ran (of_files bound) made (posed-by (subject_of tree d vs) fs p posed (record {
-        variables_are = variables;
-        enumerations_are = names;
-        solutions_are = (λ i. found (variables i) (formulas i)) ∙ found-solutions tree kinds d vs fs typed ran none made posed;
-      }))
+        behind_clean : (r : Result Problem Stop) → GivesPosed (Grounded tree d vs) r → GivesPosed (Prepared tree files) r
+        behind_clean r h = behind_variables r (then-posed (IsClean tree vs) (λ u. Grounded tree d vs) tt r clean_too h)
+
+        -- the constraints came to an end
+        pub core-stopped : (stop : Stop) → Gives (HasConstraints tree d xs) (Err stop) → GivesPosed (Prepared tree files) (Err stop)
+        core-stopped stop h = behind_clean (Err stop) (then-unposed (HasConstraints tree d vs) (λ cs. Only (subject_of tree d vs cs)) stop
+            (subst (λ (us : List VariableItem). Gives (HasConstraints tree d us) (Err stop)) alike_too h))
+
+        posed : SearchFindsAll → SearchBegins → (core : Core) (p : Problem) → All (λ i. IsKeyed i.value) d.environment.items → GivesCore tree d d.known.enumerations vs (Ok core) →
+            p.variables ≡ vs → enumerations_in p ≡ d.known.enumerations → p.core.value ≡ core → GivesPosed (Grounded tree d vs) (Ok p)
+        posed finds_all begins core p keyed (cs, formed, is) variables names holds = (
+          subject_of tree d vs cs,
+          inl (cs, formed, refl),
+          record {
+            variables_are = variables;
+            enumerations_are = names;
+            core_is = holds ∙ is;
+            is_ready = subject-ready finds_all begins tree files d vs cs keyed of_files made clean_too formed;
+          },
+        )
+
+        -- all is prepared
+        pub all-prepared : SearchFindsAll → SearchBegins → (e : Enumerations) (core : Core) (p : Problem) → All (λ i. IsKeyed i.value) d.environment.items → e ≡ d.known.enumerations →
+            GivesCore tree d e xs (Ok core) → p.variables ≡ vs → enumerations_in p ≡ d.known.enumerations → p.core.value ≡ core → GivesPosed (Prepared tree files) (Ok p)
+        all-prepared finds_all begins e core p keyed names_are given_core variables names holds =
+            behind_clean (Ok p) (posed finds_all begins core p keyed
+            (subst (λ (us : List VariableItem). GivesCore tree d d.known.enumerations us (Ok core)) alike_too (subst (λ (es : Enumerations). GivesCore tree d es xs (Ok core)) names_are given_core))
+            variables names holds)

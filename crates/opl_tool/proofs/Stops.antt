@@ -1,25 +1,20 @@
--- Why a call ends at a fault of its data, its variables or its conditions.
-use Rattle.std.proofs.Common.{◌≡◌, refl, sym, ap, ◌∙◌, subst, ℕ, List, [], map, Option, Some, None, Result, Ok, Err, inl, inr}
-use Rattle.opl_eval.specs.Evaluation.{Found, all}
-use Rattle.opl_term.specs.declared.term.Term.{Term}
-use Rattle.opl_meaning.specs.Formulas.{formula_of}
-use Rattle.opl_meaning.specs.Solutions.{conditions, scope_of}
-use Rattle.opl_meaning.specs.declared.variable.VariableItem.{VariableItem}
-use Rattle.opl_tree.specs.declared.model.ModelTree.{ModelTree}
-use Rattle.opl_bind.specs.Bind.{Data, bound}
+-- Why a call ends at a fault of its data, its variables or its constraints.
+use Rattle.std.proofs.Common.{◌≡◌, refl, Option, Some, None, Result, Err}
+use Rattle.opl_form.specs.Nodes.{Made}
+use Rattle.opl_form.specs.Nodes.Fault.{eval, large, deep, many}
 use Rattle.opl_given.specs.Faults as of_data
 use Rattle.opl_given.specs.declared.fault.BindFault.{BindFault}
 use Rattle.opl_given.specs.declared.fault.BindFault.TheVariants as binding
-use Rattle.opl_data.specs.declared.tree.DataFile.{DataFile}
-use Rattle.opl_eval.specs.declared.fault.EvalFault.{EvalFault}
 use Rattle.opl_meaning.specs.Faults as of_meaning
 use Rattle.opl_meaning.specs.declared.fault.MeaningFault.{MeaningFault}
 use Rattle.opl_meaning.specs.declared.fault.MeaningFault.TheVariants as meaning
+use Rattle.opl_nodes.specs.Pieces.{Refuses}
+use Rattle.opl_nodes.specs.declared.fault.FormFault.{FormFault}
+use Rattle.opl_nodes.specs.declared.fault.FormFault.TheVariants as form
 use Rattle.opl_tool.specs.declared.refusal.Refusal.{Refusal}
 use Rattle.opl_tool.specs.declared.stop.Stop.{Stop}
-use Rattle.opl_tool.specs.declared.stop.Stop.TheVariants.{Refused, OutOfMemory}
-use Rattle.opl_tool.specs.Data.{Comes, HasFormulas, formulas_of, subject_of, refusal_of_data, refusal_of_value, refusal_of_variables}
-use Rattle.opl_tool.specs.Prepared.{stop_at}
+use Rattle.opl_tool.specs.Data.{Comes, refusal_of_data, refusal_of_forms, refusal_of_variables}
+use Rattle.opl_tool.specs.Prepared.{StopsForms, stop_at}
 use Rattle.opl_tool.specs.Stage.{Gives}
 
 -- a definition has a fault, and the call ends at it
@@ -53,23 +48,10 @@ variables-stop reading made (meaning.TooWide at) h = stops-at refusal_of_variabl
 variables-stop reading made (meaning.TooManyValues at) h = stops-at refusal_of_variables made (meaning.TooManyValues at) h
 variables-stop reading made meaning.OutOfMemory h = tt
 
--- a fault of the values in conditions
-pub values-stop : {A : Type 0} (found : Found A) (fault : MeaningFault) → of_meaning.Makes (of_meaning.evaluated found) (Err fault) → Gives (Comes refusal_of_value found) (Err (stop_at (refusal_of_variables fault)))
-values-stop (Ok a) (meaning.Eval value) h = absurd (cc)
-values-stop (Ok a) (meaning.TooManyVariables at) h = absurd (cc)
-values-stop (Ok a) (meaning.TooFar at) h = absurd (cc)
-values-stop (Ok a) (meaning.TooWide at) h = absurd (cc)
-values-stop (Ok a) (meaning.TooManyValues at) h = absurd (cc)
-values-stop (Ok a) meaning.OutOfMemory h = tt
-values-stop (Err e) (meaning.Eval value) h = stops-at refusal_of_value (Err e) value (cc)
-values-stop (Err e) (meaning.TooManyVariables at) h = absurd (cc)
-values-stop (Err e) (meaning.TooFar at) h = absurd (cc)
-values-stop (Err e) (meaning.TooWide at) h = absurd (cc)
-values-stop (Err e) (meaning.TooManyValues at) h = absurd (cc)
-values-stop (Err e) meaning.OutOfMemory h = tt
-
--- the call ends at the first fault of the values in conditions
-pub formulas-ended : (tree : ModelTree) (d : Data) (vs : List VariableItem) (these : List Term) (fault : MeaningFault) (stop : Stop) → these ≡ conditions tree.instr →
-    of_meaning.Makes (of_meaning.evaluated (all (map (λ t. formula_of (scope_of vs) t d.environment) these))) (Err fault) → stop ≡ stop_at (refusal_of_variables fault) → Gives (HasFormulas (subject_of tree d vs).model) (Err stop)
-formulas-ended tree d vs these fault stop same h told =
-    rw told (values-stop (formulas_of (subject_of tree d vs).model) fault (subst (λ ts. of_meaning.Makes (of_meaning.evaluated (all (map (λ t. formula_of (scope_of vs) t d.environment) ts))) (Err fault)) same h))
+-- a fault of constraints
+pub forms-stop : {A : Type 0} (made : Made A) (fault : FormFault) (stop : Stop) → Refuses made fault → StopsForms fault stop → Gives (Comes refusal_of_forms made) (Err stop)
+forms-stop made form.OutOfMemory stop h told = rw told tt
+forms-stop made (form.Eval fault) stop h told = rw told (stops-at refusal_of_forms made (eval fault) h)
+forms-stop made (form.TooLarge at) stop h told = rw told (stops-at refusal_of_forms made (large at) h)
+forms-stop made (form.Depth at) stop h told = rw told (stops-at refusal_of_forms made (deep at) h)
+forms-stop made (form.Nodes at) stop h told = rw told (stops-at refusal_of_forms made (many at) h)

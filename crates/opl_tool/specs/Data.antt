@@ -1,31 +1,34 @@
--- From a model whose expressions have types and its data files to what is solved.
-use Rattle.std.specs.Prelude.{◌≡◌, ⊤, ℕ, cond, nat_eq, List, [], ◌∷◌, map, Option, Some, None, Result, Ok, Err}
+-- From a model whose expressions have types and its data files to its core.
+use Rattle.std.specs.Prelude.{◌≡◌, ℕ, true, false, List, [], Option, Some, None, Result, Ok, Err}
 use Rattle.opl_bind.specs.Bind.{Data, bound}
+use Rattle.opl_complete.specs.Complete.{model_of}
 use Rattle.opl_given.specs.declared.fault.BindFault.{BindFault}
 use Rattle.opl_given.specs.declared.fault.BindFault.TheVariants as binding
 use Rattle.opl_data.specs.declared.tree.DataFile.{DataFile}
-use Rattle.opl_eval.specs.Evaluation.{Found, all}
+use Rattle.opl_draft.specs.Clean.{is_clean_instr}
 use Rattle.opl_eval.specs.declared.fault.EvalFault.{EvalFault}
 use Rattle.opl_eval.specs.declared.fault.EvalFault.TheVariants as evaluation
-use Rattle.opl_fields.specs.Fields.{fields}
-use Rattle.opl_fields.specs.declared.place.FieldPlace.{FieldPlace}
-use Rattle.opl_meaning.specs.Formulas.{formula_of}
-use Rattle.opl_meaning.specs.Runs.{not_yet}
-use Rattle.opl_meaning.specs.Solutions.{Model, conditions, scope_of}
+use Rattle.opl_expr.specs.declared.forms.Cons.{Cons}
+use Rattle.opl_form.specs.Nodes as forms
+use Rattle.opl_form.specs.Nodes.Fault.{eval, large, deep, many}
+use Rattle.opl_ground.specs.Declared.{core_of}
+use Rattle.opl_ground.specs.Ground.{constraints_of}
+use Rattle.opl_ground.specs.Names.{variable_names}
+use Rattle.opl_meaning.specs.Runs.{names_of, no_names}
 use Rattle.opl_meaning.specs.Variables.{variables_in}
 use Rattle.opl_meaning.specs.declared.fault.MeaningFault.{MeaningFault}
 use Rattle.opl_meaning.specs.declared.fault.MeaningFault.TheVariants as meaning
-use Rattle.opl_meaning.specs.declared.formula.Formula.{Formula}
 use Rattle.opl_meaning.specs.declared.variable.VariableItem.{VariableItem}
+use Rattle.opl_runs.specs.Runs.{not_yet}
+use Rattle.opl_tree.specs.declared.instruction.InstrTree.{InstrTree}
+use Rattle.opl_tree.specs.declared.instruction.InstrTree.TheVariants as instr
 use Rattle.opl_tree.specs.declared.model.ModelTree.{ModelTree}
-use Rattle.opl_model_types.specs.Models.{model}
-use Rattle.opl_type_rules.specs.Types.{Sort}
-use Rattle.opl_type_rules.specs.declared.fault.TypeFault.{TypeFault}
 use Rattle.opl_tool.specs.declared.refusal.Fault.TheVariants as faults
 use Rattle.opl_tool.specs.declared.refusal.ItemFault.TheVariants as items
 use Rattle.opl_tool.specs.declared.refusal.Refusal.{Refusal}
 use Rattle.opl_tool.specs.declared.refusal.Refusal.TheVariants.{At, Item}
-use Rattle.opl_tool.specs.Stage.{Stage, Then}
+use Rattle.opl_tool.specs.Positions.{positions}
+use Rattle.opl_tool.specs.Stage.{Stage, Then, Only}
 use Rattle.opl_tool.specs.Subject.{Subject}
 
 -- ---- what runs
@@ -62,51 +65,66 @@ refusal_of_variables (meaning.TooWide at) = Some (At faults.LimitDomain 0 at)
 refusal_of_variables (meaning.TooManyValues at) = Some (At faults.LimitDomains 0 at)
 refusal_of_variables meaning.OutOfMemory = None
 
+abbrev pub refusal_of_forms : forms.Fault → Option Refusal
+refusal_of_forms (eval fault) = refusal_of_value fault
+refusal_of_forms (large at) = Some (At faults.TooLarge 0 at)
+refusal_of_forms (deep at) = Some (At faults.LimitDepth 0 at)
+refusal_of_forms (many at) = Some (At faults.LimitNodes 0 at)
+
 -- what a definition comes to: a value, or the refusal at its first fault
 abbrev pub Comes : {A E : Type 0} → (E → Option Refusal) → Result A E → Stage A
 Comes refusal made (Ok a) = made ≡ Ok a
 Comes {E = E} refusal made (Err e) = (fault : E) × (refusal fault ≡ Some e) × (made ≡ Err fault)
 
--- ---- the data
-
--- the types of a model's expressions in preorder
-abbrev pub kinds_or_none : Result (List Sort) TypeFault → List Sort
-kinds_or_none (Ok kinds) = kinds
-kinds_or_none (Err fault) = []
-
--- the position of the latest field with that place, else the one before
-abbrev pub position_or : ℕ → ℕ → List FieldPlace → ℕ
-position_or before place [] = before
-position_or before place (f ∷ fs) = position_or (cond (nat_eq place f.place) f.position before) place fs
-
--- the position in its struct of the field whose name stands at a place of a model
-unfoldable pub positions : ModelTree → ℕ → ℕ
-positions tree place = position_or 0 place (fields tree (kinds_or_none (model tree)))
+-- ---- the data and the variables
 
 -- the data of a model
 abbrev pub HasData : ModelTree → List DataFile → Stage Data
 HasData tree files = Comes refusal_of_data (bound (positions tree) tree.decls files [])
 
--- ---- the variables and the conditions
-
+-- its decision variables
 abbrev pub HasVariables : ModelTree → Data → Stage (List VariableItem)
 HasVariables tree d = Comes refusal_of_variables (variables_in d.environment [] tree.decls)
 
--- the parts of conditions without variables are evaluated once, in the order of the text
-abbrev pub formulas_of : Model → Found (List Formula)
-formulas_of m = all (map (λ t. formula_of (scope_of m.variables) t m.environment) m.conditions)
+-- ---- the constraints
 
-abbrev pub HasFormulas : Model → Stage (List Formula)
-HasFormulas m = Comes refusal_of_value (formulas_of m)
+-- the place of an instruction's first token
+abbrev pub place_of : InstrTree → ℕ
+place_of (instr.Solve at block) = at
+place_of (instr.Optimize at optimum objective block) = at
 
--- the model with its data
-abbrev pub subject_of : ModelTree → Data → List VariableItem → Subject
-subject_of tree d vs = record { model = record { environment = d.environment; variables = vs; conditions = conditions tree.instr }; enumerations = d.known.enumerations }
+-- decision variables stand in the instruction only where they may
+abbrev pub IsClean : ModelTree → List VariableItem → Stage (Unit {0})
+IsClean tree vs (Ok u) = is_clean_instr vs (names_of no_names tree.decls) tree.instr ≡ true
+IsClean tree vs (Err e) = (e ≡ At faults.NotYet 0 (place_of tree.instr)) × (is_clean_instr vs (names_of no_names tree.decls) tree.instr ≡ false)
 
--- where the parts of its conditions have values
-abbrev pub Posed : Subject → Stage Subject
-Posed s = Then (HasFormulas s.model) (λ fs. λ r. r ≡ Ok s)
+-- the constraints of its instances
+abbrev pub HasConstraints : ModelTree → Data → List VariableItem → Stage (List Cons)
+HasConstraints tree d vs = Comes refusal_of_forms (constraints_of tree d.environment vs)
 
--- what is solved of a model with types and its data files
+-- the model with its data, and its core
+abbrev pub subject_of : ModelTree → Data → List VariableItem → List Cons → Subject
+subject_of tree d vs cs = record {
+  model = model_of tree d.environment vs;
+  enumerations = d.known.enumerations;
+  core = core_of (variable_names d.known.enumerations vs) d.environment vs cs;
+}
+
+-- ---- all of it
+
+-- what is behind the test of the instruction, behind the variables, and behind the data
+abbrev pub Grounded : ModelTree → Data → List VariableItem → Stage Subject
+Grounded tree d vs = Then (HasConstraints tree d vs) (λ cs. Only (subject_of tree d vs cs))
+
+abbrev pub Tested : ModelTree → Data → List VariableItem → Stage Subject
+Tested tree d vs = Then (IsClean tree vs) (λ u. Grounded tree d vs)
+
+abbrev pub Declared : ModelTree → Data → Stage Subject
+Declared tree d = Then (HasVariables tree d) (Tested tree d)
+
+abbrev pub Bound : ModelTree → List DataFile → Stage Subject
+Bound tree files = Then (HasData tree files) (Declared tree)
+
+-- what a model with types and its data files come to: what does not run yet comes first, then the data, the variables and the constraints
 abbrev pub Prepared : ModelTree → List DataFile → Stage Subject
-Prepared tree files = Then (Runs tree) (λ u. Then (HasData tree files) (λ d. Then (HasVariables tree d) (λ vs. Posed (subject_of tree d vs))))
+Prepared tree files = Then (Runs tree) (λ u. Bound tree files)

@@ -3,18 +3,19 @@ use Rattle.std.specs.Prelude.{◌≡◌, ◌⊎◌, ℕ, List, ◌++◌, Option,
 use Rattle.opl_outside.specs.Becomes.{Becomes}
 use Rattle.opl_outside.specs.Counts.{Rose}
 use Rattle.opl_outside.specs.Files.{Files}
-use Rattle.opl_tool.specs.Subject.{Subject}
-use Rattle.opl_tool.specs.declared.stop.Stop.{Stop}
-use Rattle.opl_tool.specs.declared.stop.Stop.TheVariants.{Refused, ReadFault, WriteFault, OutOfMemory}
-use Rattle.opl_tool.specs.Judged.{Judged}
-use Rattle.opl_meaning.specs.Solutions.{solutions}
 use Rattle.opl_solve.specs.Printing.{GainsFront}
-use Rattle.opl_solve.specs.Texts.{count_from}
-use Rattle.opl_tool.specs.Subject.{subject_text}
+use Rattle.opl_tool.specs.declared.answer.Answer.{Answer}
+use Rattle.opl_tool.specs.declared.answer.Answer.TheVariants as answer
+use Rattle.opl_tool.specs.declared.stop.Ended.{Ended}
+use Rattle.opl_tool.specs.declared.stop.Ended.TheVariants.{Done, NoSolution}
+use Rattle.opl_tool.specs.declared.stop.Stop.{Stop}
+use Rattle.opl_tool.specs.declared.stop.Stop.TheVariants.{Refused, Spent, ReadFault, WriteFault, OutOfMemory}
+use Rattle.opl_tool.specs.Prepared.{IsReady}
+use Rattle.opl_tool.specs.Stage.{Stage}
+use Rattle.opl_tool.specs.Tasks.{Task, task_answer, task_text}
 
--- what is seen of a call: its words, the files that are told, what is written before and after it, and the counts of faults
+-- what is seen of a call: the files that are told, what is written before and after it, and the counts of faults
 pub record Call : Type 0 where
-  pub words : List (List ℕ)
   pub files : Option Files
   pub old : Option (List ℕ)
   pub new : Option (List ℕ)
@@ -23,23 +24,29 @@ pub record Call : Type 0 where
   pub faults_before : ℕ
   pub faults_now : ℕ
 
--- the model's whole text is written, with so many solutions
-pub record Solved (c : Call) (shown : ℕ) (files : Files) : Type 0 where
-  pub subject : Subject
-  pub judged : Judged c.words files (Ok subject)
-  pub count : shown ≡ count_from 0 (solutions subject.model)
-  pub written : Becomes c.old c.new (λ before now. now ≡ before ++ subject_text subject)
+-- Of a call that comes to this with its files: the task's whole text is written, and this is its answer.
+pub record Finished (comes : Files → Stage Task) (c : Call) (a : Answer) (files : Files) : Type 0 where
+  pub task : Task
+  pub judged : comes files (Ok task)
+  pub is_ready : IsReady task.subject
+  pub answers : task_answer task ≡ a
+  pub written : Becomes c.old c.new (λ before now. now ≡ before ++ task_text task)
 
--- a front of the model's text is written
-pub record Stopped (c : Call) (files : Files) : Type 0 where
-  pub subject : Subject
-  pub judged : Judged c.words files (Ok subject)
-  pub written : Becomes c.old c.new (λ before now. GainsFront before now (subject_text subject))
+-- a front of the task's text is written
+pub record Stopped (comes : Files → Stage Task) (c : Call) (files : Files) : Type 0 where
+  pub task : Task
+  pub judged : comes files (Ok task)
+  pub is_ready : IsReady task.subject
+  pub written : Becomes c.old c.new (λ before now. GainsFront before now (task_text task))
 
 -- how the work of a call ends
-abbrev pub Ends : Call → Result ℕ Stop → Type 0
-Ends c (Ok shown) = (c.reads_now ≡ c.reads_before) × (c.faults_now ≡ c.faults_before) × IfSome c.files (Solved c shown)
-Ends c (Err (Refused e)) = (c.reads_now ≡ c.reads_before) × (c.faults_now ≡ c.faults_before) × (c.new ≡ c.old) × IfSome c.files (λ files. Judged c.words files (Err e))
-Ends c (Err ReadFault) = Rose c.reads_before c.reads_now × (c.faults_now ≡ c.faults_before) × (c.new ≡ c.old)
-Ends c (Err WriteFault) = (c.reads_now ≡ c.reads_before) × Rose c.faults_before c.faults_now × IfSome c.files (Stopped c)
-Ends c (Err OutOfMemory) = (c.reads_now ≡ c.reads_before) × (c.faults_now ≡ c.faults_before) × ((c.new ≡ c.old) ⊎ IfSome c.files (Stopped c))
+abbrev pub Ends : (Files → Stage Task) → Call → Result Ended Stop → Type 0
+Ends comes c (Ok Done) = (c.reads_now ≡ c.reads_before) × (c.faults_now ≡ c.faults_before) × IfSome c.files (Finished comes c answer.Done)
+Ends comes c (Ok NoSolution) = (c.reads_now ≡ c.reads_before) × (c.faults_now ≡ c.faults_before) × IfSome c.files (Finished comes c answer.NoSolution)
+Ends comes c (Err (Refused e)) =
+    (c.reads_now ≡ c.reads_before) × (c.faults_now ≡ c.faults_before) × (c.new ≡ c.old) × IfSome c.files (λ files. comes files (Err e))
+Ends comes c (Err Spent) = (c.reads_now ≡ c.reads_before) × (c.faults_now ≡ c.faults_before) × IfSome c.files (Finished comes c answer.Spent)
+Ends comes c (Err ReadFault) = Rose c.reads_before c.reads_now × (c.faults_now ≡ c.faults_before) × (c.new ≡ c.old)
+Ends comes c (Err WriteFault) = (c.reads_now ≡ c.reads_before) × Rose c.faults_before c.faults_now × IfSome c.files (Stopped comes c)
+Ends comes c (Err OutOfMemory) =
+    (c.reads_now ≡ c.reads_before) × (c.faults_now ≡ c.faults_before) × ((c.new ≡ c.old) ⊎ IfSome c.files (Stopped comes c))

@@ -1,34 +1,35 @@
 -- What a call answers, and what it prints.
-use Rattle.std.specs.Prelude.{◌≡◌, ◌≢◌, ◌⊎◌, ℕ, zero, suc, List, [], ◌++◌, Option, Result, Ok, Err}
+use Rattle.std.specs.Prelude.{◌≡◌, ◌≢◌, ◌⊎◌, ℕ, List, ◌++◌, Option, Result, Ok, Err}
 use Rattle.opl_outside.specs.Becomes.{Becomes}
 use Rattle.opl_outside.specs.Files.{Files}
-use Rattle.opl_tool.specs.Subject.{Subject}
 use Rattle.opl_tool.specs.declared.answer.Answer.{Answer}
 use Rattle.opl_tool.specs.declared.answer.Answer.TheVariants.{Done, NoSolution, Refused, Spent, ReadFault, WriteFault, OutOfMemory, Rejected}
 use Rattle.opl_tool.specs.declared.refusal.Refusal.{Refusal}
+use Rattle.opl_tool.specs.declared.stop.Ended.{Ended}
+use Rattle.opl_tool.specs.declared.stop.Ended.TheVariants as ended
 use Rattle.opl_tool.specs.declared.stop.Stop.{Stop}
 use Rattle.opl_tool.specs.Judged.{Judged}
 use Rattle.opl_tool.specs.Lines.{stop_text, answer_of}
-use Rattle.opl_meaning.specs.Solutions.{solutions}
+use Rattle.opl_tool.specs.Tasks.{Task, task_answer}
 use Rattle.opl_solve.specs.Printing.{GainsFront}
 
 -- the answer of a call whose work ended so
-abbrev pub Answers : Result ℕ Stop → Answer → Type 0
-Answers (Ok zero) result = result ≡ NoSolution
-Answers (Ok (suc n)) result = result ≡ Done
+abbrev pub Answers : Result Ended Stop → Answer → Type 0
+Answers (Ok ended.Done) result = result ≡ Done
+Answers (Ok ended.NoSolution) result = result ≡ NoSolution
 Answers (Err stop) result = (result ≡ answer_of stop) ⊎ (result ≡ OutOfMemory)
 
 -- the words, the file or its text have a first fault
 abbrev pub IsRefused : List (List ℕ) → Files → Type 0
 IsRefused words files = (refusal : Refusal) × Judged words files (Err refusal)
 
--- the model is accepted and has a solution
-abbrev pub HasSolution : List (List ℕ) → Files → Type 0
-HasSolution words files = (subject : Subject) × Judged words files (Ok subject) × (solutions subject.model ≢ [])
+-- the words and files come to a task, and it has this answer
+abbrev pub ComesTo : List (List ℕ) → Files → Answer → Type 0
+ComesTo words files a = (task : Task) × Judged words files (Ok task) × (task_answer task ≡ a)
 
--- the model is accepted and has no solution
-abbrev pub HasNone : List (List ℕ) → Files → Type 0
-HasNone words files = (subject : Subject) × Judged words files (Ok subject) × (solutions subject.model ≡ [])
+-- the call came through: no file failed, and no memory was wanting
+abbrev pub CameThrough : Answer → Type 0
+CameThrough result = (result ≢ ReadFault) × (result ≢ OutOfMemory)
 
 -- the answers whose causes are counts of faults, and want of memory
 abbrev pub IsFree : Answer → Type 0
@@ -44,13 +45,13 @@ abbrev pub ShownBy : Answer → List ℕ → List ℕ → List ℕ → Type 0
 ShownBy Done text before now = now ≡ before ++ text
 ShownBy NoSolution text before now = now ≡ before ++ text
 ShownBy Refused text before now = GainsFront before now text
-ShownBy Spent text before now = GainsFront before now text
+ShownBy Spent text before now = now ≡ before ++ text
 ShownBy ReadFault text before now = GainsFront before now text
 ShownBy WriteFault text before now = GainsFront before now text
 ShownBy OutOfMemory text before now = GainsFront before now text
 ShownBy Rejected text before now = GainsFront before now text
 
--- the text of an accepted model is shown
+-- the text of a task is shown
 abbrev pub Shows : Option (List ℕ) → Option (List ℕ) → List ℕ → Answer → Type 0
 Shows old new text result = Becomes old new (ShownBy result text)
 

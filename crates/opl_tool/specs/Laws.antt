@@ -5,7 +5,7 @@ use Rattle.opl_tool.specs.declared.refusal.Fault.TheVariants.{Syntax, TooDeep}
 use Rattle.opl_tool.specs.declared.refusal.Refusal.{Refusal}
 use Rattle.opl_tool.specs.declared.refusal.Refusal.TheVariants.{At}
 use Rattle.opl_tool.specs.Judged.{Judged}
-use Rattle.opl_tool.specs.Subject.{Subject}
+use Rattle.opl_tool.specs.Tasks.{Task}
 
 -- two refusals of the model's file, one of which at least is at a level too many, and the other then at the syntax or at such a level
 abbrev pub MayDiffer : Refusal → Refusal → Type 0
@@ -24,7 +24,7 @@ AreSyntax _ _ = ⊥
 abbrev pub SameOutcome : {A : Type 0} → Result A Refusal → Result A Refusal → Type 0
 SameOutcome r s = (r ≡ s) ⊎ AreSyntax r s
 
--- whatever the words and the files are, they come to one outcome and to no other: a model, or a refusal
+-- whatever the words and the files are, they come to one outcome and to no other: a task, or a refusal
 abbrev pub OneOutcome : Type 0
 OneOutcome = (words : List (List ℕ)) (files : Files) →
-    (outcome : Result Subject Refusal) × Judged words files outcome × ((other : Result Subject Refusal) → Judged words files other → SameOutcome other outcome)
+    (outcome : Result Task Refusal) × Judged words files outcome × ((other : Result Task Refusal) → Judged words files other → SameOutcome other outcome)

@@ -1,10 +1,13 @@
+pub mod Asked
 pub mod Data
 pub mod Ends
 pub mod Headline
 pub mod Judged
 pub mod Laws
 pub mod Lines
+pub mod Positions
 pub mod Prepared
+pub mod Reading
 pub mod Stage
 pub mod Subject
-pub mod Words
+pub mod Tasks

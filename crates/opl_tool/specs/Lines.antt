@@ -5,15 +5,15 @@ use Rattle.opl_outside.specs.Counts.{Rose}
 use Rattle.opl_tool.specs.declared.answer.Answer.{Answer}
 use Rattle.opl_tool.specs.declared.answer.Answer.TheVariants as answer
 use Rattle.opl_tool.specs.declared.refusal.Fault.{Fault}
-use Rattle.opl_tool.specs.declared.refusal.Fault.TheVariants.{BadByte, OpenComment, OpenString, NumberTooLarge, Syntax, TooDeep, Unknown, Duplicate, NotData, Mismatch, NotYet, Shape, Outside, DivByZero, OutOfIndex, TooLarge, EmptyMinMax, LimitVariables, LimitValue, LimitDomain, LimitDomains}
+use Rattle.opl_tool.specs.declared.refusal.Fault.TheVariants.{BadByte, OpenComment, OpenString, NumberTooLarge, Syntax, TooDeep, Unknown, Duplicate, NotData, Mismatch, NotYet, Shape, Outside, DivByZero, OutOfIndex, TooLarge, EmptyMinMax, LimitVariables, LimitValue, LimitDomain, LimitDomains, LimitDepth, LimitNodes}
 use Rattle.opl_tool.specs.declared.refusal.ItemFault.{ItemFault}
 use Rattle.opl_tool.specs.declared.refusal.ItemFault.TheVariants as items
 use Rattle.opl_tool.specs.declared.refusal.Refusal.{Refusal}
 use Rattle.opl_tool.specs.declared.refusal.Refusal.TheVariants.{Words, Absent, TooLong, At, Item}
 use Rattle.opl_tool.specs.declared.stop.Stop.{Stop}
-use Rattle.opl_tool.specs.declared.stop.Stop.TheVariants.{Refused, ReadFault, WriteFault, OutOfMemory}
+use Rattle.opl_tool.specs.declared.stop.Stop.TheVariants.{Refused, Spent, ReadFault, WriteFault, OutOfMemory}
 use Rattle.opl_solve.specs.Printing.{GainsFront}
-use Rattle.opl_tool.specs.Words.{file_in}
+use Rattle.opl_tool.specs.Asked.{budget_in, file_among, files_in}
 
 -- refused: KIND NAME
 abbrev pub named_text : List ℕ → List ℕ → List ℕ
@@ -46,6 +46,8 @@ word_of LimitVariables = codes "Limit Variables"
 word_of LimitValue = codes "Limit Value"
 word_of LimitDomain = codes "Limit Domain"
 word_of LimitDomains = codes "Limit Domains"
+word_of LimitDepth = codes "Limit Depth"
+word_of LimitNodes = codes "Limit Nodes"
 
 -- the word for what is wrong with an item
 abbrev pub word_of_item : ItemFault → List ℕ
@@ -54,17 +56,26 @@ word_of_item items.Twice = codes "Twice"
 word_of_item items.Missing = codes "Missing"
 word_of_item items.Override = codes "Override"
 
--- the line of a refusal of a call with these words, which names a file as they do, and an item of data by its name
-abbrev pub refusal_text : Refusal → (words : List (List ℕ)) → List ℕ
-refusal_text Words words = codes "refused: Words\n"
-refusal_text (Absent file) words = named_text (codes "Absent") (file_in words file)
-refusal_text (TooLong file) words = named_text (codes "TooLong") (file_in words file)
-refusal_text (At fault file at) words = placed_text (word_of fault) (file_in words file) at
-refusal_text (Item fault name) words = named_text (word_of_item fault) name
+-- the line of a refusal where the files have these names; an item of data is named by its name
+abbrev pub refusal_line : Refusal → (files : List (List ℕ)) → List ℕ
+refusal_line Words files = codes "refused: Words\n"
+refusal_line (Absent file) files = named_text (codes "Absent") (file_among files file)
+refusal_line (TooLong file) files = named_text (codes "TooLong") (file_among files file)
+refusal_line (At fault file at) files = placed_text (word_of fault) (file_among files file) at
+refusal_line (Item fault name) files = named_text (word_of_item fault) name
 
--- the line of a call that ends before its whole text is printed
+-- the line of a refusal of a call with these words, which names a file as they do
+abbrev pub refusal_text : Refusal → (words : List (List ℕ)) → List ℕ
+refusal_text refusal words = refusal_line refusal (files_in words)
+
+-- spent: N
+abbrev pub spent_text : ℕ → List ℕ
+spent_text n = codes "spent: " ++ decimal n ++ codes "\n"
+
+-- the line of a call that ends so
 abbrev pub stop_text : Stop → (words : List (List ℕ)) → List ℕ
 stop_text (Refused refusal) words = refusal_text refusal words
+stop_text Spent words = spent_text (budget_in words)
 stop_text ReadFault words = codes "fault: read\n"
 stop_text WriteFault words = codes "fault: write\n"
 stop_text OutOfMemory words = codes "out of memory\n"
@@ -72,6 +83,7 @@ stop_text OutOfMemory words = codes "out of memory\n"
 -- the answer of such a call
 abbrev pub answer_of : Stop → Answer
 answer_of (Refused refusal) = answer.Refused
+answer_of Spent = answer.Spent
 answer_of ReadFault = answer.ReadFault
 answer_of WriteFault = answer.WriteFault
 answer_of OutOfMemory = answer.OutOfMemory

@@ -3,7 +3,7 @@ use Rattle.std.specs.Prelude.{◌≡◌, ◌⊎◌, ⊤, ℕ, ◌+◌, List, [],
 use Rattle.opl_outside.specs.Counts.{Rose}
 use Rattle.opl_tool.specs.declared.refusal.Refusal.{Refusal}
 use Rattle.opl_tool.specs.declared.stop.Stop.{Stop}
-use Rattle.opl_tool.specs.declared.stop.Stop.TheVariants.{Refused, ReadFault, WriteFault, OutOfMemory}
+use Rattle.opl_tool.specs.declared.stop.Stop.TheVariants.{Refused, Spent, ReadFault, WriteFault, OutOfMemory}
 
 -- what a stage gives: a relation that holds of its outcome
 abbrev pub Stage : Type 0 → Type 1
@@ -27,6 +27,7 @@ Each P number (x ∷ xs) = Then (P number x) (λ y. Then (Each P (number + 1) xs
 abbrev pub Gives : {A : Type 0} → Stage A → Result A Stop → Type 0
 Gives P (Ok a) = P (Ok a)
 Gives P (Err (Refused e)) = P (Err e)
+Gives P (Err Spent) = ⊥
 Gives P (Err ReadFault) = ⊥
 Gives P (Err WriteFault) = ⊥
 Gives P (Err OutOfMemory) = ⊤
@@ -35,6 +36,7 @@ Gives P (Err OutOfMemory) = ⊤
 abbrev pub GivesRead : {A : Type 0} → Stage A → Result A Stop → Type 0
 GivesRead P (Ok a) = P (Ok a)
 GivesRead P (Err (Refused e)) = P (Err e)
+GivesRead P (Err Spent) = ⊥
 GivesRead P (Err ReadFault) = ⊤
 GivesRead P (Err WriteFault) = ⊥
 GivesRead P (Err OutOfMemory) = ⊤
@@ -43,6 +45,7 @@ GivesRead P (Err OutOfMemory) = ⊤
 abbrev pub CountsRead : {A : Type 0} → Result A Stop → ℕ → ℕ → Type 0
 CountsRead (Ok a) before now = now ≡ before
 CountsRead (Err (Refused e)) before now = now ≡ before
+CountsRead (Err Spent) before now = ⊥
 CountsRead (Err ReadFault) before now = Rose before now
 CountsRead (Err WriteFault) before now = ⊥
 CountsRead (Err OutOfMemory) before now = now ≡ before

@@ -1,14 +1,10 @@
--- What a call solves: a model with its data.
-use Rattle.std.specs.Prelude.{ℕ, List}
-use Rattle.opl_meaning.specs.Solutions.{Model, solutions}
+-- What a call is about: a model with its data.
+use Rattle.opl_draft.specs.Solutions.{Model}
+use Rattle.opl_expr.specs.declared.model.Core.{Core}
 use Rattle.opl_show.specs.Texts.{Enumerations}
-use Rattle.opl_solve.specs.Texts.{text_of}
 
--- a model with its data, and the names of its enumerations, as which their values are printed
+-- a model with its data, the names of its enumerations, as which their values are printed, and its core
 pub record Subject : Type 0 where
   pub model : Model
   pub enumerations : Enumerations
-
--- the text of all its solutions
-unfoldable pub subject_text : Subject → List ℕ
-subject_text s = text_of s.enumerations s.model.variables (solutions s.model)
+  pub core : Core

@@ -1,5 +1,5 @@
 //! The trees of data files.
-ghost use Rattle.opl_tool.specs.Judged.{DataParsed};
+ghost use Rattle.opl_tool.specs.Reading.{DataParsed};
 ghost use Rattle.opl_tool.specs.Stage.{Each, Gives};
 
 use crate::refusal::Fault;

@@ -2,6 +2,7 @@
 #![tactic(auto)]
 
 mod answer;
+mod binding;
 mod call;
 mod carry_out;
 mod data_files;
@@ -9,13 +10,14 @@ mod front;
 pub mod laws;
 mod line;
 mod load;
+mod names;
 mod prepare;
+mod printing;
 mod problem;
 mod read;
 mod refusal;
 mod scanning;
 mod stop;
-mod words;
 
 pub use answer::Answer;
 pub use call::run;

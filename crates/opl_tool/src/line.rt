@@ -1,22 +1,49 @@
 //! The line that a call puts on the sink of errors.
-ghost use Rattle.std.specs.Prelude.{◌≡◌, ◌⊎◌, [], get_or, map, string_bytes, IfOk};
-ghost use Rattle.opl_tool.specs.Lines.{named_text, placed_text, word_of as the_word, word_of_item as the_item_word, refusal_text, stop_text, answer_of as the_answer_of, Tells};
+ghost use Rattle.std.specs.Prelude.{◌≡◌, ◌⊎◌, ◌∷◌, [], get_or, map, string_bytes, IfOk};
+ghost use Rattle.std.specs.Option.{option_map};
+ghost use Rattle.opl_words.specs.Readings.{asked_of};
+ghost use Rattle.opl_tool.specs.Asked.{budget_in, choices_asked, files_asked};
+ghost use Rattle.opl_tool.specs.Lines.{named_text, placed_text, word_of as the_word, word_of_item as the_item_word, refusal_line as the_refusal_line, refusal_text, spent_text, stop_text, answer_of as the_answer_of, Tells};
 
 use crate::answer::Answer;
+use crate::names::name_at;
 use crate::refusal::{Fault, ItemFault, Refusal};
 use crate::stop::Stop;
-use crate::words::names_of;
 use itoa::Buffer;
 use opl_outside::{OutsideError, Sink};
+use opl_words::{Command, Request, request};
 use std::alloc::{AllocError, Global};
 
-/// The name of the file with this number, among the names of all.
-fn name_at(names: &[String], file: usize) -> &[u8]
-    ensures { result.now ≡ get_or (map (λ name. string_bytes name) names.now) file [] }
+/// The name of the file with this number, where the words ask for files.
+fn name_of<'a>(asked: &Option<Request<'a>>, file: usize) -> &'a [u8]
+    ensures { result.now ≡ get_or (files_asked (option_map asked_of asked.now)) file [] }
 {
-    match names.get(file) {
-        Some(name) => name.as_bytes(),
+    match asked {
         None => b"",
+        Some(asked) => name_in(asked, file),
+    }
+}
+
+/// The name of the file with this number: 0 is the model's, the data files follow.
+fn name_in<'a>(asked: &Request<'a>, file: usize) -> &'a [u8]
+    ensures { result.now ≡ get_or (asked.now.model.now ∷ map (λ name. name.now) asked.now.files) file [] }
+{
+    if file == 0 {
+        return asked.model.as_bytes();
+    }
+    name_at(asked.files.as_slice(), file - 1).as_bytes()
+}
+
+/// How many choices are asked for.
+fn budget_at(asked: &Option<Request<'_>>) -> u64
+    ensures { result ≡ choices_asked (option_map asked_of asked.now) }
+{
+    match asked {
+        None => 0,
+        Some(asked) => match asked.command {
+            Command::Solve(budget) => budget,
+            Command::Ground => 0,
+        },
     }
 }
 
@@ -72,6 +99,8 @@ fn word_of(fault: Fault) -> &'static str
         Fault::LimitValue => "Limit Value",
         Fault::LimitDomain => "Limit Domain",
         Fault::LimitDomains => "Limit Domains",
+        Fault::LimitDepth => "Limit Depth",
+        Fault::LimitNodes => "Limit Nodes",
     }
 }
 
@@ -91,25 +120,58 @@ fn word_of_item(fault: ItemFault) -> &'static str
 fn refusal_line(alloc: Global, refusal: &Refusal, words: &[String]) -> Result<Vec<u8>, AllocError>
     ensures { IfOk result (λ line. line.items ≡ refusal_text refusal.now (map (λ word. string_bytes word) words.now)) }
 {
-    let names = names_of(alloc, words)?;
+    match request(alloc, words) {
+        Ok(asked) => refusal_line_for(alloc, refusal, &asked),
+        Err(error) => Err(error),
+    }
+}
+
+/// The line of a spent budget in a call with these words.
+fn spent_line(alloc: Global, words: &[String]) -> Result<Vec<u8>, AllocError>
+    ensures { IfOk result (λ line. line.items ≡ spent_text (budget_in (map (λ word. string_bytes word) words.now))) }
+{
+    match request(alloc, words) {
+        Ok(asked) => budget_line(alloc, budget_at(&asked)),
+        Err(error) => Err(error),
+    }
+}
+
+/// The line of a spent budget.
+fn budget_line(alloc: Global, budget: u64) -> Result<Vec<u8>, AllocError>
+    ensures { IfOk result (λ line. line.items ≡ spent_text budget) }
+{
+    let mut line = Vec::from_slice(alloc, b"spent: ")?;
+    line.extend_from_slice(Buffer::new().format(budget).as_bytes())?;
+    line.extend_from_slice(b"\n")?;
+    Ok(line)
+}
+
+/// The line of a refusal of a call that asks for this.
+fn refusal_line_for(
+    alloc: Global,
+    refusal: &Refusal,
+    asked: &Option<Request<'_>>,
+) -> Result<Vec<u8>, AllocError>
+    ensures { IfOk result (λ line. line.items ≡ the_refusal_line refusal.now (files_asked (option_map asked_of asked.now))) }
+{
     match refusal {
         Refusal::Words => Vec::from_slice(alloc, b"refused: Words\n"),
-        Refusal::Absent(file) => named_line(alloc, "Absent", name_at(names.as_slice(), *file)),
-        Refusal::TooLong(file) => named_line(alloc, "TooLong", name_at(names.as_slice(), *file)),
+        Refusal::Absent(file) => named_line(alloc, "Absent", name_of(asked, *file)),
+        Refusal::TooLong(file) => named_line(alloc, "TooLong", name_of(asked, *file)),
         Refusal::At(fault, file, at) => {
-            let name = name_at(names.as_slice(), *file);
-            placed_line(alloc, word_of(*fault), name, *at)
+            placed_line(alloc, word_of(*fault), name_of(asked, *file), *at)
         }
         Refusal::Item(fault, name) => named_line(alloc, word_of_item(*fault), name.as_slice()),
     }
 }
 
-/// The answer of a call that ends before its whole text is printed.
+/// The answer of a call that ends so.
 fn answer_of(stop: &Stop) -> Answer
     ensures { result ≡ the_answer_of stop.now }
 {
     match stop {
         Stop::Refused(_) => Answer::Refused,
+        Stop::Spent => Answer::Spent,
         Stop::ReadFault => Answer::ReadFault,
         Stop::WriteFault => Answer::WriteFault,
         Stop::OutOfMemory => Answer::OutOfMemory,
@@ -128,7 +190,7 @@ fn put_line<E: Sink>(alloc: Global, err: &mut E, line: &[u8], answer: Answer) ->
     }
 }
 
-/// Puts the line of a call that ends before its whole text is printed, and gives its answer.
+/// Puts the line of a call that ends so, and gives its answer.
 pub fn tell<E: Sink>(alloc: Global, err: &mut E, words: &[String], stop: Stop) -> Answer
     ensures answers { (result ≡ the_answer_of stop) ⊎ (result ≡ Answer.OutOfMemory) }
     ensures tells { let given = map (λ word. string_bytes word) words.now in
@@ -137,6 +199,10 @@ pub fn tell<E: Sink>(alloc: Global, err: &mut E, words: &[String], stop: Stop) -
     let answer = answer_of(&stop);
     match stop {
         Stop::Refused(refusal) => match refusal_line(alloc, &refusal, words) {
+            Ok(line) => put_line(alloc, err, line.as_slice(), answer),
+            Err(_) => Answer::OutOfMemory,
+        },
+        Stop::Spent => match spent_line(alloc, words) {
             Ok(line) => put_line(alloc, err, line.as_slice(), answer),
             Err(_) => Answer::OutOfMemory,
         },

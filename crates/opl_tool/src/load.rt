@@ -1,10 +1,11 @@
 //! Reading the files of a call.
-ghost use Rattle.std.specs.Prelude.{◌≡◌, ◌≤◌, All, length, map, string_bytes, IfSome, IfOk};
+ghost use Rattle.std.specs.Prelude.{◌≡◌, ◌≤◌, All, length, map, IfSome, IfOk};
 ghost use Rattle.opl_outside.specs.Becomes.{Becomes};
 ghost use Rattle.opl_outside.specs.Files.{max_bytes};
 ghost use Rattle.opl_tool.specs.Judged.{Held};
 ghost use Rattle.opl_tool.specs.Stage.{Each, GivesRead, CountsRead};
 
+use crate::names::name_at;
 use crate::refusal::Refusal;
 use crate::stop::Stop;
 use opl_list::Seq;
@@ -37,17 +38,17 @@ pub fn load<F: Shelf>(
 pub fn load_data<F: Shelf>(
     alloc: Global,
     shelf: &mut F,
-    names: &[String],
+    names: &[&str],
 ) -> Result<Seq<Seq<u8>>, Stop>
-    ensures held { let given = map (λ name. string_bytes name) names.now in
+    ensures held { let given = map (λ name. name.now) names.now in
         IfSome (F.files shelf.old) (λ files. GivesRead (Each (Held files) 1 given) result) }
     ensures within_limit { IfOk result (λ texts. All (λ bytes. length bytes ≤ max_bytes) texts) }
     ensures cause { CountsRead result (F.read_faults shelf.old) (F.read_faults shelf.new) }
     ensures no_write { F.write_faults shelf.new ≡ F.write_faults shelf.old }
 {
     let mut texts = Seq::new(alloc);
-    for (x, name) in names.iter().enumerate() {
-        texts.push(load(alloc, shelf, x + 1, name.as_str())?)?;
+    for x in 0..names.len() {
+        texts.push(load(alloc, shelf, x + 1, name_at(names, x))?)?;
     }
     Ok(texts)
 }

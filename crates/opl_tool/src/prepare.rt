@@ -1,24 +1,28 @@
-//! From a model whose expressions have types and its data files to what is solved.
-ghost use Rattle.std.specs.Prelude.{◌≡◌, ℕ, IfOk};
+//! From a model whose expressions have types and its data files to its core.
+ghost use Rattle.std.specs.Prelude.{◌≡◌, [], Ok};
 ghost use Rattle.opl_bind.specs.Readings.{data_of};
-ghost use Rattle.opl_eval.specs.Visible.{position_in};
-ghost use Rattle.opl_tool.specs.Data.{HasData, HasFormulas, HasVariables, Prepared, Runs, subject_of, refusal_of_data, refusal_of_value, refusal_of_variables};
-ghost use Rattle.opl_tool.specs.Data as spec;
-ghost use Rattle.opl_tool.specs.Prepared.{GivesPosed, read_as, stop_at};
+ghost use Rattle.opl_meaning.specs.Variables.{variables_in};
+ghost use Rattle.opl_tool.specs.Data.{HasVariables, IsClean, Prepared, Runs, place_of as the_place, refusal_of_variables};
+ghost use Rattle.opl_tool.specs.Prepared.{GivesCore, GivesPosed, StopsForms, read_as, stop_at};
 ghost use Rattle.opl_tool.specs.Stage.{Gives};
+ghost use Rattle.opl_show.specs.Readings.{names_of};
 
+use crate::binding::{data, stop_of_value};
 use crate::front::Front;
 use crate::problem::Problem;
-use crate::refusal::{Fault, ItemFault, Refusal};
+use crate::refusal::Fault;
 use crate::stop::{Stop, refused};
-use opl_bind::{BindFault, DataValues, bind};
-use opl_data::DataFile;
-use opl_eval::{EvalFault, Positions};
-use opl_fields::fields;
+use opl_bind::DataValues;
+use opl_expr::Core;
+use opl_grounding::ground;
 use opl_list::Seq;
-use opl_meaning::{Formula, MeaningFault, VariableItem, conditions, formulas, not_yet, variables};
+use opl_meaning::{MeaningFault, VariableItem, variables};
+use opl_nodes::FormFault;
+use opl_runs::{is_clean, not_yet};
+use opl_tree::InstrTree;
 use opl_types::Typed;
-use std::alloc::{AllocError, Global};
+use std::alloc::Global;
+use std::rc::Rc;
 
 /// All of the model runs today.
 fn runs(alloc: Global, typed: &Typed) -> Result<(), Stop>
@@ -30,36 +34,7 @@ fn runs(alloc: Global, typed: &Typed) -> Result<(), Stop>
     }
 }
 
-/// Why a call ends at a fault of evaluation.
-fn stop_of_value(fault: EvalFault) -> Stop
-    ensures { result ≡ stop_at (refusal_of_value fault) }
-{
-    match fault {
-        EvalFault::DivByZero(at) => refused(Fault::DivByZero, 0, at),
-        EvalFault::OutOfIndex(at) => refused(Fault::OutOfIndex, 0, at),
-        EvalFault::TooLarge(at) => refused(Fault::TooLarge, 0, at),
-        EvalFault::EmptyMinMax(at) => refused(Fault::EmptyMinMax, 0, at),
-        EvalFault::OutOfMemory => Stop::OutOfMemory,
-    }
-}
-
-/// Why a call ends at a fault of binding.
-fn stop_of_data(fault: BindFault) -> Stop
-    ensures { result ≡ stop_at (refusal_of_data fault) }
-{
-    match fault {
-        BindFault::Given(name) => Stop::Refused(Refusal::Item(ItemFault::Given, name)),
-        BindFault::Twice(name) => Stop::Refused(Refusal::Item(ItemFault::Twice, name)),
-        BindFault::Missing(name) => Stop::Refused(Refusal::Item(ItemFault::Missing, name)),
-        BindFault::Shape(file, at) => refused(Fault::Shape, file as usize, at),
-        BindFault::Outside(file, at) => refused(Fault::Outside, file as usize, at),
-        BindFault::Override(name) => Stop::Refused(Refusal::Item(ItemFault::Override, name)),
-        BindFault::Eval(fault) => stop_of_value(fault),
-        BindFault::OutOfMemory => Stop::OutOfMemory,
-    }
-}
-
-/// Why a call ends at a fault of variables or conditions.
+/// Why a call ends at a fault of variables.
 fn stop_of_meaning(fault: MeaningFault) -> Stop
     ensures { result ≡ stop_at (refusal_of_variables fault) }
 {
@@ -73,36 +48,16 @@ fn stop_of_meaning(fault: MeaningFault) -> Stop
     }
 }
 
-/// The position as it is kept; where there is no such position memory is wanting.
-fn position_of(position: usize) -> Result<u32, AllocError>
-    ensures { IfOk result (λ kept. kept ≡ position) }
+/// Why a call ends at a fault of constraints.
+fn stop_of_forms(fault: FormFault) -> Stop
+    ensures { StopsForms fault result }
 {
-    match u32::try_from(position) {
-        Ok(kept) => Ok(kept),
-        Err(_) => Err(AllocError),
-    }
-}
-
-/// The positions of the fields that the model names.
-fn positions(alloc: Global, typed: &Typed) -> Result<Positions, AllocError>
-    ensures { IfOk result (λ found. (place : ℕ) → position_in found place ≡ spec.positions typed.now.tree place) }
-{
-    let found = fields(alloc, typed)?;
-    let mut positions = Positions::new(alloc);
-    for field in found.as_slice() {
-        positions.insert(field.place, position_of(field.position)?)?;
-    }
-    Ok(positions)
-}
-
-/// The data of the model.
-fn data<'a>(alloc: Global, typed: &'a Typed, files: &'a [DataFile]) -> Result<DataValues<'a>, Stop>
-    ensures { Gives (HasData typed.now.tree files.now) (read_as data_of result) }
-{
-    let positions = positions(alloc, typed)?;
-    match bind(alloc, positions, typed.tree.decls.as_slice(), files, &[]) {
-        Ok(data) => Ok(data),
-        Err(fault) => Err(stop_of_data(fault)),
+    match fault {
+        FormFault::Eval(fault) => stop_of_value(fault),
+        FormFault::TooLarge(at) => refused(Fault::TooLarge, 0, at),
+        FormFault::Depth(at) => refused(Fault::LimitDepth, 0, at),
+        FormFault::Nodes(at) => refused(Fault::LimitNodes, 0, at),
+        FormFault::OutOfMemory => Stop::OutOfMemory,
     }
 }
 
@@ -120,35 +75,77 @@ fn variables_of(
     }
 }
 
-/// The conditions of the model with the values of their parts without variables.
-fn formulas_of(
+/// The place of an instruction's first token.
+fn place_of(instruction: &InstrTree) -> u32
+    ensures { result ≡ the_place instruction.now }
+{
+    match instruction {
+        InstrTree::Solve(at, ..) => *at,
+        InstrTree::Optimize(at, ..) => *at,
+    }
+}
+
+/// The decision variables stand in the instruction only where they may. Typing rules out all else but what does not run yet.
+fn clean(
     alloc: Global,
     typed: &Typed,
     data: &DataValues<'_>,
     variables: &[VariableItem],
-) -> Result<Seq<Formula>, Stop>
-    ensures { Gives (HasFormulas (subject_of typed.now.tree (data_of «data».now) variables.now).model) result }
+) -> Result<(), Stop>
+    requires { variables_in (data_of «data».now).environment [] typed.now.tree.decls ≡ Ok variables.now }
+    ensures { Gives (IsClean typed.now.tree variables.now) result }
 {
-    let conditions = conditions(alloc, &typed.tree.instr)?;
-    match formulas(alloc, &data.environment, variables, conditions.as_slice()) {
-        Ok(formulas) => Ok(formulas),
-        Err(fault) => Err(stop_of_meaning(fault)),
+    if is_clean(alloc, variables, &typed.tree.instr)? {
+        return Ok(());
+    }
+    Err(refused(Fault::NotYet, 0, place_of(&typed.tree.instr)))
+}
+
+/// The core of the model.
+fn core_of(
+    alloc: Global,
+    typed: &Typed,
+    data: &DataValues<'_>,
+    enumerations: &[Seq<&[u8]>],
+    variables: &[VariableItem],
+) -> Result<Rc<Core>, Stop>
+    requires { variables_in (data_of «data».now).environment [] typed.now.tree.decls ≡ Ok variables.now }
+    ensures { GivesCore typed.now.tree (data_of «data».now) (names_of enumerations.now) variables.now (read_as (λ core. core.value) result) }
+{
+    match ground(
+        alloc,
+        enumerations,
+        &data.environment,
+        variables,
+        &typed.tree,
+    ) {
+        Ok(core) => Ok(Rc::new(alloc, core)?),
+        Err(fault) => Err(stop_of_forms(fault)),
     }
 }
 
-/// What is solved of the model and the data files.
+/// What the model and the data files come to.
 pub fn prepare<'a>(alloc: Global, front: &'a Front) -> Result<Problem<'a>, Stop>
     ensures { GivesPosed (Prepared front.now.typed.tree front.now.files) result }
 {
+    opl_complete::laws::search_finds_all();
+    opl_complete::laws::search_begins();
     let typed = &front.typed;
     runs(alloc, typed)?;
     let data = data(alloc, typed, front.files.as_slice())?;
     let variables = variables_of(alloc, typed, &data)?;
-    let formulas = formulas_of(alloc, typed, &data, variables.as_slice())?;
+    clean(alloc, typed, &data, variables.as_slice())?;
     let enumerations = data.enumerations(alloc)?;
+    let core = core_of(
+        alloc,
+        typed,
+        &data,
+        enumerations.as_slice(),
+        variables.as_slice(),
+    )?;
     Ok(Problem {
         enumerations,
         variables,
-        formulas,
+        core,
     })
 }

@@ -1,7 +1,7 @@
 //! Reading the files of a call: from their texts to their trees.
 ghost use Rattle.std.specs.Prelude.{◌≡◌, ◌≤◌, All, length};
 ghost use Rattle.opl_outside.specs.Files.{max_bytes};
-ghost use Rattle.opl_tool.specs.Judged.{Parsed, HasTypes, front_of, tree_of, Understood, Read};
+ghost use Rattle.opl_tool.specs.Reading.{Parsed, HasTypes, front_of, tree_of, Understood, Read};
 ghost use Rattle.opl_tool.specs.Stage.{Gives};
 
 use crate::data_files::data_trees;

@@ -46,6 +46,10 @@ pub enum Fault {
     LimitDomain,
     /// Too many values in all declared sets.
     LimitDomains,
+    /// A constraint that nests too deep.
+    LimitDepth,
+    /// Constraints with too many parts.
+    LimitNodes,
 }
 
 /// What is wrong with an item of a model's data.

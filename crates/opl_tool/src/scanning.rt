@@ -1,7 +1,7 @@
 //! The tokens of the files of a call.
 ghost use Rattle.std.specs.Prelude.{◌≡◌, ◌≤◌, All, length};
 ghost use Rattle.opl_outside.specs.Files.{max_bytes};
-ghost use Rattle.opl_tool.specs.Judged.{Scanned};
+ghost use Rattle.opl_tool.specs.Reading.{Scanned};
 ghost use Rattle.opl_tool.specs.Stage.{Each, Gives};
 
 use crate::refusal::Fault;

@@ -1,14 +1,23 @@
-//! Why a call ends before its whole text is printed.
+//! How a call ends.
 ghost use Rattle.opl_tool.specs.declared.stop.Stop.TheVariants.{OutOfMemory};
 ghost use Rattle.std.specs.Prelude.{◌≡◌};
 
 use crate::refusal::{Fault, Refusal};
 use std::alloc::{AllocError, AllocFailed};
 
-/// Why a call ends before its whole text is printed.
+/// How a command ends of which nothing more is told.
+#[derive(Clone, Copy)]
+pub enum Ended {
+    Done,
+    NoSolution,
+}
+
+/// Why a call ends with a line on the sink of errors.
 #[derive(Drop)]
 pub enum Stop {
     Refused(Refusal),
+    /// The whole text is printed, up to where the budget is spent.
+    Spent,
     ReadFault,
     WriteFault,
     OutOfMemory,

@@ -1,25 +1,46 @@
+use Rattle.std.proofs.Common.{true, false}
 use Rattle.std.proofs.lemmas.Result.{err_from_is_err_and}
-use Rattle.opl_solve.specs.Found.{all_hold}
-use Rattle.opl_solve.proofs.Showing.{loop-stop, loop-step, loop-end, loop-fewer}
+use Rattle.opl_search.specs.declared.machine.Last.TheVariants as last
+use Rattle.opl_search.specs.declared.search.Step1.TheVariants as step
+use Rattle.opl_solve.proofs.Found.{answer_is, solution-long, going-step, going-stop, going-end, going-count, going-cut}
 use Rattle.opl_solve.proofs.show.show_all.Goals as goal
 
-pub returns-in_err-shown-clause-prints : goal.returns-in_err-shown-clause-prints
-returns-in_err-shown-clause-prints g c =
-    let p = err_from_is_err_and c.from_residual.result c.from_residual.ensures.1 in
-    rw (p.1, p.2) (loop-stop _ _ (all_hold c.args.formulas.now) _ _ _ _ _ _ _ _ _ _ _ c.loop-is_left-test.true c.loop-is_left.invariant c.in_err-shown.ensures.prints)
+pub show-requires-clause-long : goal.show-requires-clause-long
+show-requires-clause-long g c =
+    solution-long c.loop.machine c.next.new.machine c.in_ok-next.ensures.1 (answer_is c.loop.machine c.next.new.machine c.in_ok-next.field-0 step.Solution c.in-Solution.is c.in_ok-next.ensures.0)
 
-pub loop-is_left-smaller : goal.loop-is_left-smaller
-loop-is_left-smaller g c = loop-fewer c.loop-is_left.is_left c.advance-is_left.result c.loop-is_left.places c.advance-is_left.new.places c.loop-is_left-test.true c.advance-is_left.ensures
+pub returns-in_err-show-in-Solution-clause-prints : goal.returns-in_err-show-in-Solution-clause-prints
+returns-in_err-show-in-Solution-clause-prints g c =
+    let p = err_from_is_err_and c.from_residual-in_err-show-in-Solution.result c.from_residual-in_err-show-in-Solution.ensures.1 in
+    rw (p.1, p.2) (going-stop _ _ c.args.machine.now c.loop.machine c.next.new.machine c.loop.shown c.saturating_add-shown.result _ _ _ _ _ _ c.loop.invariant c.in_err-show-in-Solution.field-0.0
+    (answer_is c.loop.machine c.next.new.machine c.in_ok-next.field-0 step.Solution c.in-Solution.is c.in_ok-next.ensures.0) c.saturating_add-shown.ensures c.in_err-show-in-Solution.ensures)
 
-pub loop-is_left-preserved : goal.loop-is_left-preserved
-loop-is_left-preserved g c =
-    loop-step _ _ (all_hold c.args.formulas.now) _ c.loop-is_left.is_left c.loop-is_left.places _ c.advance-is_left.result c.advance-is_left.new.places _ _ _ _ _ _ _
-    c.loop-is_left-test.true c.advance-is_left.ensures c.loop-is_left.invariant c.in_ok-shown.ensures.count c.in_ok-shown.ensures.prints
+pub returns-in-End-clause-prints : goal.returns-in-End-clause-prints
+returns-in-End-clause-prints g c =
+    going-end _ _ c.args.machine.now c.loop.machine c.next.new.machine c.loop.shown _ _ _ _ c.loop.invariant _ false last.End
+    (answer_is c.loop.machine c.next.new.machine c.in_ok-next.field-0 step.End c.in-End.is c.in_ok-next.ensures.0)
 
-pub returns-clause-prints : goal.returns-clause-prints
-returns-clause-prints g c =
-    (loop-end _ _ (all_hold c.args.formulas.now) _ c.loop-is_left.is_left c.loop-is_left.places _ _ _ _ _ c.loop-is_left-test.false c.loop-is_left.invariant).0
+pub returns-in-End-clause-shown : goal.returns-in-End-clause-shown
+returns-in-End-clause-shown g c =
+    let e = answer_is c.loop.machine c.next.new.machine c.in_ok-next.field-0 step.End c.in-End.is c.in_ok-next.ensures.0 in (
+      going-count _ _ c.args.machine.now c.loop.machine c.next.new.machine c.loop.shown _ _ _ _ c.loop.invariant false last.End e,
+      going-cut _ _ c.args.machine.now c.loop.machine c.next.new.machine c.loop.shown _ _ _ _ c.loop.invariant false last.End e,
+    )
 
-pub returns-clause-count : goal.returns-clause-count
-returns-clause-count g c =
-    (loop-end _ _ (all_hold c.args.formulas.now) _ c.loop-is_left.is_left c.loop-is_left.places _ _ _ _ _ c.loop-is_left-test.false c.loop-is_left.invariant).1
+pub returns-in-Spent-clause-prints : goal.returns-in-Spent-clause-prints
+returns-in-Spent-clause-prints g c =
+    going-end _ _ c.args.machine.now c.loop.machine c.next.new.machine c.loop.shown _ _ _ _ c.loop.invariant _ true last.Spent
+    (answer_is c.loop.machine c.next.new.machine c.in_ok-next.field-0 step.Spent c.in-Spent.is c.in_ok-next.ensures.0).0
+
+pub returns-in-Spent-clause-shown : goal.returns-in-Spent-clause-shown
+returns-in-Spent-clause-shown g c =
+    let e = (answer_is c.loop.machine c.next.new.machine c.in_ok-next.field-0 step.Spent c.in-Spent.is c.in_ok-next.ensures.0).0 in (
+      going-count _ _ c.args.machine.now c.loop.machine c.next.new.machine c.loop.shown _ _ _ _ c.loop.invariant true last.Spent e,
+      going-cut _ _ c.args.machine.now c.loop.machine c.next.new.machine c.loop.shown _ _ _ _ c.loop.invariant true last.Spent e,
+    )
+
+pub loop-preserved : goal.loop-preserved
+loop-preserved g c =
+    going-step _ _ c.args.machine.now c.loop.machine c.next.new.machine c.loop.shown c.saturating_add-shown.result _ _ _ _ _ _ c.loop.invariant tt
+    (answer_is c.loop.machine c.next.new.machine c.in_ok-next.field-0 step.Solution c.in-Solution.is c.in_ok-next.ensures.0) c.in_ok-next.ensures.1 c.saturating_add-shown.ensures
+    c.in_ok-show-in-Solution.ensures

@@ -1,45 +1,9 @@
-use Rattle.std.proofs.Common.{map, refl, string_bytes}
-use Rattle.std.proofs.lemmas.Result.{err_from_is_err_and}
-use Rattle.opl_tool.proofs.EndsLemmas.{front-ended, problem-ended, text-ended}
+use Rattle.std.proofs.Common.{ap, map, sym, ◌∙◌}
+use Rattle.std.specs.Prelude.{string_bytes}
+use Rattle.std.specs.Option.{option_map}
+use Rattle.opl_words.specs.Readings.{asked_of}
+use Rattle.opl_tool.proofs.EndsLemmas.{asked-ended}
 use Rattle.opl_tool.proofs.carry_out.carry_out.Goals as goal
 
-pub returns-in_err-front-clause-ends : goal.returns-in_err-front-clause-ends
-returns-in_err-front-clause-ends g c =
-    let p = err_from_is_err_and c.from_residual.result c.from_residual.ensures.1 in
-    rw (p.1, p.2) (front-ended (record {
-      words = map (λ word. string_bytes word) c.args.words.now;
-      files = g.F.Shelf.files c.args.shelf.now;
-      old = g.O.Sink.written c.args.out.now;
-      new = g.O.Sink.written c.args.out.now;
-      reads_before = g.F.Shelf.read_faults c.args.shelf.now;
-      reads_now = g.F.Shelf.read_faults c.fetch.new.shelf;
-      faults_before = g.O.Sink.faults c.args.out.now;
-      faults_now = g.O.Sink.faults c.args.out.now;
-    }) _ refl refl c.in_err-front.ensures.cause c.in_err-front.ensures.fetched)
-
-pub returns-in_err-problem-clause-ends : goal.returns-in_err-problem-clause-ends
-returns-in_err-problem-clause-ends g c =
-    let p = err_from_is_err_and c.from_residual-in_err-problem.result c.from_residual-in_err-problem.ensures.1 in
-    rw (p.1, p.2) (problem-ended (record {
-      words = map (λ word. string_bytes word) c.args.words.now;
-      files = g.F.Shelf.files c.args.shelf.now;
-      old = g.O.Sink.written c.args.out.now;
-      new = g.O.Sink.written c.args.out.now;
-      reads_before = g.F.Shelf.read_faults c.args.shelf.now;
-      reads_now = g.F.Shelf.read_faults c.fetch.new.shelf;
-      faults_before = g.O.Sink.faults c.args.out.now;
-      faults_now = g.O.Sink.faults c.args.out.now;
-    }) _ (c.in_ok-front.front.typed.tree, c.in_ok-front.front.files) refl refl c.in_ok-front.ensures.cause c.in_ok-front.ensures.fetched c.in_err-problem.ensures)
-
-pub returns-clause-ends : goal.returns-clause-ends
-returns-clause-ends g c =
-    text-ended (record {
-      words = map (λ word. string_bytes word) c.args.words.now;
-      files = g.F.Shelf.files c.args.shelf.now;
-      old = g.O.Sink.written c.args.out.now;
-      new = g.O.Sink.written c.print_all.new.out;
-      reads_before = g.F.Shelf.read_faults c.args.shelf.now;
-      reads_now = g.F.Shelf.read_faults c.fetch.new.shelf;
-      faults_before = g.O.Sink.faults c.args.out.now;
-      faults_now = g.O.Sink.faults c.print_all.new.out;
-    }) (c.in_ok-front.front.typed.tree, c.in_ok-front.front.files) _ c.in_ok-front.ensures.fetched c.in_ok-problem.ensures.1 c.in_ok-front.ensures.cause _ c.in_ok-problem.problem c.in_ok-problem.ensures.2 c.print_all.ensures.prints c.print_all.ensures.count
+pub returns-in-Ok-Some-clause-ends : goal.returns-in-Ok-Some-clause-ends
+returns-in-Ok-Some-clause-ends g c = asked-ended (map (λ word. string_bytes word) c.args.words.now) (asked_of c.in-Ok-Some.asked) _ _ (sym (ap (option_map asked_of) c.in-Ok-Some.field-0-is) ∙ c.in-Ok-Some.ensures) c.answer.ensures.ends

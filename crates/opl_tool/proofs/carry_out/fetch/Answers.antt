@@ -1,9 +1,18 @@
-use Rattle.std.proofs.Common.{map, string_bytes}
-use Rattle.opl_tool.specs.Judged.{front_of}
-use Rattle.opl_tool.proofs.LoadLemmas.{fetched-named}
+use Rattle.std.proofs.Common.{ap, map}
+use Rattle.std.proofs.lemmas.Result.{err_from_is_err_and}
+use Rattle.opl_words.specs.Readings.{asked_of}
+use Rattle.opl_tool.specs.Reading.{front_of}
+use Rattle.opl_tool.proofs.JudgedLemmas.{loaded-read, loaded-stops}
 use Rattle.opl_tool.proofs.carry_out.fetch.Goals as goal
 
-pub returns-in-len1-up-clause-fetched : goal.returns-in-len1-up-clause-fetched
-returns-in-len1-up-clause-fetched g c =
-    fetched-named (g.F.Shelf.files c.args.shelf.now) (map (λ word. string_bytes word) c.args.words.now) c.in_ok-names.names.items c.as_slice.result.now c.model-item.result c.as_str.result.now (front_of c.fetch_files.result)
-    c.as_slice.ensures.value c.in-len1-up.len_at_least c.model-item.is c.as_str.ensures.value c.if-not-is_solve.ensures c.in_ok-names.ensures c.fetch_files.ensures.loaded
+pub returns-in_err-texts-clause-loaded : goal.returns-in_err-texts-clause-loaded
+returns-in_err-texts-clause-loaded g c =
+    let p = err_from_is_err_and c.from_residual-in_err-texts.result c.from_residual-in_err-texts.ensures.1 in
+    rw (p.1, p.2) (loaded-stops (g.F.Shelf.files c.args.shelf.now) (g.F.Shelf.files c.load.new.shelf) (asked_of c.args.asked.now) (map (λ name. name.now) c.as_slice.result.now) c.in_ok-bytes.bytes _
+    (ap (map (λ name. name.now)) c.as_slice.ensures) c.in_ok-bytes.ensures.held c.in_ok-bytes.ensures.files_stay c.in_err-texts.ensures.held)
+
+pub returns-clause-loaded : goal.returns-clause-loaded
+returns-clause-loaded g c =
+    loaded-read (g.F.Shelf.files c.args.shelf.now) (g.F.Shelf.files c.load.new.shelf) (asked_of c.args.asked.now) (map (λ name. name.now) c.as_slice.result.now) c.in_ok-bytes.bytes c.as_slice-2.result.now
+    c.in_ok-texts.texts c.as_slice-3.result.now (front_of c.read.result) (ap (map (λ name. name.now)) c.as_slice.ensures) c.as_slice-2.ensures c.as_slice-3.ensures
+    c.in_ok-bytes.ensures.held c.in_ok-bytes.ensures.files_stay c.in_ok-texts.ensures.held c.read.ensures

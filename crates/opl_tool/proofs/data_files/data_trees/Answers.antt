@@ -1,6 +1,6 @@
 use Rattle.std.proofs.Common.{◌+◌, arith}
 use Rattle.std.proofs.lemmas.Result.{err_from_is_err_and}
-use Rattle.opl_tool.specs.Judged.{DataParsed}
+use Rattle.opl_tool.specs.Reading.{DataParsed}
 use Rattle.opl_tool.proofs.EachLemmas.{each-none, each-next, each-stops}
 use Rattle.opl_tool.proofs.data_files.data_trees.Goals as goal
 

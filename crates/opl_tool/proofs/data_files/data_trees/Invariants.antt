@@ -1,5 +1,5 @@
 use Rattle.std.proofs.Common.{take, Ok}
-use Rattle.opl_tool.specs.Judged.{DataParsed}
+use Rattle.opl_tool.specs.Reading.{DataParsed}
 use Rattle.opl_tool.specs.Stage.{Each}
 use Rattle.opl_tool.proofs.data_files.data_trees.Given as goal
 

@@ -17,12 +17,12 @@ loop-x-init g c = record {
 pub returns-in_err-load-clause-held : goal.returns-in_err-load-clause-held
 returns-in_err-load-clause-held g c =
     let p = err_from_is_err_and c.from_residual.result c.from_residual.ensures.1 in
-    rw (p.1, p.2) (loaded-stopped (g.F.Shelf.files c.args.shelf.now) (g.F.Shelf.files c.loop-x.shelf) c.args.names.now c.loop-x.x c.index-names-x.result _ c.loop-x.texts _ (omega arith) c.index-names-x.is c.as_str.ensures.value
+    rw (p.1, p.2) (loaded-stopped (g.F.Shelf.files c.args.shelf.now) (g.F.Shelf.files c.loop-x.shelf) c.args.names.now c.loop-x.x c.name_at.result.now c.loop-x.texts _ (omega arith) c.name_at.ensures
     c.loop-x.invariant.held c.loop-x.invariant.files_stay c.in_err-load.ensures.held)
 
 pub loop-x-preserved : goal.loop-x-preserved
 loop-x-preserved g c = record {
-  held = rw c.in_ok-push.ensures.ok (loaded-next (g.F.Shelf.files c.args.shelf.now) (g.F.Shelf.files c.loop-x.shelf) c.args.names.now c.loop-x.x c.index-names-x.result _ c.in_ok-load.field-0 c.loop-x.texts (omega arith) c.index-names-x.is c.as_str.ensures.value
+  held = rw c.in_ok-push.ensures.ok (loaded-next (g.F.Shelf.files c.args.shelf.now) (g.F.Shelf.files c.loop-x.shelf) c.args.names.now c.loop-x.x c.name_at.result.now c.in_ok-load.field-0 c.loop-x.texts (omega arith) c.name_at.ensures
       c.loop-x.invariant.held c.loop-x.invariant.files_stay c.in_ok-load.ensures.held);
   within_limit = rw c.in_ok-push.ensures.ok (All-push (λ (bytes : List ℕ). length bytes ≤ max_bytes) c.loop-x.texts c.in_ok-load.field-0 c.loop-x.invariant.within_limit c.in_ok-load.ensures.within_limit);
   reads = c.in_ok-load.ensures.cause ∙ c.loop-x.invariant.reads;

@@ -1,5 +1,5 @@
-use Rattle.opl_tool.specs.Judged.{front_of}
-use Rattle.opl_tool.proofs.JudgedLemmas.{read-gives}
+use Rattle.opl_tool.specs.Reading.{front_of}
+use Rattle.opl_tool.proofs.ReadingLemmas.{read-gives}
 use Rattle.opl_tool.proofs.read.read.Goals as goal
 
 pub returns : goal.returns

@@ -1,5 +1,5 @@
 use Rattle.std.proofs.lemmas.Result.{err_from_is_err_and}
-use Rattle.opl_tool.proofs.JudgedLemmas.{understood-all, understood-stops, understood-untyped}
+use Rattle.opl_tool.proofs.ReadingLemmas.{understood-all, understood-stops, understood-untyped}
 use Rattle.opl_tool.proofs.read.understand.Goals as goal
 
 pub returns-in_err-files : goal.returns-in_err-files

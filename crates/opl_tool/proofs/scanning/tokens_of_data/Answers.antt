@@ -1,6 +1,6 @@
 use Rattle.std.proofs.Common.{◌+◌, arith}
 use Rattle.std.proofs.lemmas.Result.{err_from_is_err_and}
-use Rattle.opl_tool.specs.Judged.{Scanned}
+use Rattle.opl_tool.specs.Reading.{Scanned}
 use Rattle.opl_tool.proofs.DataLemmas.{scanned-stops}
 use Rattle.opl_tool.proofs.EachLemmas.{each-none, each-next, each-stops}
 use Rattle.opl_tool.proofs.scanning.tokens_of_data.Goals as goal

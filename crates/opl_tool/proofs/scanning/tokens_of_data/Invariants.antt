@@ -1,5 +1,5 @@
 use Rattle.std.proofs.Common.{take, Ok}
-use Rattle.opl_tool.specs.Judged.{Scanned}
+use Rattle.opl_tool.specs.Reading.{Scanned}
 use Rattle.opl_tool.specs.Stage.{Each}
 use Rattle.opl_tool.proofs.scanning.tokens_of_data.Given as goal
 
