@@ -1,0 +1,3 @@
+scheduleHorizon = 30;
+Activity walls(5);
+solve { walls.end <= 20; };

@@ -1,0 +1,1 @@
+range R 1..3000; var int x[R] in 0..1; solve { prod(i in R) x[i] = 0; };

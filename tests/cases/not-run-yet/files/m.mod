@@ -1,2 +1,0 @@
-var int x in 1..2;
-solve { x + 1 = 2; };
