@@ -25,10 +25,12 @@ use Rattle.opl_trace.specs.Objective.{Objective}
 use Rattle.opl_trace.proofs.Families.{below_self}
 use Rattle.opl_filter.specs.Mentions.{lists, term_mentions, AreVariables}
 use Rattle.opl_filter.proofs.Mentioned.{variables_there}
+use Rattle.opl_linear_filter.specs.declared.linear_filter.LinearFilter.{LinearFilter}
+use Rattle.opl_linear_filter.specs.LinearForms.{IsFilterIfAny}
 use Rattle.opl_closure.specs.Members.{Each}
 use Rattle.opl_engine.specs.declared.member.Member.{Member}
 use Rattle.opl_engine.specs.declared.member.Member.TheVariants as member
-use Rattle.opl_engine.specs.Members.{goal_in, bound_fact, fact_of, fact_at, wakes_on, AreVariablesOf, IsListed, IsGoal, IsMember}
+use Rattle.opl_engine.specs.Members.{goal_in, bound_fact, fact_of, fact_at, wakes_on, AreVariablesOf, IsListed, IsConstraint, IsGoal, IsMember}
 use Rattle.opl_engine.specs.Crowds.{Crowd, kind_of}
 use Rattle.opl_engine.specs.Engines.{IsBounded, IsFirst, IsGrown}
 use Rattle.opl_engine.proofs.Lists.{the_one, length_map, map_added, drop_added, there, get_first}
@@ -116,8 +118,8 @@ bounded_set core best more ms b = record { value = more; variables = b.variables
 -- the bound has worked
 bound_kind : (m : Member) → kind_of m ≡ 0 → (v : Option ℤ) × (xs : List ℕ) × (m ≡ member.Bound v xs)
 bound_kind (member.Bound v xs) h = (v, xs, refl)
-bound_kind (member.Declared k xs) h = absurd (omega (arith, h))
-bound_kind (member.Posted c xs) h = absurd (omega (arith, h))
+bound_kind (member.Declared k xs form) h = absurd (omega (arith, h))
+bound_kind (member.Posted c xs form) h = absurd (omega (arith, h))
 bound_kind (member.Value x v) h = absurd (omega (arith, h))
 
 the_head : {B : Type 0} (a b : B) (xs ys : List B) → ◌≡◌ {A = List B} (a ∷ xs) (b ∷ ys) → a ≡ b
@@ -167,8 +169,8 @@ made_added core ms m = each_added (IsMember core) ms m
 -- a member's variables are there
 pub member_there : (core : Core) (m : Member) (x : ℕ) → IsMember core m → wakes_on m x ≡ true → x < length core.sets
 member_there core (member.Bound best xs) x s h = s.0 x h
-member_there core (member.Declared k xs) x s h = listed_there core (fact_at core (slice_get core.cons k)) xs x s.1 h
-member_there core (member.Posted c xs) x s h = listed_there core (fact core.tables core.resources c.value) xs x s h
+member_there core (member.Declared k xs form) x s h = listed_there core (fact_at core (slice_get core.cons k)) xs x s.1.0 h
+member_there core (member.Posted c xs form) x s h = listed_there core (fact core.tables core.resources c.value) xs x s.0 h
 member_there core (member.Value y v) x s h = cc
 
 -- ---- the members of a core
@@ -194,13 +196,17 @@ at_place core k c l e = slice_get-get_or core.cons k c l ∙ ap (λ d. Some d) (
 fact_is : (core : Core) (k : ℕ) (c : Cons) → k < length core.cons → c ≡ get_or core.cons k c → slice_get (facts core) k ≡ Some (fact core.tables core.resources c)
 fact_is core k c l e = slice_get-map (fact core.tables core.resources) core.cons k ∙ ap (option_map (fact core.tables core.resources)) (at_place core k c l e)
 
-pub declared_made : (core : Core) (k : ℕ) (c : Cons) (xs : List ℕ) → IsSoundCore core → k < length core.cons → c ≡ get_or core.cons k c → AreVariables xs (fact core.tables core.resources c) → IsMember core (member.Declared k xs)
-declared_made core k c xs s l e a =
-    subst (λ o. (k < length core.cons) × IsListed core (fact_at core o) xs) (sym (at_place core k c l e))
-    (l, record { sound = all_at (IsSoundFact core.sets) (facts core) k (fact core.tables core.resources c) s.constraints (fact_is core k c l e); named = a })
+pub declared_sound : (core : Core) (k : ℕ) (c : Cons) → IsSoundCore core → k < length core.cons → c ≡ get_or core.cons k c → IsSoundFact core.sets (fact core.tables core.resources c)
+declared_sound core k c s l e = all_at (IsSoundFact core.sets) (facts core) k (fact core.tables core.resources c) s.constraints (fact_is core k c l e)
 
-pub declared_fact : (core : Core) (k : ℕ) (c : Cons) (xs : List ℕ) → k < length core.cons → c ≡ get_or core.cons k c → slice_get (facts core) k ≡ Some (fact_of core (member.Declared k xs))
-declared_fact core k c xs l e = fact_is core k c l e ∙ ap (λ o. Some (fact_at core o)) (sym (at_place core k c l e))
+pub declared_made : (core : Core) (k : ℕ) (c : Cons) (xs : List ℕ) (form : Option LinearFilter) → IsSoundCore core → k < length core.cons → c ≡ get_or core.cons k c → AreVariables xs (fact core.tables core.resources c) →
+    IsFilterIfAny core (fact core.tables core.resources c) form → IsMember core (member.Declared k xs form)
+declared_made core k c xs form s l e a f =
+    subst (λ o. (k < length core.cons) × IsConstraint core (fact_at core o) xs form) (sym (at_place core k c l e))
+    (l, (record { sound = declared_sound core k c s l e; named = a }, f))
+
+pub declared_fact : (core : Core) (k : ℕ) (c : Cons) (xs : List ℕ) (form : Option LinearFilter) → k < length core.cons → c ≡ get_or core.cons k c → slice_get (facts core) k ≡ Some (fact_of core (member.Declared k xs form))
+declared_fact core k c xs form l e = fact_is core k c l e ∙ ap (λ o. Some (fact_at core o)) (sym (at_place core k c l e))
 
 only_one : (core : Core) (m : Member) → IsMember core m → Each (λ i a. IsMember core a) (m ∷ [])
 only_one core m s zero a h = subst (IsMember core) (the_one m a h) s
@@ -238,8 +244,11 @@ base_none core e = sym (append-nil (facts core)) ∙ ap (λ (o : Option Goal). f
 pub base_some : (core : Core) (g : Goal) (c : Fact) → core.goal ≡ Some g → c ≡ Fact.cmp equal (goal_in core g).term (goal_in core g).term → facts core ++ c ∷ [] ≡ base core
 base_some core g c e f = ap (λ d. facts core ++ d ∷ []) f ∙ ap (λ (o : Option Goal). facts core ++ definedness (lift1 (λ (h : Goal). term core.tables core.resources h.value) o)) (sym e)
 
+pub definedness_sound : (core : Core) (g : Goal) (c : Cons) → core.goal ≡ Some g → IsSoundCore core → fact core.tables core.resources c ≡ Fact.cmp equal (goal_in core g).term (goal_in core g).term → IsSoundFact core.sets (fact core.tables core.resources c)
+definedness_sound core g c e s f = subst (IsSoundFact core.sets) (sym f) (defined_sound core (goal_in core g).term (goal_sound core g e s))
+
 pub defined_made : (core : Core) (g : Goal) (c : Cons) (xs : List ℕ) → core.goal ≡ Some g → IsSoundCore core → fact core.tables core.resources c ≡ Fact.cmp equal (goal_in core g).term (goal_in core g).term → AreVariables xs (fact core.tables core.resources c) → IsListed core (fact core.tables core.resources c) xs
-defined_made core g c xs e s f a = record { sound = subst (IsSoundFact core.sets) (sym f) (defined_sound core (goal_in core g).term (goal_sound core g e s)); named = a }
+defined_made core g c xs e s f a = record { sound = definedness_sound core g c e s f; named = a }
 
 -- a constraint that is posted, by what is lent of it and of the core
 pub posted_made : (core now lent : Core) (c d : Cons) (xs : List ℕ) → core ≡ now → lent ≡ core → d ≡ c → IsSoundFact now.sets (fact now.tables now.resources c) → AreVariables xs (fact lent.tables lent.resources d) → IsListed core (fact core.tables core.resources c) xs
@@ -247,3 +256,11 @@ posted_made core now lent c d xs e l i s a = record {
   sound = subst (λ (k : Core). IsSoundFact k.sets (fact k.tables k.resources c)) (sym e) s;
   named = subst (λ (k : Core). AreVariables xs (fact k.tables k.resources c)) l (subst (λ (k : Cons). AreVariables xs (fact lent.tables lent.resources k)) i a);
 }
+
+pub posted_sound : (core now lent : Core) (c d : Cons) → core ≡ now → lent ≡ core → d ≡ c → IsSoundFact now.sets (fact now.tables now.resources c) → IsSoundFact lent.sets (fact lent.tables lent.resources d)
+posted_sound core now lent c d e l i s =
+    subst (λ (k : Cons). IsSoundFact lent.sets (fact lent.tables lent.resources k)) (sym i) (subst (λ (k : Core). IsSoundFact k.sets (fact k.tables k.resources c)) (sym (l ∙ e)) s)
+
+pub posted_form : (core lent : Core) (c d : Cons) (form : Option LinearFilter) → lent ≡ core → d ≡ c → IsFilterIfAny lent (fact lent.tables lent.resources d) form → IsFilterIfAny core (fact core.tables core.resources c) form
+posted_form core lent c d form l i f =
+    subst (λ (k : Core). IsFilterIfAny k (fact k.tables k.resources c) form) l (subst (λ (k : Cons). IsFilterIfAny lent (fact lent.tables lent.resources k) form) i f)

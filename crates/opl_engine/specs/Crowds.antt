@@ -20,6 +20,6 @@ pub record IsCrowd (members : List Member) (watchers : List (List ℕ)) (waits :
 -- the kinds of members
 abbrev pub kind_of : Member → ℕ
 kind_of (member.Bound best variables) = 0
-kind_of (member.Declared k variables) = 1
-kind_of (member.Posted c variables) = 2
+kind_of (member.Declared k variables form) = 1
+kind_of (member.Posted c variables form) = 2
 kind_of (member.Value x v) = 3

@@ -6,6 +6,8 @@ use Rattle.opl_expr.specs.declared.forms.Cons.{Cons}
 use Rattle.opl_expr.specs.Forms.{Term, Fact, term, fact}
 use Rattle.opl_expr.specs.Sound.{IsSoundTerm, IsSoundFact}
 use Rattle.opl_filter.specs.Mentions.{lists, term_mentions, AreVariables}
+use Rattle.opl_linear_filter.specs.declared.linear_filter.LinearFilter.{LinearFilter}
+use Rattle.opl_linear_filter.specs.LinearForms.{IsFilterIfAny}
 use Rattle.opl_trace.specs.Answers.{is_value}
 use Rattle.opl_trace.specs.Marks.{objective}
 use Rattle.opl_trace.specs.Objective.{Objective, better_than}
@@ -30,15 +32,15 @@ fact_at core (Some c) = fact core.tables core.resources c
 -- the constraint that a member stands for
 abbrev pub fact_of : Core → Member → Fact
 fact_of core (member.Bound best variables) = bound_fact (objective core) best
-fact_of core (member.Declared k variables) = fact_at core (slice_get core.cons k)
-fact_of core (member.Posted c variables) = fact core.tables core.resources c.value
+fact_of core (member.Declared k variables form) = fact_at core (slice_get core.cons k)
+fact_of core (member.Posted c variables form) = fact core.tables core.resources c.value
 fact_of core (member.Value x v) = is_value x v
 
 -- the variables that wake a member: those that its constraint mentions. The value of a variable, once it is there, stays.
 abbrev pub wakes_on : Member → ℕ → Bool
 wakes_on (member.Bound best variables) x = lists variables x
-wakes_on (member.Declared k variables) x = lists variables x
-wakes_on (member.Posted c variables) x = lists variables x
+wakes_on (member.Declared k variables form) x = lists variables x
+wakes_on (member.Posted c variables form) x = lists variables x
 wakes_on (member.Value y v) x = false
 
 -- the list has the variables of an expression, and no others
@@ -49,6 +51,10 @@ AreVariablesOf variables t = (x : ℕ) → lists variables x ≡ term_mentions t
 pub record IsListed (core : Core) (c : Fact) (variables : List ℕ) : Type 0 where
   pub sound : IsSoundFact core.sets c
   pub named : AreVariables variables c
+
+-- the same, and if there is a filter by its linear form, it is that of the constraint
+abbrev pub IsConstraint : Core → Fact → List ℕ → Option LinearFilter → Type 0
+IsConstraint core c variables form = IsListed core c variables × IsFilterIfAny core c form
 
 -- a sound objective, with its variables
 pub record IsGoal (core : Core) (g : Objective) (variables : List ℕ) : Type 0 where
@@ -62,6 +68,6 @@ AreThere core variables = (x : ℕ) → lists variables x ≡ true → x < lengt
 -- a member of a core
 abbrev pub IsMember : Core → Member → Type 0
 IsMember core (member.Bound best variables) = AreThere core variables × ((g : Objective) → objective core ≡ Some g → IsGoal core g variables)
-IsMember core (member.Declared k variables) = (k < length core.cons) × IsListed core (fact_at core (slice_get core.cons k)) variables
-IsMember core (member.Posted c variables) = IsListed core (fact core.tables core.resources c.value) variables
+IsMember core (member.Declared k variables form) = (k < length core.cons) × IsConstraint core (fact_at core (slice_get core.cons k)) variables form
+IsMember core (member.Posted c variables form) = IsConstraint core (fact core.tables core.resources c.value) variables form
 IsMember core (member.Value x v) = x < length core.sets

@@ -38,6 +38,6 @@ bound_rests core (Some o) (Some v) variables F G m s g b same = stable_moves (be
 
 pub member_rests : (core : Core) (m : Member) (F G : Family) → IsMember core m → IsStable (refutes (fact_of core m)) F → Full G → Below G F → ((x : ℕ) → wakes_on m x ≡ true → set_of G x ≡ set_of F x) → IsStable (refutes (fact_of core m)) G
 member_rests core (member.Bound best variables) F G m s g b same = bound_rests core (objective core) best variables F G m.1 s g b same
-member_rests core (member.Declared k variables) F G m s g b same = listed_rests core (fact_of core (member.Declared k variables)) variables F G m.1 s g b same
-member_rests core (member.Posted c variables) F G m s g b same = listed_rests core (fact_of core (member.Posted c variables)) variables F G m s g b same
+member_rests core (member.Declared k variables form) F G m s g b same = listed_rests core (fact_of core (member.Declared k variables form)) variables F G m.1.0 s g b same
+member_rests core (member.Posted c variables form) F G m s g b same = listed_rests core (fact_of core (member.Posted c variables form)) variables F G m.0 s g b same
 member_rests core (member.Value x v) F G m s g b same = value_rests x v F G s g b

@@ -12,6 +12,7 @@ use crate::members::Members;
 use opl_domain::OutOfMemory;
 use opl_expr::{Cons, Core, Goal, Op};
 use opl_filter::variables_of;
+use opl_linear_filter::LinearFilter;
 use opl_list::{Boxed, Seq};
 use std::alloc::Global;
 use std::rc::Rc;
@@ -47,7 +48,9 @@ fn declared_member(alloc: Global, core: &Core, place: u32) -> Result<Member, Out
     ensures fact { IfOk result (λ m. slice_get (facts core.now) place ≡ Some (fact_of core.now m)) }
 {
     let c = &core.cons.as_slice()[place as usize];
-    Ok(Member::Declared(place, variables_of(alloc, core, c)?))
+    let variables = variables_of(alloc, core, c)?;
+    let form = LinearFilter::new(alloc, core, c)?;
+    Ok(Member::Declared(place, variables, form))
 }
 
 /// Adds one member.
@@ -96,7 +99,8 @@ fn add_definedness(alloc: Global, core: &Core, members: &mut Members) -> Result<
         Some(goal) => {
             let c = defined(alloc, core, goal)?;
             let variables = variables_of(alloc, core, c.as_ref())?;
-            grow(core, members, Member::Posted(c, variables))?;
+            let form = LinearFilter::new(alloc, core, c.as_ref())?;
+            grow(core, members, Member::Posted(c, variables, form))?;
             Ok(())
         }
     }

@@ -17,6 +17,7 @@ use crate::opening::Opening;
 use opl_domain::{Narrow, OutOfMemory, Steps};
 use opl_expr::{Cons, Core};
 use opl_filter::{Outcome, variables_of};
+use opl_linear_filter::LinearFilter;
 use std::alloc::Global;
 use std::marker::Model;
 use std::rc::Rc;
@@ -113,7 +114,8 @@ impl Engine {
         ensures fits { (F : Family) (below : List Family) → Fits (seen self.old) F below → Fits (seen self.new) F below }
     {
         let variables = variables_of(alloc, self.core.as_ref(), c.as_ref())?;
-        self.members.add(Member::Posted(c, variables))?;
+        let form = LinearFilter::new(alloc, self.core.as_ref(), c.as_ref())?;
+        self.members.add(Member::Posted(c, variables, form))?;
         Ok(())
     }
 

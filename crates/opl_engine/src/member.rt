@@ -1,19 +1,21 @@
 //! The members of an engine.
 ghost use Rattle.std.specs.Prelude.{◌≡◌, ℕ, true, Some};
 ghost use Rattle.opl_domain.specs.Family.{Below};
-ghost use Rattle.opl_expr.specs.Forms.{Fact};
+ghost use Rattle.opl_expr.specs.Forms.{Fact, fact};
 ghost use Rattle.opl_expr.specs.Solutions.{declared};
 ghost use Rattle.opl_filter.specs.Mentions.{lists};
 ghost use Rattle.opl_filter.specs.Filtering.{refutes, IsBetween, Filters};
 ghost use Rattle.opl_trace.specs.Marks.{objective};
 ghost use Rattle.opl_trace.specs.Objective.{Objective};
-ghost use Rattle.opl_engine.specs.Members.{bound_fact, fact_of, wakes_on, AreThere, IsGoal, IsMember};
+ghost use Rattle.opl_linear_filter.specs.LinearForms.{IsFilterIfAny};
+ghost use Rattle.opl_engine.specs.Members.{bound_fact, fact_of, wakes_on, AreThere, IsListed, IsGoal, IsMember};
 
 use crate::bound::keep_better;
 use opl_closure::{Propagator, keep_value};
 use opl_domain::Narrow;
 use opl_expr::{Cons, Core};
 use opl_filter::{Outcome, sweep};
+use opl_linear_filter::LinearFilter;
 use opl_list::Seq;
 use std::rc::Rc;
 
@@ -23,10 +25,10 @@ use std::rc::Rc;
 pub enum Member {
     /// To be better than a best value, with the variables of the objective. Without an objective, or a best value yet, it asks nothing.
     Bound(Option<i128>, Seq<u32>),
-    /// A constraint of the core, by its place, with its variables.
-    Declared(u32, Seq<u32>),
-    /// A constraint that was posted, with its variables.
-    Posted(Rc<Cons>, Seq<u32>),
+    /// A constraint of the core, by its place, with its variables, and with its filter if its sides are linear.
+    Declared(u32, Seq<u32>, Option<LinearFilter>),
+    /// A constraint that was posted, likewise.
+    Posted(Rc<Cons>, Seq<u32>, Option<LinearFilter>),
     /// A variable has a value. After two cuts it is stable for good: it has no variables that wake it.
     Value(u32, i64),
 }
@@ -38,8 +40,8 @@ impl Member {
     {
         match self {
             Member::Bound(_best, variables) => variables.as_slice(),
-            Member::Declared(_place, variables) => variables.as_slice(),
-            Member::Posted(_constraint, variables) => variables.as_slice(),
+            Member::Declared(_place, variables, _form) => variables.as_slice(),
+            Member::Posted(_constraint, variables, _form) => variables.as_slice(),
             Member::Value(_x, _v) => &[],
         }
     }
@@ -74,6 +76,27 @@ fn filter_bound<N: Narrow>(core: &Core, best: Option<i128>, variables: &[u32], n
     }
 }
 
+/// The filter of a constraint: that of its linear form, if there is one, and else value by value.
+fn filter_constraint<N: Narrow>(
+    core: &Core,
+    c: &Cons,
+    variables: &[u32],
+    form: &Option<LinearFilter>,
+    n: &mut N,
+) -> Outcome
+    requires listed { IsListed core.now (fact core.now.tables core.now.resources c.now) variables.now }
+    requires form { IsFilterIfAny core.now (fact core.now.tables core.now.resources c.now) form.now }
+    requires declared { Below (N.family n.old) (declared core.now) }
+    ensures between { IsBetween (refutes (fact core.now.tables core.now.resources c.now)) (N.family n.old) (N.family n.new) }
+    ensures outcome { Filters (refutes (fact core.now.tables core.now.resources c.now)) (N.family n.old) (N.family n.new) result }
+    ensures leads_to { N.leads_to n.old n.new }
+{
+    match form {
+        None => sweep(core, c, variables, n),
+        Some(filter) => filter.filter(core, n),
+    }
+}
+
 /// What a member's filter does.
 fn filter_by<N: Narrow>(member: &Member, core: &Core, n: &mut N) -> Outcome
     requires made { IsMember core.now member.now }
@@ -84,11 +107,13 @@ fn filter_by<N: Narrow>(member: &Member, core: &Core, n: &mut N) -> Outcome
 {
     match member {
         Member::Bound(best, variables) => filter_bound(core, *best, variables.as_slice(), n),
-        Member::Declared(place, variables) => match core.cons.get(*place as usize) {
+        Member::Declared(place, variables, form) => match core.cons.get(*place as usize) {
             None => keep_all(n),
-            Some(c) => sweep(core, c, variables.as_slice(), n),
+            Some(c) => filter_constraint(core, c, variables.as_slice(), form, n),
         },
-        Member::Posted(c, variables) => sweep(core, c.as_ref(), variables.as_slice(), n),
+        Member::Posted(c, variables, form) => {
+            filter_constraint(core, c.as_ref(), variables.as_slice(), form, n)
+        }
         Member::Value(x, v) => keep_value(n, *x, *v),
     }
 }

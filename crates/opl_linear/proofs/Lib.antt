@@ -1,8 +1,8 @@
-mod Sums
+pub mod Sums
 mod Trims
 mod AtMost
 mod Alternating
 mod Differs
-mod Normal
+pub mod Normal
 pub mod Carrying
 mod Turned

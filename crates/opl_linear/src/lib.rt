@@ -12,3 +12,4 @@ mod trim;
 
 pub use form::filter_form;
 pub use kind::Kind;
+pub use roots::{root, value_of};

@@ -28,7 +28,7 @@ fn remainder(x: i128, y: i128) -> i128
 }
 
 /// The number that makes `k` plus its multiple by `c` zero.
-fn root(k: i128, c: i128) -> Option<i128>
+pub fn root(k: i128, c: i128) -> Option<i128>
     requires nonzero { c ≢ pos 0 }
     requires small { IsSmall (unsigned_abs k) }
     ensures { IsRoot k c result }
@@ -41,7 +41,7 @@ fn root(k: i128, c: i128) -> Option<i128>
 }
 
 /// The number as a value of variable `x`, if it is one.
-fn value_of<V: View>(view: &V, x: u32, v: i128) -> Option<i64>
+pub fn value_of<V: View>(view: &V, x: u32, v: i128) -> Option<i64>
     requires { x < length (V.family view.now) }
     ensures { IsValueOf (V.family view.now) x v result }
 {

@@ -2,7 +2,7 @@ use Rattle.std.proofs.Common.{◌∙◌, length, reverse, ap, subst, arith}
 use Rattle.opl_expr.specs.Forms.{fact}
 use Rattle.opl_engine.specs.declared.member.Member.TheVariants as member
 use Rattle.opl_engine.specs.States.{Parts, seen}
-use Rattle.opl_engine.proofs.Made.{member_there, posted_made}
+use Rattle.opl_engine.proofs.Made.{member_there, posted_made, posted_sound, posted_form}
 use Rattle.opl_engine.proofs.Changes.{posts, posts_keep, stays, stays_engine}
 use Rattle.opl_engine.proofs.engine.Engine.post.Goals as goal
 
@@ -24,19 +24,20 @@ returns-in_err-add-clause-fits c =
 pub returns-clause-same : goal.returns-clause-same
 returns-clause-same c =
     let s = c.self.inside in
-    (posts s.core.value s.best s.members c.add.new.self (reverse s.openings.items) (member.Posted c.args.c c.in_ok-variables.variables) (seen c.args.self.now) c.self.invariant (ap seen c.self.view_is) c.in_ok-add.ensures.ok c.add.ensures.long).same
+    (posts s.core.value s.best s.members c.add.new.self (reverse s.openings.items) (member.Posted c.args.c c.in_ok-variables.variables c.in_ok-form.form) (seen c.args.self.now) c.self.invariant (ap seen c.self.view_is) c.in_ok-add.ensures.ok c.add.ensures.long).same
 
 pub returns-clause-fits : goal.returns-clause-fits
 returns-clause-fits c =
     let s = c.self.inside in
-    (posts s.core.value s.best s.members c.add.new.self (reverse s.openings.items) (member.Posted c.args.c c.in_ok-variables.variables) (seen c.args.self.now) c.self.invariant (ap seen c.self.view_is) c.in_ok-add.ensures.ok c.add.ensures.long).fits
+    (posts s.core.value s.best s.members c.add.new.self (reverse s.openings.items) (member.Posted c.args.c c.in_ok-variables.variables c.in_ok-form.form) (seen c.args.self.now) c.self.invariant (ap seen c.self.view_is) c.in_ok-add.ensures.ok c.add.ensures.long).fits
 
 pub add-requires : goal.add-requires
 add-requires c = λ x h.
     let s = c.self.inside in
     let xs = c.in_ok-variables.variables in
     let m = posted_made s.core.value c.args.self.now.core c.as_ref.result.now c.args.c.value c.as_ref-2.result.now xs (ap (λ (p : Parts). p.core) c.self.view_is) c.as_ref.ensures c.as_ref-2.ensures c.requires c.in_ok-variables.ensures in
-    let l = member_there s.core.value (member.Posted c.args.c xs) x m h in
+    let f = posted_form s.core.value c.as_ref-3.result.now c.args.c.value c.as_ref-4.result.now c.in_ok-form.form c.as_ref-3.ensures c.as_ref-4.ensures c.in_ok-form.ensures.filter in
+    let l = member_there s.core.value (member.Posted c.args.c xs c.in_ok-form.form) x (m, f) h in
     omega (arith, l, c.self.invariant.variables)
 
 pub invariant_of-self-2 : goal.invariant_of-self-2
@@ -44,4 +45,10 @@ invariant_of-self-2 c =
     let s = c.self.inside in
     let xs = c.in_ok-variables.variables in
     let m = posted_made s.core.value c.args.self.now.core c.as_ref.result.now c.args.c.value c.as_ref-2.result.now xs (ap (λ (p : Parts). p.core) c.self.view_is) c.as_ref.ensures c.as_ref-2.ensures c.requires c.in_ok-variables.ensures in
-    posts_keep s.core.value s.best s.members c.add.new.self (reverse s.openings.items) (member.Posted c.args.c xs) c.self.invariant m c.in_ok-add.ensures.ok
+    let f = posted_form s.core.value c.as_ref-3.result.now c.args.c.value c.as_ref-4.result.now c.in_ok-form.form c.as_ref-3.ensures c.as_ref-4.ensures c.in_ok-form.ensures.filter in
+    posts_keep s.core.value s.best s.members c.add.new.self (reverse s.openings.items) (member.Posted c.args.c xs c.in_ok-form.form) c.self.invariant (m, f) c.in_ok-add.ensures.ok
+
+pub new-requires : goal.new-requires
+new-requires c =
+    let s = c.self.inside in
+    posted_sound s.core.value c.args.self.now.core c.as_ref-3.result.now c.args.c.value c.as_ref-4.result.now (ap (λ (p : Parts). p.core) c.self.view_is) c.as_ref-3.ensures c.as_ref-4.ensures c.requires

@@ -1,0 +1,10 @@
+mod Plain
+mod Constants
+mod Building
+mod Weights
+mod Counts
+mod Equations
+mod Values
+mod Comparing
+mod Which
+mod Normal

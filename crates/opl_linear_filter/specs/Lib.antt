@@ -1,0 +1,4 @@
+pub mod Parts
+pub mod ShortForms
+pub mod LinearForms
+pub mod NormalForms

@@ -1,0 +1,12 @@
+//! Filters of comparisons whose sides are linear: the linear form of their difference, made once.
+#![tactic(auto)]
+
+mod as_filter;
+mod constant;
+mod linear_filter;
+mod narrowing;
+mod numbers;
+mod parts;
+mod short;
+
+pub use linear_filter::LinearFilter;
