@@ -32,6 +32,8 @@ use Rattle.opl_form.specs.Nodes as making
 use Rattle.opl_form.specs.Nodes.{Made, Parts, absolute, aggregated, all_differ, are_alike, as_operand, by_kind, by_sign, chain_of, chained, compared, condition_node, counted, different, divided, element_at, element_node, element_sort, evaluated, folded, greatest_of, implied, indexed, is_zero, known_node, least, left_over, looked_up, multiplied, negated, next, number_node, number_part, op_of, operand, opposite, parts_nodes, placed, product, product_from, size, sized, stepped, summed, truth_part, two_greatest, unless_zero, value_node, variable_sort, with_indices}
 use Rattle.opl_form.specs.Made.{array_of, made, made_all, made_first, made_operands, made_same, made_steps, place, places}
 use Rattle.opl_form.specs.Forms.{form, forms}
+use Rattle.opl_optimum.specs.Goals.{goal_form}
+use Rattle.opl_optimum.proofs.GoalLaws.{alone, goal-made}
 use Rattle.opl_complete.proofs.Standing.{AllStand, Stands, as_condition-stands, as_number-stands, conditions-stand, nothing-compared, numbers-stand, plain, plain-Abs, plain-AllDifferent, plain-And, plain-At, plain-Cmp, plain-Div, plain-Iff, plain-Imp, plain-Max, plain-Min, plain-Mul, plain-Neg, plain-Not, plain-Or, plain-Rem, plain-Sum, plain-Var, plain_cons, ranked-stands, ranks-stand, two}
 
 -- what is made, if there is no fault, is as it should be
@@ -402,3 +404,7 @@ module _ (sets : List (ℤ × ℤ)) (arrays : List Cells) where
   -- the constraints of conditions ask for no capacity
   pub forms-plain : (n : ℕ) (conditions : List Condition) (cs : List Cons) → forms sets arrays n conditions ≡ Ok cs → ArePlain cs
   forms-plain n conditions cs e = subst (Keeps ArePlain) e (forms-keep n conditions)
+
+  -- nor does the expression of an objective
+  pub goal-plain : (item : ℕ) (d : Draft) (f : Form) → goal_form sets arrays item d ≡ Ok f → plain (tables arrays) (as_number f) ≡ true
+  goal-plain item d f e = as_number-stands (tables arrays) f (subst (Keeps (Stands (tables arrays))) (goal-made sets arrays item d f e).is_made (made-keeps sets arrays item (alone d) 0))

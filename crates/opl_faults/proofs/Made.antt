@@ -20,6 +20,7 @@ use Rattle.opl_eval.specs.Evaluation.{Environment, Found, with_parameters}
 use Rattle.opl_eval.proofs.NoMemory.{IsReal, Real, real_cond, real_err, real_found, real_ok, real_run, real_sized}
 use Rattle.opl_meaning.specs.declared.variable.VariableItem.{VariableItem}
 use Rattle.opl_meaning.specs.Runs.{Names}
+use Rattle.opl_meaning.specs.Uses.{place_of as term_place}
 use Rattle.opl_draft.specs.Drafts.{Cells, Draft, Drafts, Leaves, Sign, Steps}
 use Rattle.opl_draft.specs.Drafts.Drafts.{no_drafts, more_drafts}
 use Rattle.opl_draft.specs.Drafts.Leaves.{listed, numbered}
@@ -27,11 +28,13 @@ use Rattle.opl_draft.specs.Drafts.Sign.{plus, minus, times, quotient, remainder}
 use Rattle.opl_draft.specs.Drafts.Steps.{no_steps, more_steps}
 use Rattle.opl_draft.specs.Instances.{Condition, Instance, condition_of, instances}
 use Rattle.opl_draft.specs.Instances.Instance.{posted, stopped}
-use Rattle.opl_draft.specs.Laws.{StepByForm, UnrolledByForm}
+use Rattle.opl_draft.specs.Laws.{StepByForm, UnrolledByForm, arrays}
+use Rattle.opl_draft.specs.Unrolled.{unrolled}
 use Rattle.opl_expr.specs.declared.forms.Cons.{Cons}
 use Rattle.opl_expr.specs.declared.forms.Expr.{Expr}
 use Rattle.opl_expr.specs.declared.forms.Expr.TheVariants as E
 use Rattle.opl_form.specs.Forms.{form, forms}
+use Rattle.opl_form.specs.Laws.{declared_ends}
 use Rattle.opl_form.specs.Made.{array_of, made, made_all, made_first, made_operands, made_same, made_steps, place, places}
 use Rattle.opl_form.specs.Measures.{depth, part_nodes, nodes}
 use Rattle.opl_form.specs.Nodes as made_nodes
@@ -40,7 +43,8 @@ use Rattle.opl_form.specs.Nodes.Fault.{eval, large, deep, many}
 use Rattle.opl_form.specs.Parts.{Form, Sort, all_known, are_indices, as_condition, as_number, indices_of, leaves, ranked, subscripts_fit}
 use Rattle.opl_form.specs.Parts.Form.{known, number, name, condition, truth}
 use Rattle.opl_form.specs.Parts.Sort.{whole, named, other}
-use Rattle.opl_faults.specs.Laws.{FormsNeverMemory}
+use Rattle.opl_optimum.specs.Goals.{goal_form, goal_with}
+use Rattle.opl_faults.specs.Laws.{FormsNeverMemory, GoalsNeverMemory}
 use Rattle.opl_faults.proofs.Instances.{AreGoing, IsGoing, instances-go}
 use Rattle.opl_faults.proofs.Unrolled.{AreCalm, AreCalmSteps, IsCalm, term-calm}
 
@@ -316,6 +320,20 @@ module _ (sets : List (ℤ × ℤ)) (arrays : List Cells) (item : ℕ) where
     same-made : (n : ℕ) (g : Form) (ds : Drafts) → AreCalm ds → RealMade (made_same sets arrays item n g ds)
     same-made n g no_drafts h = made-ok g
     same-made n g (more_drafts d ds) h = made-next _ _ (draft-made (n + part_nodes g) d h.0) (λ k. made-next _ _ (made-as item n g k) (λ l. same-made n l ds h.1))
+
+-- ---- objectives
+
+module _ (sets : List (ℤ × ℤ)) (arrays : List Cells) (item : ℕ) where
+  goal-made : (d : Draft) → IsCalm d → RealMade (goal_form sets arrays item d)
+  goal-made d h =
+      made-next _ _ (made-next _ _ (made-as-operand item (place d) 0 (made sets arrays item 0 d) (draft-made sets arrays item 0 d h)) (λ g. made-number-part sets arrays item (place d) 0 g))
+      (λ g. made-sized (place d) _ (Ok g) (made-ok g))
+
+pub goals_never_memory : UnrolledByForm → StepByForm → GoalsNeverMemory
+goals_never_memory by_form step_by_form env items names None = made-never _ (made-ok None)
+goals_never_memory by_form step_by_form env items names (Some g) =
+    made-never _ (made-next (goal_form (declared_ends items) (arrays env items) (term_place g.term) (unrolled items names g.term env)) (λ f. Ok (Some (goal_with g f)))
+    (goal-made (declared_ends items) (arrays env items) (term_place g.term) (unrolled items names g.term env) (term-calm by_form step_by_form items names g.term env)) (λ f. made-ok (Some (goal_with g f))))
 
 -- ---- conditions
 

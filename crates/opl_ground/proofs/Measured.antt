@@ -1,23 +1,25 @@
 -- Cores are within the limits of depth and nodes.
-use Rattle.std.proofs.Common.{◌≡◌, ℕ, suc, ◌+◌, ◌≤◌, max, List, [], ◌∷◌, map, Ok, Err, refl, ap, subst, arith}
-use Rattle.opl_meaning.specs.declared.variable.VariableItem.{VariableItem}
-use Rattle.opl_meaning.specs.Faults as meaning
-use Rattle.opl_meaning.specs.Variables.{variables_in}
+use Rattle.std.proofs.Common.{◌≡◌, ℕ, suc, ◌+◌, ◌≤◌, max, ℤ, List, [], ◌∷◌, map, Option, None, Some, refl, ap, subst, arith}
+use Rattle.opl_meaning.specs.Runs.{names_of, no_names}
+use Rattle.opl_draft.specs.Drafts.{Cells}
 use Rattle.opl_draft.specs.Laws.{arrays}
 use Rattle.opl_expr.specs.declared.forms.Cons.{Cons}
 use Rattle.opl_expr.specs.declared.forms.Cons.TheOpen.{Cons-F, Expr-F}
-use Rattle.opl_expr.specs.declared.forms.Cons.TheFolds.{fold-Cons}
+use Rattle.opl_expr.specs.declared.forms.Cons.TheFolds.{fold-Cons, fold-Expr}
+use Rattle.opl_expr.specs.declared.forms.Expr.{Expr}
+use Rattle.opl_expr.specs.declared.model.Goal.{Goal}
 use Rattle.opl_form.specs.Laws.{declared_ends}
 use Rattle.opl_form.specs.Measures as forms
-use Rattle.opl_form.specs.Nodes.{Made}
 use Rattle.opl_form.proofs.FormLaws.{forms_are_sound}
+use Rattle.opl_optimum.specs.Goals.{goal_nodes}
+use Rattle.opl_optimum.specs.Optima.{objective_of}
+use Rattle.opl_optimum.proofs.GoalLaws.{IsSoundObjective, goal-sound}
 use Rattle.opl_trace.specs.GroundCores as cores
-use Rattle.opl_ground.specs.Declared.{core_of}
-use Rattle.opl_ground.specs.Ground.{conditions_of, constraints_of, with_constraints, with_variables}
-use Rattle.opl_ground.specs.Measured.{GroundedIsMeasured, IsMeasured}
-use Rattle.opl_ground.specs.Names.{variable_names}
+use Rattle.opl_ground.specs.Ground.{conditions_of}
+use Rattle.opl_ground.specs.Measured.{GroundedIsMeasured, IsMeasured, IsShallow}
 use Rattle.opl_ground.proofs.Arrays.{arrays_are_sound}
-use Rattle.opl_ground.proofs.Ground.{core-same}
+use Rattle.opl_ground.proofs.Cores.{goal-few}
+use Rattle.opl_ground.proofs.Ground.{core-parts}
 use Rattle.opl_ground.proofs.Variables.{variables_are_laid_out}
 
 -- ---- both measures count alike
@@ -108,29 +110,35 @@ all-nodes : (cs : List Cons) → forms.total (map forms.nodes_of cs) ≡ cores.t
 all-nodes [] = refl
 all-nodes (c ∷ cs) = λ i. nodes-are c i + all-nodes cs i
 
+expr-depth-is : (e : Expr) → forms.depth e ≡ cores.expr_depth e
+unfolding forms.depth cores.expr_depth
+expr-depth-is e = λ i. fold-Expr ℕ ℕ (λ x. cons-depth x i) (λ x. expr-depth x i) e
+
+expr-nodes-are : (e : Expr) → forms.nodes e ≡ cores.expr_nodes e
+unfolding forms.nodes cores.expr_nodes
+expr-nodes-are e = λ i. fold-Expr ℕ ℕ (λ x. cons-nodes x i) (λ x. expr-nodes x i) e
+
+goal-nodes-are : (goal : Option Goal) → goal_nodes goal ≡ cores.goal_nodes goal
+goal-nodes-are None = refl
+goal-nodes-are (Some g) = expr-nodes-are g.value
+
+goal-shallow : (sets : List (ℤ × ℤ)) (arrays : List Cells) (goal : Option Goal) → IsSoundObjective sets arrays goal → IsShallow goal
+goal-shallow sets arrays None h = tt
+goal-shallow sets arrays (Some g) h = subst (λ n. n ≤ 2048) (expr-depth-is g.value) h.depth
+
 -- ---- cores
 
-nothing-else : (m n : ℕ) → 0 + m ≤ 4194304 → m ≡ n → n + (0 + (0 + 0)) ≤ 4194304
-nothing-else m n h e = omega (arith, h, e)
-
-none-yet : 0 ≤ 4194304
-none-yet = omega arith
+together : (a b m n : ℕ) → a + m ≤ 4194304 → a ≡ b → m ≡ n → n + (b + (0 + 0)) ≤ 4194304
+together a b m n h e f = omega (arith, h, e, f)
 
 pub grounded_is_measured : GroundedIsMeasured
-grounded_is_measured enumerations t env core keyed filled h = declared (variables_in env [] t.decls) refl h
-  where
-    made : (items : List VariableItem) (r : Made (List Cons)) → variables_in env [] t.decls ≡ Ok items → constraints_of t env items ≡ r →
-        with_constraints r (λ cs. Ok (core_of (variable_names enumerations items) env items cs)) ≡ Ok core → IsMeasured core
-    made items (Ok cs) v f e =
-        let sound = arrays_are_sound env items keyed filled (variables_are_laid_out env t.decls items v) in
-        let s = forms_are_sound (declared_ends items) (arrays env items) 0 (conditions_of t env items) cs sound none-yet f in
-        subst IsMeasured (core-same (core_of (variable_names enumerations items) env items cs) core e) (record {
-          depth = λ k d l. subst (λ n. n ≤ 2048) (depth-is _) (s.depth k d l);
-          nodes = nothing-else (forms.total (map forms.nodes_of cs)) (cores.total (map cores.cons_nodes cs)) s.nodes (all-nodes cs);
-        })
-    made items (Err fault) v f e = absurd (cc)
-
-    declared : (r : meaning.Made (List VariableItem)) → variables_in env [] t.decls ≡ r →
-        with_variables r (λ items. with_constraints (constraints_of t env items) (λ cs. Ok (core_of (variable_names enumerations items) env items cs))) ≡ Ok core → IsMeasured core
-    declared (Ok items) v e = made items (constraints_of t env items) v refl e
-    declared (Err fault) v e = absurd (cc)
+grounded_is_measured enumerations t env core keyed filled h =
+    let c = core-parts enumerations t env core h in
+    let sound = arrays_are_sound env c.items keyed filled (variables_are_laid_out env t.decls c.items c.variables) in
+    let g = goal-sound env c.items (names_of no_names t.decls) (objective_of t.instr) c.goal sound c.has_goal in
+    let s = forms_are_sound (declared_ends c.items) (arrays env c.items) (goal_nodes c.goal) (conditions_of t env c.items) c.constraints sound (goal-few (declared_ends c.items) (arrays env c.items) c.goal g) c.has_constraints in
+    subst IsMeasured c.is (record {
+      depth = λ k d l. subst (λ n. n ≤ 2048) (depth-is _) (s.depth k d l);
+      goal = goal-shallow (declared_ends c.items) (arrays env c.items) c.goal g;
+      nodes = together (goal_nodes c.goal) (cores.goal_nodes c.goal) (forms.total (map forms.nodes_of c.constraints)) (cores.total (map cores.cons_nodes c.constraints)) s.nodes (goal-nodes-are c.goal) (all-nodes c.constraints);
+    })

@@ -1,5 +1,5 @@
 -- Each variable of a core has a name.
-use Rattle.std.proofs.Common.{◌≡◌, ℕ, ◌+◌, ◌*◌, List, [], ◌∷◌, length, map, Option, None, Some, Ok, Err, refl, sym, ap, subst, ◌∙◌, arith, length-append}
+use Rattle.std.proofs.Common.{◌≡◌, ℕ, ◌+◌, ◌*◌, List, [], ◌∷◌, length, map, Option, None, Some, refl, sym, ap, subst, ◌∙◌, arith, length-append}
 use Rattle.std.specs.List.{All, flat_map}
 use Rattle.std.proofs.Math.Nat.{suc-mul}
 use Rattle.std.proofs.lemmas.List.Elements.{All-head, All-tail}
@@ -8,19 +8,14 @@ use Rattle.opl_value.specs.declared.value.Value.{Value}
 use Rattle.opl_value.specs.Places.{elements, lists}
 use Rattle.opl_bind.specs.Keys.{beginning, keys}
 use Rattle.opl_meaning.specs.declared.variable.VariableItem.{VariableItem}
-use Rattle.opl_meaning.specs.Faults as meaning
 use Rattle.opl_meaning.specs.Laws.{HasOneSet}
-use Rattle.opl_meaning.specs.Variables.{variables_in}
 use Rattle.opl_meaning.proofs.VariableLaws.{singles_have_one_set}
-use Rattle.opl_expr.specs.declared.forms.Cons.{Cons}
-use Rattle.opl_form.specs.Nodes.{Made}
 use Rattle.opl_form.proofs.Indices.{length-map}
 use Rattle.opl_show.specs.Texts.{Enumerations}
-use Rattle.opl_ground.specs.Declared.{IsLaidOut, IsLaidOver, core_of}
-use Rattle.opl_ground.specs.Ground.{constraints_of, with_constraints, with_variables}
+use Rattle.opl_ground.specs.Declared.{IsLaidOut, IsLaidOver}
 use Rattle.opl_ground.specs.Named.{GroundedIsNamed}
 use Rattle.opl_ground.specs.Names.{element_name, names_over, variable_names}
-use Rattle.opl_ground.proofs.Ground.{core-same}
+use Rattle.opl_ground.proofs.Ground.{core-parts}
 use Rattle.opl_ground.proofs.Variables.{variables_are_laid_out}
 
 -- ---- keys
@@ -51,17 +46,8 @@ names-length e (v ∷ vs) h k =
     ∙ sym (length-append v.sets (flat_map (λ v. v.sets) vs))
 
 pub grounded_is_named : GroundedIsNamed
-grounded_is_named enumerations t env core h = declared (variables_in env [] t.decls) refl h
-  where
-    made : (items : List VariableItem) (r : Made (List Cons)) → variables_in env [] t.decls ≡ Ok items →
-        with_constraints r (λ cs. Ok (core_of (variable_names enumerations items) env items cs)) ≡ Ok core → length core.names ≡ length core.sets
-    made items (Ok cs) v e =
-        subst (λ c. length c.names ≡ length c.sets) (core-same (core_of (variable_names enumerations items) env items cs) core e)
-        (names-length enumerations items (variables_are_laid_out env t.decls items v) (singles_have_one_set env t.decls items v)
-        ∙ sym (length-map (λ set. (set.low, set.high)) (flat_map (λ v. v.sets) items)))
-    made items (Err fault) v e = absurd (cc)
-
-    declared : (r : meaning.Made (List VariableItem)) → variables_in env [] t.decls ≡ r →
-        with_variables r (λ items. with_constraints (constraints_of t env items) (λ cs. Ok (core_of (variable_names enumerations items) env items cs))) ≡ Ok core → length core.names ≡ length core.sets
-    declared (Ok items) v e = made items (constraints_of t env items) v e
-    declared (Err fault) v e = absurd (cc)
+grounded_is_named enumerations t env core h =
+    let c = core-parts enumerations t env core h in
+    subst (λ c. length c.names ≡ length c.sets) c.is
+    (names-length enumerations c.items (variables_are_laid_out env t.decls c.items c.variables) (singles_have_one_set env t.decls c.items c.variables)
+    ∙ sym (length-map (λ set. (set.low, set.high)) (flat_map (λ v. v.sets) c.items)))

@@ -8,6 +8,7 @@ use Rattle.opl_meaning.specs.declared.variable.VariableItem.{VariableItem}
 use Rattle.opl_draft.specs.Laws.{arrays}
 use Rattle.opl_expr.specs.declared.forms.Cons.{Cons}
 use Rattle.opl_expr.specs.declared.model.Core.{Core}
+use Rattle.opl_expr.specs.declared.model.Goal.{Goal}
 use Rattle.opl_form.specs.Laws.{declared_ends}
 use Rattle.opl_form.specs.Parts.{tables}
 
@@ -23,15 +24,15 @@ IsLaidOut v = IsLaidOver v.space (length v.sets)
 
 -- ---- the core
 
--- The core of these constraints over the declared sets and arrays of a model, whose variables have these names. It has no resources, no objective and
+-- The core of these constraints and this objective over the declared sets and arrays of a model, whose variables have these names. It has no resources and
 -- no search section.
-abbrev pub core_of : List (List ℕ) → Environment → List VariableItem → List Cons → Core
-core_of names env items cs = record {
+abbrev pub core_of : List (List ℕ) → Environment → List VariableItem → Option Goal → List Cons → Core
+core_of names env items goal cs = record {
   names = names;
   sets = declared_ends items;
   tables = tables (arrays env items);
   resources = [];
   cons = cs;
-  goal = None;
+  goal = goal;
   search = None;
 }

@@ -24,7 +24,8 @@ pub fn variables_are_within_limits()
     ensures { VariablesAreWithinLimits }
 {}
 
-/// A core of the constraints that conditions give is sound, where its declared sets are within the limits and its arrays are sound.
+/// A core of an objective and of the constraints that conditions give is sound, where its declared sets are within the limits and its arrays
+/// are sound.
 pub fn cores_are_sound()
     ensures { CoresAreSound }
 {}
@@ -39,12 +40,12 @@ pub fn grounded_is_named()
     ensures { GroundedIsNamed }
 {}
 
-/// The constraints of a core are at most 2,048 deep, and the core has at most 4,194,304 nodes.
+/// The constraints and the objective of a core are at most 2,048 deep, and the core has at most 4,194,304 nodes.
 pub fn grounded_is_measured()
     ensures { GroundedIsMeasured }
 {}
 
-/// A core is a ground core, if no constraint asks for the capacity of a resource.
+/// A core is a ground core, if neither a constraint nor its objective asks for the capacity of a resource.
 pub fn grounded_is_ground()
     ensures { GroundedIsGround }
 {}

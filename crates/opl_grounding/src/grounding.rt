@@ -2,79 +2,66 @@
 ghost use Rattle.std.specs.Prelude.{◌≡◌, [], IfOk, Ok, map};
 ghost use Rattle.opl_eval.specs.Visible.{seen};
 ghost use Rattle.opl_meaning.specs.Variables.{variables_in};
-ghost use Rattle.opl_draft.specs.Laws as draft;
-ghost use Rattle.opl_form.specs.Laws.{declared_ends};
 ghost use Rattle.opl_nodes.specs.Contexts.{cells};
 ghost use Rattle.opl_show.specs.Readings.{names_of};
-ghost use Rattle.opl_ground.specs.Ground.{constraints_of};
 ghost use Rattle.opl_ground.specs.Names as names;
-ghost use Rattle.opl_posting.specs.Posts.{Posts};
 ghost use Rattle.opl_grounding.specs.Grounds.{Grounds, core_over};
 
 use crate::arrays::all_arrays;
 use crate::ends::ends_of;
-use crate::naming::declared_with;
+use crate::forms::{Forms, all_forms};
 use crate::tables::tables_of;
 use opl_eval::Environment;
-use opl_expr::{Cons, Core};
-use opl_list::Seq;
+use opl_expr::{Core, Goal};
+use opl_list::{Boxed, Seq};
 use opl_meaning::VariableItem;
 use opl_names::variable_names;
 use opl_nodes::{Array, FormFault};
-use opl_posting::post;
 use opl_tree::ModelTree;
 use std::alloc::{AllocError, Global};
 
-/// The constraints of a model over these declared sets and arrays, which are those of its data and its variables.
-fn constraints(
-    alloc: Global,
-    sets: &[(i64, i64)],
-    arrays: &[Array<'_>],
-    environment: &Environment<'_>,
-    variables: &[VariableItem],
-    tree: &ModelTree,
-) -> Result<Seq<Cons>, FormFault>
-    requires sets { sets.now ≡ declared_ends variables.now }
-    requires arrays { map cells arrays.now ≡ draft.arrays (seen environment.now) variables.now }
-    requires variables { variables_in (seen environment.now) [] tree.now.decls ≡ Ok variables.now }
-    ensures { Posts (constraints_of tree.now (seen environment.now) variables.now) result }
+/// An objective out of its box, if there is one.
+fn unboxed(goal: Option<Boxed<Goal>>) -> Option<Goal>
+    ensures { result ≡ goal }
 {
-    opl_runs::laws::names_are_declared();
-    let declared = declared_with(alloc, variables, arrays)?;
-    post(alloc, sets, arrays, &declared, environment, &tree.instr)
+    match goal {
+        None => None,
+        Some(goal) => Some(goal.into_inner()),
+    }
 }
 
-/// The core of these constraints over these declared sets and arrays.
+/// The core of this objective and these constraints over these declared sets and arrays.
 fn core_with(
     alloc: Global,
     enumerations: &[Seq<&[u8]>],
     variables: &[VariableItem],
     sets: Seq<(i64, i64)>,
     arrays: &[Array<'_>],
-    cons: Seq<Cons>,
+    forms: Forms,
 ) -> Result<Core, AllocError>
-    ensures { IfOk result (λ core. core ≡ core_over (names.variable_names (names_of enumerations.now) variables.now) sets (map cells arrays.now) cons) }
+    ensures { IfOk result (λ core. core ≡ core_over (names.variable_names (names_of enumerations.now) variables.now) sets (map cells arrays.now) forms.goal forms.cons) }
 {
     let names = variable_names(alloc, enumerations, variables)?;
     let tables = tables_of(alloc, arrays)?;
+    let Forms { goal, cons } = forms;
     Ok(Core {
         names,
         sets,
         tables,
         resources: Seq::new(alloc),
         cons,
-        goal: None,
+        goal: unboxed(goal),
         search: None,
     })
 }
 
-/// The core of a model whose data are bound and which has these decision variables, or the first fault of its constraints. Values of
-/// enumerations are written by their names, declaration after declaration.
+/// The core of a model whose data are bound and which has these decision variables, or the first fault of its objective and its
+/// constraints. Values of enumerations are written by their names, declaration after declaration.
 ///
 /// # Errors
 ///
-/// The fault of the first constraint that has no form, with the place that it tells; `OutOfMemory` where memory is wanting, and from
-/// 2^32 variables on.
+/// The fault of the objective, or else of the first constraint, that has no form, with the place that it tells; `OutOfMemory` where memory
+/// is wanting, and from 2^32 variables on.
 pub fn ground(
     alloc: Global,
     enumerations: &[Seq<&[u8]>],
@@ -87,7 +74,7 @@ pub fn ground(
 {
     let arrays = all_arrays(alloc, environment, variables)?;
     let sets = ends_of(alloc, variables)?;
-    let made = constraints(
+    let made = all_forms(
         alloc,
         sets.as_slice(),
         arrays.as_slice(),
@@ -96,14 +83,14 @@ pub fn ground(
         tree,
     );
     match made {
-        Ok(cons) => {
+        Ok(forms) => {
             let core = core_with(
                 alloc,
                 enumerations,
                 variables,
                 sets,
                 arrays.as_slice(),
-                cons,
+                forms,
             )?;
             Ok(core)
         }

@@ -1,2 +1,3 @@
+pub mod Becomes
 pub mod HeldLemmas
 pub mod Transfer

@@ -1,4 +1,6 @@
 mod Behind
 mod ItemForms
+mod NodesBefore
+mod Objectives
 mod OneConstraint
 mod Whole

@@ -1,3 +1,4 @@
 pub mod Posts
+pub mod Aims
 pub mod Walks
 pub mod Items

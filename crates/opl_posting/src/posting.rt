@@ -22,7 +22,7 @@ use opl_nodes::{Array, FormFault};
 use opl_tree::InstrTree;
 use std::alloc::Global;
 
-/// The constraints that the items of a model give, one after another, or the first fault.
+/// The constraints that the items of a model give, one after another, where so many nodes were made before them, or the first fault.
 pub fn post(
     alloc: Global,
     sets: &[(i64, i64)],
@@ -30,12 +30,12 @@ pub fn post(
     declared: &Declared<'_>,
     environment: &Environment<'_>,
     instruction: &InstrTree,
+    before: u64,
 ) -> Result<Seq<Cons>, FormFault>
     requires declared { IsDeclared declared.now (seen environment.now).items }
     requires numbered { map cells arrays.now ≡ arrays_of (entries (seen environment.now).items declared.now.items.now) }
-    ensures { Posts (forms sets.now (map cells arrays.now) 0 (map (condition_of declared.now.items.now (names_in declared.now) (seen environment.now)) (instances instruction.now (seen environment.now)))) result }
+    ensures { Posts (forms sets.now (map cells arrays.now) before (map (condition_of declared.now.items.now (names_in declared.now) (seen environment.now)) (instances instruction.now (seen environment.now)))) result }
 {
-    opl_unfolding::laws::forms_posted();
     let plan = Plan {
         sets,
         arrays,
@@ -47,7 +47,7 @@ pub fn post(
     };
     let none = Posted {
         constraints: Seq::new(alloc),
-        nodes: 0,
+        nodes: before,
     };
     match post_behind(alloc, plan, scope, instruction, none) {
         Ok(posted) => Ok(posted.constraints),

@@ -1,5 +1,5 @@
--- Which forms of a model run: all declarations but those of scheduling, and all items but `precedes` and `requires`. An objective and a
--- search section do not run yet.
+-- Which forms of a model run: all declarations but those of scheduling, all objectives, and all items but `precedes` and `requires`. A
+-- search section does not run yet.
 use Rattle.std.specs.Prelude.{ℕ, ◌∷◌, map, Option, Some, None}
 use Rattle.opl_tree.specs.declared.instruction.BlockTree.{BlockTree}
 use Rattle.opl_tree.specs.declared.instruction.InstrTree.{InstrTree}
@@ -39,9 +39,10 @@ block_unrun = fold-BlockTree (Option ℕ) (Option ℕ) (Option ℕ) item_layer i
 
 -- ---- the model
 
+-- an objective runs, whatever its form
 abbrev pub instr_unrun : InstrTree → Option ℕ
 instr_unrun (instr.Solve at block) = block_unrun block
-instr_unrun (instr.Optimize at optimum objective block) = Some at
+instr_unrun (instr.Optimize at optimum objective block) = block_unrun block
 
 -- the place of the first form of a model, in the order of the text, that does not run
 unfoldable pub not_yet : ModelTree → Option ℕ

@@ -1,10 +1,11 @@
-//! Whether decision variables stand in items only where they may.
+//! Whether decision variables stand in an objective and in items only where they may.
 ghost use Rattle.std.specs.Prelude.{◌≡◌, not, IfOk, map};
 ghost use Rattle.std.specs.Option.{option_map};
 ghost use Rattle.opl_term.specs.Terms.{expr_term, params_term};
 ghost use Rattle.opl_declared.specs.Kept.{declared_names, names_in};
 ghost use Rattle.opl_draft.specs.Clean as spec;
 ghost use Rattle.opl_draft.specs.Unrolled as unrolled;
+ghost use Rattle.opl_optimum.specs.Clean.{is_clean_whole};
 ghost use Rattle.opl_runs.specs.Items as items;
 
 use crate::data::are_data;
@@ -16,8 +17,8 @@ use opl_term::{expr_term, params_term};
 use opl_tree::{BlockTree, ExprTree, InstrTree, ItemTree, ItemsTree, ParamsTree};
 use std::alloc::{AllocError, Global};
 
-/// Of a condition that is posted
-fn constraint(alloc: Global, scope: &Scope<'_>, t: &ExprTree) -> Result<bool, AllocError>
+/// Of an objective, or of a condition that is posted
+fn expression(alloc: Global, scope: &Scope<'_>, t: &ExprTree) -> Result<bool, AllocError>
     ensures { IfOk result (λ holds. holds ≡ unrolled.is_clean scope.now.items.now (names_in scope.now.declared) (expr_term t.now)) }
 {
     let term = expr_term(alloc, t)?;
@@ -62,7 +63,7 @@ fn item(alloc: Global, scope: &Scope<'_>, t: &ItemTree) -> Result<bool, AllocErr
             otherwise(alloc, scope, fails)
         }
         ItemTree::Precedes(..) | ItemTree::Requires(_) => Ok(true),
-        ItemTree::Constraint(t) => constraint(alloc, scope, t),
+        ItemTree::Constraint(t) => expression(alloc, scope, t),
     }
 }
 
@@ -116,24 +117,29 @@ fn block(alloc: Global, scope: &Scope<'_>, t: &BlockTree) -> Result<bool, AllocE
     items(alloc, scope, &t.items)
 }
 
-/// Of an instruction
+/// Of an instruction, its objective included
 fn instr(alloc: Global, scope: &Scope<'_>, t: &InstrTree) -> Result<bool, AllocError>
-    ensures { IfOk result (λ holds. holds ≡ spec.is_clean_instr scope.now.items.now (names_in scope.now.declared) t.now) }
+    ensures { IfOk result (λ holds. holds ≡ is_clean_whole scope.now.items.now (names_in scope.now.declared) t.now) }
 {
     match t {
         InstrTree::Solve(_, inner) => block(alloc, scope, inner),
-        InstrTree::Optimize(_, _, _, inner) => block(alloc, scope, inner),
+        InstrTree::Optimize(_, _, objective, inner) => {
+            if !expression(alloc, scope, objective)? {
+                return Ok(false);
+            }
+            block(alloc, scope, inner)
+        }
     }
 }
 
-/// Whether decision variables stand in a model's instruction only where they may: as numbers, names and truths in its conditions, and in
-/// no set of parameters and no condition of `forall` and `if`. These are the model's variables.
+/// Whether decision variables stand in a model's instruction only where they may: as numbers, names and truths in its objective and its
+/// conditions, and in no set of parameters and no condition of `forall` and `if`. These are the model's variables.
 pub fn is_clean(
     alloc: Global,
     items: &[VariableItem],
     instruction: &InstrTree,
 ) -> Result<bool, AllocError>
-    ensures { IfOk result (λ holds. holds ≡ spec.is_clean_instr items.now (declared_names items.now) instruction.now) }
+    ensures { IfOk result (λ holds. holds ≡ is_clean_whole items.now (declared_names items.now) instruction.now) }
 {
     let scope = Scope::new(alloc, items)?;
     instr(alloc, &scope, instruction)

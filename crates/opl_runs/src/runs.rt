@@ -104,13 +104,13 @@ fn decls(parts: &[DeclTree]) -> Option<u32>
     None
 }
 
-/// In the instruction: an objective does not run yet
+/// In the instruction
 fn instr(t: &InstrTree) -> Option<u32>
     ensures { result ≡ spec.instr_unrun t.now }
 {
     match t {
         InstrTree::Solve(_, inner) => block(inner),
-        InstrTree::Optimize(at, ..) => Some(*at),
+        InstrTree::Optimize(_, _, _, inner) => block(inner),
     }
 }
 

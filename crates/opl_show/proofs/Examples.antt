@@ -9,6 +9,7 @@ use Rattle.opl_value.specs.Places.{space_of}
 use Rattle.opl_value.proofs.Places.{dimensions-space_of}
 use Rattle.opl_meaning.specs.declared.variable.VariableItem.{VariableItem}
 use Rattle.opl_meaning.specs.declared.variable.Kind.TheVariants.{Number, Enumeration}
+use Rattle.opl_show.specs.declared.ending.Last.TheVariants as last
 use Rattle.opl_show.specs.Texts.{Enumerations, brackets, closing, nested, solution_text, value_line, value_text}
 use Rattle.opl_show.proofs.Texts.{texts, text-Array}
 
@@ -85,14 +86,22 @@ items =
     ∷ record { name = codes "y"; kind = Enumeration 0; space = None; sets = record { low = pos 0; high = pos 1 } ∷ [] }
     ∷ []
 
-two_lines : solution_text letters items 3 (pos 7 ∷ pos 0 ∷ []) ≡ codes "Solution 3\nx = 7\ny = a\n"
+two_lines : solution_text letters items 3 (pos 7 ∷ pos 0 ∷ []) None ≡ codes "Solution 3\nx = 7\ny = a\n"
 unfolding digits
 two_lines = simp texts refl
 
-ten : closing 10 25 false ≡ codes "Solutions: 10\nChoices: 25\nEnd\n"
+with_value : solution_text letters items 3 (pos 7 ∷ pos 0 ∷ []) (Some (negsuc 6)) ≡ codes "Solution 3\nx = 7\ny = a\nObjective: -7\n"
+unfolding digits
+with_value = simp texts refl
+
+ten : closing 10 25 None last.End ≡ codes "Solutions: 10\nChoices: 25\nEnd\n"
 unfolding digits
 ten = refl
 
-spent : closing 10 25 true ≡ codes "Solutions: 10\nChoices: 25\nSpent\n"
+spent : closing 10 25 None last.Spent ≡ codes "Solutions: 10\nChoices: 25\nSpent\n"
 unfolding digits
 spent = refl
+
+limited : closing 1 25 (Some (pos 7)) last.Limit ≡ codes "Solutions: 1\nChoices: 25\nBest: 7\nLimit\n"
+unfolding digits
+limited = refl

@@ -1,5 +1,5 @@
 -- The texts of values and of solutions.
-use Rattle.std.specs.Prelude.{ℕ, ◌*◌, ℤ, Bool, cond, codes, decimal, drop, get_or, length, List, [], ◌∷◌, ◌++◌, map, take}
+use Rattle.std.specs.Prelude.{ℕ, ◌*◌, ℤ, Bool, cond, codes, decimal, drop, get_or, length, List, [], ◌∷◌, ◌++◌, map, take, Option, Some, None}
 use Rattle.std.specs.Fmt.{signed_decimal}
 use Rattle.opl_value.specs.declared.value.Value.{Value}
 use Rattle.opl_value.specs.declared.value.Dimension.{Dimension}
@@ -8,6 +8,8 @@ use Rattle.opl_value.specs.declared.value.Dimension.TheFolds.{fold-Dimension, fo
 use Rattle.opl_value.specs.Places.{numbers_between}
 use Rattle.opl_meaning.specs.declared.variable.VariableItem.{VariableItem}
 use Rattle.opl_meaning.specs.Assigned.{item_value}
+use Rattle.opl_show.specs.declared.ending.Last.{Last}
+use Rattle.opl_show.specs.declared.ending.Last.TheVariants as last
 
 -- the names of each enumeration, by the number of its declaration
 abbrev pub Enumerations : Type 0
@@ -92,14 +94,33 @@ value_lines enumerations [] ns = []
 value_lines enumerations (v ∷ vs) ns =
     value_line enumerations v (take (length v.sets) ns) ++ value_lines enumerations vs (drop (length v.sets) ns)
 
--- a solution with its number
-abbrev pub solution_text : Enumerations → List VariableItem → ℕ → List ℤ → List ℕ
-solution_text enumerations vs number ns = codes "Solution " ++ decimal number ++ codes "\n" ++ value_lines enumerations vs ns
+-- a line with a number behind a label; none where there is no number
+abbrev pub number_line : List ℕ → Option ℤ → List ℕ
+number_line label None = []
+number_line label (Some n) = label ++ signed_decimal n ++ codes "\n"
 
--- what the last of the closing lines says: whether all solutions are shown, or the choices are spent
-abbrev pub end_line : (is_spent : Bool) → List ℕ
-end_line is_spent = cond is_spent (codes "Spent\n") (codes "End\n")
+-- the value that the objective has under a solution, if there is an objective
+abbrev pub objective_line : Option ℤ → List ℕ
+objective_line value = number_line (codes "Objective: ") value
+
+-- a solution with its number, and the value of the objective
+abbrev pub solution_text : Enumerations → List VariableItem → ℕ → List ℤ → Option ℤ → List ℕ
+solution_text enumerations vs number ns value =
+    codes "Solution " ++ decimal number ++ codes "\n" ++ value_lines enumerations vs ns ++ objective_line value
+
+-- ---- closing lines
+
+-- the best value of the objective, if there is an objective and a solution was found
+abbrev pub best_line : Option ℤ → List ℕ
+best_line value = number_line (codes "Best: ") value
+
+-- how the search ended: no other solution is left, as many are found as were asked for, or the choices are spent
+abbrev pub end_line : Last → List ℕ
+end_line (last.End) = codes "End\n"
+end_line (last.Limit) = codes "Limit\n"
+end_line (last.Spent) = codes "Spent\n"
 
 -- the closing lines, where so many solutions are shown and so many choices made
-abbrev pub closing : (shown choices : ℕ) (is_spent : Bool) → List ℕ
-closing shown choices is_spent = codes "Solutions: " ++ decimal shown ++ codes "\nChoices: " ++ decimal choices ++ codes "\n" ++ end_line is_spent
+abbrev pub closing : (shown choices : ℕ) (best : Option ℤ) → Last → List ℕ
+closing shown choices best last =
+    codes "Solutions: " ++ decimal shown ++ codes "\nChoices: " ++ decimal choices ++ codes "\n" ++ best_line best ++ end_line last

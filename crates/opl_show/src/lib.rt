@@ -3,11 +3,13 @@
 
 mod cells;
 mod course;
+mod ending;
 mod item;
 mod layers;
 mod name;
 mod solution;
 mod value;
 
-pub use solution::{closing, solution_text};
+pub use ending::{Last, closing};
+pub use solution::solution_text;
 pub use value::push_value;

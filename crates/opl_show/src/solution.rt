@@ -1,8 +1,9 @@
 //! The texts of solutions.
 ghost use Rattle.std.specs.Prelude.{◌≡◌, ◌++◌, drop, take, IfOk, OnOk};
 ghost use Rattle.opl_show.specs.Readings.{names_of};
-ghost use Rattle.opl_show.specs.Texts.{closing, end_line, solution_text, value_line};
+ghost use Rattle.opl_show.specs.Texts.{solution_text, value_line};
 
+use crate::ending::push_objective;
 use crate::item::push_item;
 use itoa::Buffer;
 use opl_list::Seq;
@@ -38,16 +39,17 @@ fn push_line(
     Ok(())
 }
 
-/// The text of the solution with this number: a line for each declaration of variables, each with its part of the numbers, in their order.
-/// The names of each enumeration are given by the number of its declaration.
+/// The text of the solution with this number: a line for each declaration of variables, each with its part of the numbers, in their order,
+/// and behind them a line with the value of the objective, if there is one. The names of each enumeration are given by the number of its declaration.
 pub fn solution_text(
     alloc: Global,
     number: u64,
     enumerations: &[Seq<&[u8]>],
     items: &[VariableItem],
     numbers: &[i128],
+    value: Option<i128>,
 ) -> Result<Vec<u8>, AllocError>
-    ensures { IfOk result (λ text. text.items ≡ solution_text (names_of enumerations.now) items.now number numbers.now) }
+    ensures { IfOk result (λ text. text.items ≡ solution_text (names_of enumerations.now) items.now number numbers.now value) }
 {
     let mut text = Vec::from_slice(alloc, b"Solution ")?;
     text.extend_from_slice(Buffer::new().format(number).as_bytes())?;
@@ -58,31 +60,6 @@ pub fn solution_text(
         push_line(alloc, &mut text, enumerations, item, own)?;
         left = others;
     }
-    Ok(text)
-}
-
-/// The last of the closing lines.
-fn end_line(is_spent: bool) -> &'static [u8]
-    ensures { result.now ≡ end_line is_spent }
-{
-    if is_spent { b"Spent\n" } else { b"End\n" }
-}
-
-/// The closing lines, where so many solutions are shown and so many choices made: the two numbers, and whether the search came to
-/// its end or spent its choices.
-pub fn closing(
-    alloc: Global,
-    shown: u64,
-    choices: u64,
-    is_spent: bool,
-) -> Result<Vec<u8>, AllocError>
-    ensures { IfOk result (λ text. text.items ≡ closing shown choices is_spent) }
-{
-    let mut text = Vec::from_slice(alloc, b"Solutions: ")?;
-    text.extend_from_slice(Buffer::new().format(shown).as_bytes())?;
-    text.extend_from_slice(b"\nChoices: ")?;
-    text.extend_from_slice(Buffer::new().format(choices).as_bytes())?;
-    text.extend_from_slice(b"\n")?;
-    text.extend_from_slice(end_line(is_spent))?;
+    push_objective(&mut text, value)?;
     Ok(text)
 }

@@ -1,8 +1,11 @@
+pub mod AloneLemmas
+pub mod Counting
 pub mod Found
+pub mod Going
+pub mod Limits
 pub mod Long
-pub mod Membership
-pub mod Order
 pub mod PrintingLemmas
 pub mod Reading
-pub mod Showing
+pub mod ShownTexts
 pub mod SolveLemmas
+pub mod Unreached

@@ -1,29 +1,13 @@
 -- Text behind text, and fronts of texts.
 use Rattle.std.proofs.Common.{◌≡◌, refl, sym, ap, ◌∙◌, subst, ℕ, List, [], ◌++◌, take, drop, append_assoc, Option, Some, None, Result, Ok, Err}
 use Rattle.std.proofs.lemmas.List.{append-nil, take-append-drop}
+use Rattle.opl_outside.proofs.Becomes.{becomes_same, becomes_so, becomes_then}
 use Rattle.opl_outside.specs.Becomes.{Becomes}
 use Rattle.opl_outside.specs.Written.{Puts}
 use Rattle.opl_outside.specs.Counts.{Counts}
 use Rattle.opl_outside.specs.declared.error.OutsideError.{OutsideError}
 use Rattle.opl_outside.specs.declared.error.OutsideError.TheVariants.{Failed, OutOfMemory}
 use Rattle.opl_solve.specs.Printing.{GainsFront, Prints}
-
--- what is told after one call and after another
-pub becomes_then : {A : Type 0} (old mid new : Option A) (P Q R : A → A → Type 0) → ((x y z : A) → P x y → Q y z → R x z) →
-    Becomes old mid P → Becomes mid new Q → Becomes old new R
-becomes_then None mid new P Q R both p q = tt
-becomes_then (Some x) None new P Q R both p q = absurd p
-becomes_then (Some x) (Some y) None P Q R both p q = absurd q
-becomes_then (Some x) (Some y) (Some z) P Q R both p q = both x y z p q
-
-pub becomes_so : {A : Type 0} (old new : Option A) (P Q : A → A → Type 0) → ((x y : A) → P x y → Q x y) → Becomes old new P → Becomes old new Q
-becomes_so None new P Q so p = tt
-becomes_so (Some x) None P Q so p = absurd p
-becomes_so (Some x) (Some y) P Q so p = so x y p
-
-pub becomes_same : {A : Type 0} (o : Option A) (P : A → A → Type 0) → ((x : A) → P x x) → Becomes o o P
-becomes_same None P same = tt
-becomes_same (Some x) P same = same x
 
 -- a piece whose front was written
 pub front_put : (piece before now : List ℕ) → (n : ℕ) × (now ≡ before ++ take n piece) → GainsFront before now piece
@@ -91,3 +75,11 @@ prints-first {A = A} {C = C} t u old new before now stop p = record {
   written = becomes_so old new _ _ (front_more t u) p.written;
   faults = same_stop A C stop before now p.faults;
 }
+
+-- the same text, whatever else the answer is
+pub prints-as : {A B : Type 0} (t : List ℕ) (old new : Option (List ℕ)) (before now : ℕ) (a : A) (b : B) → Prints t old new before now (Ok a) → Prints t old new before now (Ok b)
+prints-as t old new before now a b p = record { written = p.written; faults = p.faults }
+
+pub stops-as : {A B : Type 0} (t : List ℕ) (old new : Option (List ℕ)) (before now : ℕ) (stop : OutsideError) → Prints {A = A} t old new before now (Err stop) →
+    Prints {A = B} t old new before now (Err stop)
+stops-as {A = A} {B = B} t old new before now stop p = record { written = p.written; faults = same_stop A B stop before now p.faults }

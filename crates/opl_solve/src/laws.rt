@@ -1,14 +1,8 @@
 //! Laws of the definitions, as contracts of functions without effect.
-ghost use Rattle.opl_solve.specs.Laws.{InOrder, SolutionsAre};
+ghost use Rattle.opl_solve.specs.Laws.{UnreachedLimit};
 
-/// Each solution of a model stands once in the list of its solutions, and they stand in lexicographic order.
-#[tactic(auto, using(crate::proofs::Order::in_order))]
-pub fn in_order()
-    ensures { InOrder }
-{}
-
-/// An assignment stands in the list of a model's solutions exactly where it has one number for each declared set, none
-/// below its low end or above its high end, and every condition holds.
-pub fn solutions_are()
-    ensures { SolutionsAre }
+/// Where a search has fewer solutions than its limit, the same is shown as without a limit.
+#[tactic(auto, using(crate::proofs::Unreached::unreached_limit))]
+pub fn unreached_limit()
+    ensures { UnreachedLimit }
 {}

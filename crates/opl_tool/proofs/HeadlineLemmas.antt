@@ -1,44 +1,46 @@
 -- From how the work of a call ends to what the call promises.
-use Rattle.std.proofs.Common.{◌≡◌, ◌⊎◌, refl, sym, ap, ◌∙◌, subst, ℕ, Bool, true, false, ℤ, List, [], ◌∷◌, ◌++◌, Option, Some, None, Result, Ok, Err, IfSome, IfErr, inl, inr}
+use Rattle.std.proofs.Common.{◌≡◌, ◌⊎◌, refl, sym, ap, ◌∙◌, subst, ℕ, ℤ, List, [], ◌∷◌, ◌++◌, Option, Some, None, Result, Ok, Err, IfSome, inl, inr}
 use Rattle.std.proofs.lemmas.List.{append-nil}
-use Rattle.opl_expr.specs.declared.model.Core.{Core}
+use Rattle.opl_show.specs.declared.ending.Last.{Last}
+use Rattle.opl_show.specs.declared.ending.Last.TheVariants as ends
 use Rattle.opl_outside.specs.Becomes.{Becomes}
 use Rattle.opl_outside.specs.Files.{Files}
-use Rattle.opl_solve.proofs.PrintingLemmas.{becomes_same, becomes_so}
+use Rattle.opl_words.specs.Requests.{request}
+use Rattle.opl_outside.proofs.Becomes.{becomes_same, becomes_so}
 use Rattle.opl_solve.specs.Printing.{GainsFront}
-use Rattle.opl_words.specs.declared.call.Command.{Command}
-use Rattle.opl_words.specs.declared.call.Command.TheVariants.{Solve, Ground}
 use Rattle.opl_tool.specs.declared.answer.Answer.{Answer}
 use Rattle.opl_tool.specs.declared.answer.Answer.TheVariants as answer
-use Rattle.opl_tool.specs.declared.refusal.Refusal.{Refusal}
-use Rattle.opl_tool.specs.declared.stop.Ended.{Ended}
-use Rattle.opl_tool.specs.declared.stop.Ended.TheVariants.{Done, NoSolution}
-use Rattle.opl_tool.specs.declared.stop.Stop.{Stop}
-use Rattle.opl_tool.specs.declared.stop.Stop.TheVariants.{Refused, Spent, ReadFault, WriteFault, OutOfMemory}
+use Rattle.opl_files.specs.declared.refusal.Refusal.{Refusal}
+use Rattle.opl_files.specs.declared.refusal.Refusal.TheVariants.{Words}
+use Rattle.opl_tool.specs.declared.ended.Ended.{Ended}
+use Rattle.opl_tool.specs.declared.ended.Ended.TheVariants.{Done, NoSolution}
+use Rattle.opl_files.specs.declared.stop.Stop.{Stop}
+use Rattle.opl_files.specs.declared.stop.Stop.TheVariants.{Refused, Spent, ReadFault, WriteFault, OutOfMemory}
 use Rattle.opl_tool.specs.Ends.{Call, Finished, Stopped, Ends}
-use Rattle.opl_tool.specs.Headline.{Answers, CameThrough, ComesTo, Exactly, IsFree, IsRefused, Shows}
+use Rattle.opl_tool.specs.Headline.{Answers, CameThrough, ComesTo, ErrBy, Exactly, IsFree, IsNoCall, IsRefused, Shows}
 use Rattle.opl_tool.specs.Judged.{Judged}
-use Rattle.opl_tool.specs.Laws.{SameOutcome}
-use Rattle.opl_tool.specs.Lines.{refusal_text, stop_text}
-use Rattle.opl_tool.specs.Prepared.{IsReady}
-use Rattle.opl_tool.specs.Tasks.{FindsAll, FindsFirst, Task, command_answer, search_answer, task_answer, task_text}
+use Rattle.opl_files.specs.Outcomes.{SameOutcome}
+use Rattle.opl_tool.specs.Lines.{GainsLine, Tells, answer_of, refusal_text}
+use Rattle.opl_tool.specs.Tasks.{Task, TaskFinds, search_answer, task_answer, task_text}
+use Rattle.opl_tool.specs.Tasks.Task.{solves, grounds, summarizes, helps}
 use Rattle.opl_tool.proofs.JudgedLemmas.{judged_one}
-use Rattle.opl_tool.proofs.StageLemmas.{ok_no_err}
+use Rattle.opl_files.proofs.StageLemmas.{ok_no_err}
 
 -- ---- no task is answered by a refusal
 
-search_not_refused : (is_cut : Bool) (found : List (List ℤ)) → search_answer is_cut found ≡ answer.Refused → ⊥
-search_not_refused true found e = absurd (cc)
-search_not_refused false [] e = absurd (cc)
-search_not_refused false (ns ∷ rest) e = absurd (cc)
-
-command_not_refused : (command : Command) (core : Core) → command_answer command core ≡ answer.Refused → ⊥
-command_not_refused (Solve n) core e = search_not_refused _ _ e
-command_not_refused Ground core e = absurd (cc)
+search_not_refused : (last : Last) (found : List (List ℤ)) → search_answer last found ≡ answer.Refused → ⊥
+search_not_refused ends.Spent found e = absurd (cc)
+search_not_refused ends.End [] e = absurd (cc)
+search_not_refused ends.End (ns ∷ rest) e = absurd (cc)
+search_not_refused ends.Limit [] e = absurd (cc)
+search_not_refused ends.Limit (ns ∷ rest) e = absurd (cc)
 
 task_not_refused : (t : Task) → task_answer t ≡ answer.Refused → ⊥
 unfolding task_answer
-task_not_refused t e = command_not_refused t.command t.subject.core e
+task_not_refused (solves searching s) e = search_not_refused _ _ e
+task_not_refused (grounds s) e = absurd (cc)
+task_not_refused (summarizes g s) e = search_not_refused _ _ e
+task_not_refused helps e = absurd (cc)
 
 -- a task with this answer, a refusal, or an answer whose cause is told elsewhere
 data Cause (words : List (List ℕ)) (files : Files) (a : Answer) : Type 0 where
@@ -170,39 +172,43 @@ module _ (c : Call) (words : List (List ℕ)) (files : Files) where
 
   -- ---- what a search finds
 
-  ready_as : (t u : Task) → IsReady t.subject → t ≡ u → IsReady u.subject
-  ready_as t u h same = subst (λ (k : Task). IsReady k.subject) same h
+  finds_as : (t u : Task) → TaskFinds t → t ≡ u → TaskFinds u
+  finds_as t u h same = subst (λ (k : Task). TaskFinds k) same h
 
-  ready_at : (r : Result Ended Stop) (a : Answer) → EndsAt r → Answers r a → CameThrough a → (u : Task) → Judged words files (Ok u) → IsReady u.subject
-  ready_at (Ok Done) a s is through u j = ready_as s.task u s.is_ready (one_task s.task u s.judged j)
-  ready_at (Ok NoSolution) a s is through u j = ready_as s.task u s.is_ready (one_task s.task u s.judged j)
-  ready_at (Err (Refused e)) a s is through u j = absurd (not_both u e j s.1)
-  ready_at (Err Spent) a s is through u j = ready_as s.task u s.is_ready (one_task s.task u s.judged j)
-  ready_at (Err ReadFault) a s (inl is) through u j = absurd (through.0 is)
-  ready_at (Err ReadFault) a s (inr is) through u j = absurd (through.1 is)
-  ready_at (Err WriteFault) a s is through u j = ready_as s.task u s.is_ready (one_task s.task u s.judged j)
-  ready_at (Err OutOfMemory) a s (inl is) through u j = absurd (through.1 is)
-  ready_at (Err OutOfMemory) a s (inr is) through u j = absurd (through.1 is)
+  finds_at : (r : Result Ended Stop) (a : Answer) → EndsAt r → Answers r a → CameThrough a → (u : Task) → Judged words files (Ok u) → TaskFinds u
+  finds_at (Ok Done) a s is through u j = finds_as s.task u s.finds (one_task s.task u s.judged j)
+  finds_at (Ok NoSolution) a s is through u j = finds_as s.task u s.finds (one_task s.task u s.judged j)
+  finds_at (Err (Refused e)) a s is through u j = absurd (not_both u e j s.1)
+  finds_at (Err Spent) a s is through u j = finds_as s.task u s.finds (one_task s.task u s.judged j)
+  finds_at (Err ReadFault) a s (inl is) through u j = absurd (through.0 is)
+  finds_at (Err ReadFault) a s (inr is) through u j = absurd (through.1 is)
+  finds_at (Err WriteFault) a s is through u j = finds_as s.task u s.finds (one_task s.task u s.judged j)
+  finds_at (Err OutOfMemory) a s (inl is) through u j = absurd (through.1 is)
+  finds_at (Err OutOfMemory) a s (inr is) through u j = absurd (through.1 is)
 
   -- ---- what is told
 
-  -- a refusal of the call, told by its line
-  abbrev Told : List (List ℕ) → (List ℕ → Type 0) → Type 0
-  Told given T = (e : Refusal) × Judged words files (Err e) × T (refusal_text e given)
+  module _ (old new : Option (List ℕ)) (before now : ℕ) (a : Answer) where
+    -- a refusal of the call, told by its line
+    abbrev Told : Type 0
+    Told = (e : Refusal) × Judged words files (Err e) × Becomes old new (GainsLine before now (refusal_text e words))
 
-  line_at : (r : Result Ended Stop) (a : Answer) (given : List (List ℕ)) (T : List ℕ → Type 0) → EndsAt r → Answers r a → IfErr r (λ stop. T (stop_text stop given)) →
-      a ≡ answer.Refused → Told given T
-  line_at (Ok Done) a given T s is told refused = absurd (cc)
-  line_at (Ok NoSolution) a given T s is told refused = absurd (cc)
-  line_at (Err (Refused f)) a given T s is told refused = (f, s.1, told)
-  line_at (Err Spent) a given T s (inl is) told refused = absurd (cc)
-  line_at (Err Spent) a given T s (inr is) told refused = absurd (cc)
-  line_at (Err ReadFault) a given T s (inl is) told refused = absurd (cc)
-  line_at (Err ReadFault) a given T s (inr is) told refused = absurd (cc)
-  line_at (Err WriteFault) a given T s (inl is) told refused = absurd (cc)
-  line_at (Err WriteFault) a given T s (inr is) told refused = absurd (cc)
-  line_at (Err OutOfMemory) a given T s (inl is) told refused = absurd (cc)
-  line_at (Err OutOfMemory) a given T s (inr is) told refused = absurd (cc)
+    line_by : (e : Refusal) → Tells old new before now (refusal_text e words) answer.Refused a → a ≡ answer.Refused → Becomes old new (GainsLine before now (refusal_text e words))
+    line_by e (inl told) refused = told.1
+    line_by e (inr none) refused = let no : answer.OutOfMemory ≡ answer.Refused = sym none.0 ∙ refused in absurd (cc)
+
+    line_at : (r : Result Ended Stop) → EndsAt r → Answers r a → ErrBy words r old new before now a → a ≡ answer.Refused → Told
+    line_at (Ok Done) s is told refused = absurd (cc)
+    line_at (Ok NoSolution) s is told refused = absurd (cc)
+    line_at (Err (Refused f)) s is told refused = (f, s.1, line_by f told refused)
+    line_at (Err Spent) s (inl is) told refused = absurd (cc)
+    line_at (Err Spent) s (inr is) told refused = absurd (cc)
+    line_at (Err ReadFault) s (inl is) told refused = absurd (cc)
+    line_at (Err ReadFault) s (inr is) told refused = absurd (cc)
+    line_at (Err WriteFault) s (inl is) told refused = absurd (cc)
+    line_at (Err WriteFault) s (inr is) told refused = absurd (cc)
+    line_at (Err OutOfMemory) s (inl is) told refused = absurd (cc)
+    line_at (Err OutOfMemory) s (inr is) told refused = absurd (cc)
 
 -- a fact for the files, if they are told
 with_told : (o : Option Files) (P : Files → Type 0) → ((files : Files) → o ≡ Some files → P files) → IfSome o P
@@ -255,15 +261,27 @@ module _ (words : List (List ℕ)) (c : Call) (r : Result Ended Stop) (a : Answe
   pub shows-text : IfSome c.files (λ files. (t : Task) → Judged words files (Ok t) → Shows c.old c.new (task_text t) a)
   shows-text = with_told c.files _ (λ files told. shown_at c words files r a (at files told) is)
 
-  pub finds-all : IfSome c.files (λ files. CameThrough a → (t : Task) → Judged words files (Ok t) → FindsAll t)
-  finds-all = with_told c.files _ (λ files told through t j n command. (ready_at c words files r a (at files told) is through t j).all n)
-
-  pub finds-first : IfSome c.files (λ files. CameThrough a → (t : Task) → Judged words files (Ok t) → FindsFirst t)
-  finds-first = with_told c.files _ (λ files told through t j n command. (ready_at c words files r a (at files told) is through t j).first n)
+  pub finds-so : IfSome c.files (λ files. CameThrough a → (t : Task) → Judged words files (Ok t) → TaskFinds t)
+  finds-so = with_told c.files _ (λ files told through t j. finds_at c words files r a (at files told) is through t j)
 
   pub shows-nothing : IfSome c.files (λ files. (e : Refusal) → Judged words files (Err e) → c.new ≡ c.old)
   shows-nothing = with_told c.files _ (λ files told. silent_at c words files r (at files told))
 
-  pub tells-refusal : (given : List (List ℕ)) (T : List ℕ → Type 0) → IfErr r (λ stop. T (stop_text stop given)) →
-      IfSome c.files (λ files. a ≡ answer.Refused → (e : Refusal) × Judged words files (Err e) × T (refusal_text e given))
-  tells-refusal given T told_line = with_told c.files _ (λ files told. line_at c words files r a given T (at files told) is told_line)
+  pub tells-refusal : (old new : Option (List ℕ)) (before now : ℕ) → ErrBy words r old new before now a →
+      IfSome c.files (λ files. a ≡ answer.Refused → (e : Refusal) × Judged words files (Err e) × Becomes old new (GainsLine before now (refusal_text e words)))
+  tells-refusal old new before now told_line = with_told c.files _ (λ files told. line_at c words files old new before now a r (at files told) is told_line)
+
+-- words that are no call
+pub no-call-answers : (words : List (List ℕ)) (r : Result Ended Stop) (a : Answer) → IsNoCall words r → Answers r a → request words ≡ None → (a ≡ answer.Refused) ⊎ (a ≡ answer.OutOfMemory)
+no-call-answers words r a no_call is none = by (no_call none)
+  where
+    by_answers : (stop : Stop) → r ≡ Err stop → (a ≡ answer_of stop) ⊎ (a ≡ answer.OutOfMemory)
+    by_answers stop e = subst (λ (x : Result Ended Stop). Answers x a) e is
+
+    by_memory : ((a ≡ answer.OutOfMemory) ⊎ (a ≡ answer.OutOfMemory)) → a ≡ answer.OutOfMemory
+    by_memory (inl e) = e
+    by_memory (inr e) = e
+
+    by : ((r ≡ Err (Refused Words)) ⊎ (r ≡ Err OutOfMemory)) → (a ≡ answer.Refused) ⊎ (a ≡ answer.OutOfMemory)
+    by (inl e) = by_answers (Refused Words) e
+    by (inr e) = inr (by_memory (by_answers OutOfMemory e))

@@ -6,13 +6,12 @@ use Rattle.opl_outside.specs.Files.{Files}
 use Rattle.opl_solve.specs.Printing.{GainsFront}
 use Rattle.opl_tool.specs.declared.answer.Answer.{Answer}
 use Rattle.opl_tool.specs.declared.answer.Answer.TheVariants as answer
-use Rattle.opl_tool.specs.declared.stop.Ended.{Ended}
-use Rattle.opl_tool.specs.declared.stop.Ended.TheVariants.{Done, NoSolution}
-use Rattle.opl_tool.specs.declared.stop.Stop.{Stop}
-use Rattle.opl_tool.specs.declared.stop.Stop.TheVariants.{Refused, Spent, ReadFault, WriteFault, OutOfMemory}
-use Rattle.opl_tool.specs.Prepared.{IsReady}
-use Rattle.opl_tool.specs.Stage.{Stage}
-use Rattle.opl_tool.specs.Tasks.{Task, task_answer, task_text}
+use Rattle.opl_tool.specs.declared.ended.Ended.{Ended}
+use Rattle.opl_tool.specs.declared.ended.Ended.TheVariants.{Done, NoSolution}
+use Rattle.opl_files.specs.declared.stop.Stop.{Stop}
+use Rattle.opl_files.specs.declared.stop.Stop.TheVariants.{Refused, Spent, ReadFault, WriteFault, OutOfMemory}
+use Rattle.opl_files.specs.Stage.{Stage}
+use Rattle.opl_tool.specs.Tasks.{Task, TaskFinds, task_answer, task_text}
 
 -- what is seen of a call: the files that are told, what is written before and after it, and the counts of faults
 pub record Call : Type 0 where
@@ -28,7 +27,7 @@ pub record Call : Type 0 where
 pub record Finished (comes : Files → Stage Task) (c : Call) (a : Answer) (files : Files) : Type 0 where
   pub task : Task
   pub judged : comes files (Ok task)
-  pub is_ready : IsReady task.subject
+  pub finds : TaskFinds task
   pub answers : task_answer task ≡ a
   pub written : Becomes c.old c.new (λ before now. now ≡ before ++ task_text task)
 
@@ -36,7 +35,7 @@ pub record Finished (comes : Files → Stage Task) (c : Call) (a : Answer) (file
 pub record Stopped (comes : Files → Stage Task) (c : Call) (files : Files) : Type 0 where
   pub task : Task
   pub judged : comes files (Ok task)
-  pub is_ready : IsReady task.subject
+  pub finds : TaskFinds task
   pub written : Becomes c.old c.new (λ before now. GainsFront before now (task_text task))
 
 -- how the work of a call ends

@@ -1,15 +1,19 @@
 -- What a call answers, and what it prints.
-use Rattle.std.specs.Prelude.{◌≡◌, ◌≢◌, ◌⊎◌, ℕ, List, ◌++◌, Option, Result, Ok, Err}
+use Rattle.std.specs.Prelude.{◌≡◌, ◌≢◌, ◌⊎◌, ℕ, List, ◌++◌, codes, Option, None, Result, Ok, Err}
 use Rattle.opl_outside.specs.Becomes.{Becomes}
 use Rattle.opl_outside.specs.Files.{Files}
 use Rattle.opl_tool.specs.declared.answer.Answer.{Answer}
 use Rattle.opl_tool.specs.declared.answer.Answer.TheVariants.{Done, NoSolution, Refused, Spent, ReadFault, WriteFault, OutOfMemory, Rejected}
-use Rattle.opl_tool.specs.declared.refusal.Refusal.{Refusal}
-use Rattle.opl_tool.specs.declared.stop.Ended.{Ended}
-use Rattle.opl_tool.specs.declared.stop.Ended.TheVariants as ended
-use Rattle.opl_tool.specs.declared.stop.Stop.{Stop}
+use Rattle.opl_files.specs.declared.refusal.Refusal.{Refusal}
+use Rattle.opl_tool.specs.declared.ended.Ended.{Ended}
+use Rattle.opl_tool.specs.declared.ended.Ended.TheVariants as ended
+use Rattle.opl_files.specs.declared.refusal.Refusal.TheVariants.{Words}
+use Rattle.opl_files.specs.declared.stop.Stop.{Stop}
+use Rattle.opl_files.specs.declared.stop.Stop.TheVariants as stops
+use Rattle.opl_words.specs.Requests.{request}
+use Rattle.opl_tool.specs.Ends.{Call, Ends}
 use Rattle.opl_tool.specs.Judged.{Judged}
-use Rattle.opl_tool.specs.Lines.{stop_text, answer_of}
+use Rattle.opl_tool.specs.Lines.{GainsLine, Tells, answer_of, stop_text}
 use Rattle.opl_tool.specs.Tasks.{Task, task_answer}
 use Rattle.opl_solve.specs.Printing.{GainsFront}
 
@@ -55,6 +59,25 @@ ShownBy Rejected text before now = GainsFront before now text
 abbrev pub Shows : Option (List ℕ) → Option (List ℕ) → List ℕ → Answer → Type 0
 Shows old new text result = Becomes old new (ShownBy result text)
 
--- the sink has gained a front of one of the lines that a call may tell
-abbrev pub GainsLineFront : List (List ℕ) → List ℕ → List ℕ → Type 0
-GainsLineFront words before now = (stop : Stop) × GainsFront before now (stop_text stop words)
+-- ---- how a call ended, whatever the shelf tells
+
+-- a call whose words are none is refused for them, unless memory is wanting before
+abbrev pub IsNoCall : List (List ℕ) → Result Ended Stop → Type 0
+IsNoCall words r = request words ≡ None → (r ≡ Err (stops.Refused Words)) ⊎ (r ≡ Err stops.OutOfMemory)
+
+-- what the sink of errors has gained: nothing where the work came to its end, else the line of what ended it
+abbrev pub ErrBy : List (List ℕ) → Result Ended Stop → (old new : Option (List ℕ)) (before now : ℕ) → Answer → Type 0
+ErrBy words (Ok ended) old new before now result = (new ≡ old) × (now ≡ before)
+ErrBy words (Err stop) old new before now result = Tells old new before now (stop_text stop words) (answer_of stop) result
+
+-- A call ended in one way, of which its answer, what is on its sinks, and the counts of faults tell.
+pub record IsOutcome (words : List (List ℕ)) (call : Call) (old new : Option (List ℕ)) (before now : ℕ) (result : Answer) : Type 0 where
+  pub ended : Result Ended Stop
+  pub ends : Ends (Judged words) call ended
+  pub no_call : IsNoCall words ended
+  pub answers : Answers ended result
+  pub told : ErrBy words ended old new before now result
+
+-- beside want of memory stands nothing, or its own line
+abbrev pub GainsMemoryLine : (before now : ℕ) → (x y : List ℕ) → Type 0
+GainsMemoryLine before now x y = (y ≡ x) ⊎ GainsLine before now (codes "out of memory\n") x y

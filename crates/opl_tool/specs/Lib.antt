@@ -1,13 +1,9 @@
 pub mod Asked
-pub mod Data
 pub mod Ends
 pub mod Headline
+pub mod Help
 pub mod Judged
 pub mod Laws
 pub mod Lines
-pub mod Positions
-pub mod Prepared
-pub mod Reading
-pub mod Stage
-pub mod Subject
+pub mod Printed
 pub mod Tasks

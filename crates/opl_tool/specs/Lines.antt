@@ -4,14 +4,14 @@ use Rattle.opl_outside.specs.Becomes.{Becomes}
 use Rattle.opl_outside.specs.Counts.{Rose}
 use Rattle.opl_tool.specs.declared.answer.Answer.{Answer}
 use Rattle.opl_tool.specs.declared.answer.Answer.TheVariants as answer
-use Rattle.opl_tool.specs.declared.refusal.Fault.{Fault}
-use Rattle.opl_tool.specs.declared.refusal.Fault.TheVariants.{BadByte, OpenComment, OpenString, NumberTooLarge, Syntax, TooDeep, Unknown, Duplicate, NotData, Mismatch, NotYet, Shape, Outside, DivByZero, OutOfIndex, TooLarge, EmptyMinMax, LimitVariables, LimitValue, LimitDomain, LimitDomains, LimitDepth, LimitNodes}
-use Rattle.opl_tool.specs.declared.refusal.ItemFault.{ItemFault}
-use Rattle.opl_tool.specs.declared.refusal.ItemFault.TheVariants as items
-use Rattle.opl_tool.specs.declared.refusal.Refusal.{Refusal}
-use Rattle.opl_tool.specs.declared.refusal.Refusal.TheVariants.{Words, Absent, TooLong, At, Item}
-use Rattle.opl_tool.specs.declared.stop.Stop.{Stop}
-use Rattle.opl_tool.specs.declared.stop.Stop.TheVariants.{Refused, Spent, ReadFault, WriteFault, OutOfMemory}
+use Rattle.opl_files.specs.declared.refusal.Fault.{Fault}
+use Rattle.opl_files.specs.declared.refusal.Fault.TheVariants.{BadByte, OpenComment, OpenString, NumberTooLarge, Syntax, TooDeep, Unknown, Duplicate, NotData, Mismatch, NotYet, Shape, Outside, DivByZero, OutOfIndex, TooLarge, EmptyMinMax, LimitVariables, LimitValue, LimitDomain, LimitDomains, LimitDepth, LimitNodes}
+use Rattle.opl_files.specs.declared.refusal.ItemFault.{ItemFault}
+use Rattle.opl_files.specs.declared.refusal.ItemFault.TheVariants as items
+use Rattle.opl_files.specs.declared.refusal.Refusal.{Refusal}
+use Rattle.opl_files.specs.declared.refusal.Refusal.TheVariants.{Words, Absent, TooLong, At, Item}
+use Rattle.opl_files.specs.declared.stop.Stop.{Stop}
+use Rattle.opl_files.specs.declared.stop.Stop.TheVariants.{Refused, Spent, ReadFault, WriteFault, OutOfMemory}
 use Rattle.opl_solve.specs.Printing.{GainsFront}
 use Rattle.opl_tool.specs.Asked.{budget_in, file_among, files_in}
 
@@ -88,8 +88,11 @@ answer_of ReadFault = answer.ReadFault
 answer_of WriteFault = answer.WriteFault
 answer_of OutOfMemory = answer.OutOfMemory
 
--- The sink has gained the line; where the count of its faults rose, or the answer is want of memory, it may have gained
--- only a front of it.
-abbrev pub Tells : (old new : Option (List ℕ)) (before now : ℕ) → List ℕ → Answer → Type 0
-Tells old new before now line result =
-    Becomes old new (λ x y. (y ≡ x ++ line) ⊎ (((result ≡ answer.OutOfMemory) ⊎ Rose before now) × GainsFront x y line))
+-- the bytes have gained the line; where the count of the sink's faults rose, they may have gained only a front of it
+abbrev pub GainsLine : (before now : ℕ) → (line x y : List ℕ) → Type 0
+GainsLine before now line x y = (y ≡ x ++ line) ⊎ (Rose before now × GainsFront x y line)
+
+-- The line of an answer was put on a sink that told `old` and counted `before` faults, or memory was wanting for it: then that is the answer, and nothing was put.
+abbrev pub Tells : (old new : Option (List ℕ)) (before now : ℕ) (line : List ℕ) (own result : Answer) → Type 0
+Tells old new before now line own result =
+    ((result ≡ own) × Becomes old new (GainsLine before now line)) ⊎ ((result ≡ answer.OutOfMemory) × Becomes old new (λ x y. y ≡ x))

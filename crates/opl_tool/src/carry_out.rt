@@ -1,31 +1,80 @@
 //! Carrying out a call: reading its files and printing its text.
-ghost use Rattle.std.specs.Prelude.{◌≡◌, map, string_bytes, IfSome};
+ghost use Rattle.std.specs.Prelude.{◌≡◌, ℕ, [], Option, map, string_bytes};
+ghost use Rattle.opl_outside.specs.Becomes.{Becomes};
+ghost use Rattle.opl_outside.specs.Files.{Files};
+ghost use Rattle.opl_generate.specs.Texts.{model_text as the_model_text};
 ghost use Rattle.opl_words.specs.Readings.{asked_of};
+ghost use Rattle.opl_words.specs.Requests.Asked.{generate as asks_made};
+ghost use Rattle.opl_words.specs.declared.call.Request.TheVariants as requests;
+ghost use Rattle.opl_files.specs.Reading.{Read, front_of};
+ghost use Rattle.opl_files.specs.Stage.{Gives};
 ghost use Rattle.opl_tool.specs.Ends.{Ends};
-ghost use Rattle.opl_tool.specs.Judged.{Answered, Judged, Loaded};
-ghost use Rattle.opl_tool.specs.Reading.{front_of};
-ghost use Rattle.opl_tool.specs.Stage.{GivesRead, CountsRead};
+ghost use Rattle.opl_tool.specs.Judged.{Answered, Judged};
+ghost use Rattle.opl_tool.specs.Headline.{IsNoCall};
 
-use crate::front::Front;
-use crate::load::{load, load_data};
-use crate::prepare::prepare;
-use crate::printing::print;
-use crate::read::read;
-use crate::refusal::Refusal;
-use crate::stop::{Ended, Stop};
+use crate::ended::Ended;
+use crate::help::help_text;
+use crate::printing::{print, print_summary, print_text};
+use opl_files::{Front, Refusal, Stop, fetch, read};
+use opl_generate::model_text;
 use opl_outside::{Shelf, Sink};
-use opl_words::{Request, request};
+use opl_prepare::prepare;
+use opl_words::{FilesRequest, Generated, Request, request};
 use std::alloc::Global;
 
-/// The trees of the files that are asked for.
-fn fetch<F: Shelf>(alloc: Global, shelf: &mut F, asked: &Request<'_>) -> Result<Front, Stop>
-    ensures loaded { IfSome (F.files shelf.old) (λ files. GivesRead (Loaded files (asked_of asked.now)) (front_of result)) }
-    ensures cause { CountsRead result (F.read_faults shelf.old) (F.read_faults shelf.new) }
+/// The most bytes of a text that is read.
+const MOST_BYTES: usize = 16_777_216;
+
+/// Carries out a command over files.
+fn over_files<F: Shelf, O: Sink>(
+    alloc: Global,
+    asked: &FilesRequest<'_>,
+    shelf: &mut F,
+    out: &mut O,
+) -> Result<Ended, Stop>
+    ensures ends { Ends (λ files. Answered files (asked_of (requests.OverFiles asked.now))) (record {
+      files = F.files shelf.old;
+      old = O.written out.old;
+      new = O.written out.new;
+      reads_before = F.read_faults shelf.old;
+      reads_now = F.read_faults shelf.new;
+      faults_before = O.faults out.old;
+      faults_now = O.faults out.new;
+    }) result }
     ensures no_write { F.write_faults shelf.new ≡ F.write_faults shelf.old }
+    ensures files_stay { Becomes (F.files shelf.old) (F.files shelf.new) (λ before now. now ≡ before) }
 {
-    let bytes = load(alloc, shelf, 0, asked.model)?;
-    let texts = load_data(alloc, shelf, asked.files.as_slice())?;
-    read(alloc, bytes.as_slice(), texts.as_slice())
+    let front = fetch(alloc, shelf, asked.model, asked.files.as_slice())?;
+    let problem = prepare(alloc, &front)?;
+    print(alloc, out, asked.command, &problem)
+}
+
+/// The trees of a made model. A text beyond the bytes that are read counts as want of memory; none is so long.
+fn made_front(alloc: Global, generated: Generated) -> Result<Front, Stop>
+    ensures { Gives (Read (the_model_text generated) []) (front_of result) }
+{
+    let text = model_text(alloc, &generated)?;
+    if text.len() > MOST_BYTES {
+        return Err(Stop::OutOfMemory);
+    }
+    read(alloc, text.as_slice(), &[])
+}
+
+/// Searches a made model, and prints the summary.
+fn summarize<O: Sink>(alloc: Global, generated: Generated, out: &mut O) -> Result<Ended, Stop>
+    ensures { (files : Option Files) (reads : ℕ) → Ends (λ told. Answered told (asks_made generated)) (record {
+      files = files;
+      old = O.written out.old;
+      new = O.written out.new;
+      reads_before = reads;
+      reads_now = reads;
+      faults_before = O.faults out.old;
+      faults_now = O.faults out.new;
+    }) result }
+{
+    let front = made_front(alloc, generated)?;
+    let problem = prepare(alloc, &front)?;
+    print_summary(alloc, out, generated, &problem)
 }
 
 /// Carries out what is asked for.
@@ -45,10 +94,13 @@ fn answer<F: Shelf, O: Sink>(
       faults_now = O.faults out.new;
     }) result }
     ensures no_write { F.write_faults shelf.new ≡ F.write_faults shelf.old }
+    ensures files_stay { Becomes (F.files shelf.old) (F.files shelf.new) (λ before now. now ≡ before) }
 {
-    let front = fetch(alloc, shelf, asked)?;
-    let problem = prepare(alloc, &front)?;
-    print(alloc, out, asked.command, &problem)
+    match asked {
+        Request::OverFiles(asked) => over_files(alloc, asked, shelf, out),
+        Request::Generate(generated) => summarize(alloc, *generated, out),
+        Request::Help => print_text(alloc, out, help_text()),
+    }
 }
 
 /// Carries out a call, and answers how it ended.
@@ -67,7 +119,9 @@ pub fn carry_out<F: Shelf, O: Sink>(
       faults_before = O.faults out.old;
       faults_now = O.faults out.new;
     }) result }
+    ensures no_call { IsNoCall (map (λ word. string_bytes word) words.now) result }
     ensures no_write { F.write_faults shelf.new ≡ F.write_faults shelf.old }
+    ensures files_stay { Becomes (F.files shelf.old) (F.files shelf.new) (λ before now. now ≡ before) }
 {
     match request(alloc, words) {
         Ok(Some(asked)) => answer(alloc, &asked, shelf, out),

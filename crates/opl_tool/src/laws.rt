@@ -7,4 +7,5 @@ pub fn one_outcome()
     ensures { OneOutcome }
 {
     opl_faults::laws::forms_never_memory();
+    opl_faults::laws::goals_never_memory();
 }

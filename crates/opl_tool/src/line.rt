@@ -1,31 +1,21 @@
 //! The line that a call puts on the sink of errors.
-ghost use Rattle.std.specs.Prelude.{◌≡◌, ◌⊎◌, ◌∷◌, [], get_or, map, string_bytes, IfOk};
+ghost use Rattle.std.specs.Prelude.{◌≡◌, ◌∷◌, [], get_or, map, string_bytes, IfOk};
 ghost use Rattle.std.specs.Option.{option_map};
+ghost use Rattle.opl_generate.specs.Texts.{kind_name as the_kind_name};
 ghost use Rattle.opl_words.specs.Readings.{asked_of};
-ghost use Rattle.opl_tool.specs.Asked.{budget_in, choices_asked, files_asked};
+ghost use Rattle.opl_tool.specs.Asked.{budget_in, choices_asked, choices_of, files_asked};
 ghost use Rattle.opl_tool.specs.Lines.{named_text, placed_text, word_of as the_word, word_of_item as the_item_word, refusal_line as the_refusal_line, refusal_text, spent_text, stop_text, answer_of as the_answer_of, Tells};
 
 use crate::answer::Answer;
-use crate::names::name_at;
-use crate::refusal::{Fault, ItemFault, Refusal};
-use crate::stop::Stop;
 use itoa::Buffer;
+use opl_files::{Fault, ItemFault, Refusal, Stop, name_at};
+use opl_generate::kind_name;
 use opl_outside::{OutsideError, Sink};
-use opl_words::{Command, Request, request};
+use opl_words::{Command, DEFAULT_BUDGET, FilesRequest, Generated, Request, request};
 use std::alloc::{AllocError, Global};
 
-/// The name of the file with this number, where the words ask for files.
-fn name_of<'a>(asked: &Option<Request<'a>>, file: usize) -> &'a [u8]
-    ensures { result.now ≡ get_or (files_asked (option_map asked_of asked.now)) file [] }
-{
-    match asked {
-        None => b"",
-        Some(asked) => name_in(asked, file),
-    }
-}
-
-/// The name of the file with this number: 0 is the model's, the data files follow.
-fn name_in<'a>(asked: &Request<'a>, file: usize) -> &'a [u8]
+/// The name of the file with this number among those of a command: 0 is the model's, the data files follow.
+fn name_in<'a>(asked: &FilesRequest<'a>, file: usize) -> &'a [u8]
     ensures { result.now ≡ get_or (asked.now.model.now ∷ map (λ name. name.now) asked.now.files) file [] }
 {
     if file == 0 {
@@ -34,16 +24,47 @@ fn name_in<'a>(asked: &Request<'a>, file: usize) -> &'a [u8]
     name_at(asked.files.as_slice(), file - 1).as_bytes()
 }
 
+/// The name of a made model, which is its one file.
+fn made_name(generated: &Generated, file: usize) -> &'static [u8]
+    ensures { result.now ≡ get_or (the_kind_name generated.now.kind ∷ []) file [] }
+{
+    if file == 0 {
+        return kind_name(generated.kind).as_bytes();
+    }
+    b""
+}
+
+/// The name of the file with this number, where the words ask for files.
+fn name_of<'a>(asked: &Option<Request<'a>>, file: usize) -> &'a [u8]
+    ensures { result.now ≡ get_or (files_asked (option_map asked_of asked.now)) file [] }
+{
+    match asked {
+        None => b"",
+        Some(Request::OverFiles(asked)) => name_in(asked, file),
+        Some(Request::Generate(generated)) => made_name(generated, file),
+        Some(Request::Help) => b"",
+    }
+}
+
+/// How many choices a command allows.
+fn choices_of(command: Command) -> u64
+    ensures { result ≡ choices_of command }
+{
+    match command {
+        Command::Solve(searching) => searching.budget,
+        Command::Ground => 0,
+    }
+}
+
 /// How many choices are asked for.
 fn budget_at(asked: &Option<Request<'_>>) -> u64
     ensures { result ≡ choices_asked (option_map asked_of asked.now) }
 {
     match asked {
         None => 0,
-        Some(asked) => match asked.command {
-            Command::Solve(budget) => budget,
-            Command::Ground => 0,
-        },
+        Some(Request::OverFiles(asked)) => choices_of(asked.command),
+        Some(Request::Generate(_)) => DEFAULT_BUDGET,
+        Some(Request::Help) => 0,
     }
 }
 
@@ -180,8 +201,7 @@ fn answer_of(stop: &Stop) -> Answer
 
 /// Puts a line. A fault of the sink changes nothing in the answer, want of memory makes it that.
 fn put_line<E: Sink>(alloc: Global, err: &mut E, line: &[u8], answer: Answer) -> Answer
-    ensures answers { (result ≡ answer) ⊎ (result ≡ Answer.OutOfMemory) }
-    ensures tells { Tells (E.written err.old) (E.written err.new) (E.faults err.old) (E.faults err.new) line.now result }
+    ensures { Tells (E.written err.old) (E.written err.new) (E.faults err.old) (E.faults err.new) line.now answer result }
 {
     match err.put(alloc, line) {
         Ok(()) => answer,
@@ -192,9 +212,8 @@ fn put_line<E: Sink>(alloc: Global, err: &mut E, line: &[u8], answer: Answer) ->
 
 /// Puts the line of a call that ends so, and gives its answer.
 pub fn tell<E: Sink>(alloc: Global, err: &mut E, words: &[String], stop: Stop) -> Answer
-    ensures answers { (result ≡ the_answer_of stop) ⊎ (result ≡ Answer.OutOfMemory) }
-    ensures tells { let given = map (λ word. string_bytes word) words.now in
-        Tells (E.written err.old) (E.written err.new) (E.faults err.old) (E.faults err.new) (stop_text stop given) result }
+    ensures { let given = map (λ word. string_bytes word) words.now in
+        Tells (E.written err.old) (E.written err.new) (E.faults err.old) (E.faults err.new) (stop_text stop given) (the_answer_of stop) result }
 {
     let answer = answer_of(&stop);
     match stop {

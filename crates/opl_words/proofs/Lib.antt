@@ -1,2 +1,10 @@
 pub mod Digits
 pub mod Plain
+pub mod Rows
+pub mod Rules
+pub mod Shows
+pub mod Sorts
+pub mod Turns
+pub mod Walks
+pub mod Whole
+pub mod WordByWord

@@ -1,48 +1,40 @@
 -- Words that are files alone.
-use Rattle.std.proofs.Common.{◌≡◌, ℕ, nat_eq, Bool, true, false, not, ◌&&◌, List, [], ◌∷◌, ◌++◌, Some, refl, ap, sym, ◌∙◌, arith}
+use Rattle.std.proofs.Common.{◌≡◌, ℕ, nat_eq, Bool, true, false, not, ◌&&◌, List, [], ◌∷◌, Some, refl, ap, sym, ◌∙◌, arith}
 use Rattle.std.specs.List.{list_all}
 use Rattle.std.proofs.lemmas.List.{append-nil, append_assoc}
-use Rattle.opl_words.specs.Requests.{has_budget, is_budget_option, is_end_of_options, is_option, read}
+use Rattle.opl_words.specs.Requests.{Given, Options, Word, is_dashed, is_end_of_options, is_named, nothing, read, solve_options, with_files}
 use Rattle.opl_words.specs.Laws.{FilesAlone}
 
-and_no : (b : Bool) → b && false ≡ false
+pub and_no : (b : Bool) → b && false ≡ false
 and_no true = refl
 and_no false = refl
 
-no_end : (word : List ℕ) → is_option word ≡ false → is_end_of_options word ≡ false
+pub no_end : (word : Word) → is_dashed word ≡ false → is_end_of_options word ≡ false
 no_end [] h = refl
 no_end (b ∷ []) h = and_no _
 no_end (b ∷ c ∷ rest) h = rw h refl
 
-no_budget : (word : List ℕ) → is_option word ≡ false → is_budget_option word ≡ false
-no_budget [] h = refl
-no_budget (b ∷ []) h = and_no _
-no_budget (b ∷ c ∷ rest) h = rw h refl
-
-turned : (a b : ℕ) → nat_eq a b ≡ false → nat_eq b a ≡ false
+pub turned : (a b : ℕ) → nat_eq a b ≡ false → nat_eq b a ≡ false
 turned a b h = grind arith
 
-no_number : (word : List ℕ) → is_option word ≡ false → has_budget word ≡ false
-no_number [] h = refl
-no_number (b ∷ []) h = and_no _
-no_number (b ∷ c ∷ rest) h = rw (turned b 45 h) refl
-
-and_not : (may : Bool) (b : Bool) → b ≡ false → may && b ≡ false
-and_not may b h = ap (λ x. may && x) h ∙ and_no may
+pub not_named : (word : Word) → is_dashed word ≡ false → is_named word ≡ false
+not_named [] h = refl
+not_named (b ∷ []) h = and_no _
+not_named (b ∷ c ∷ rest) h = rw (turned b 45 h) refl
 
 -- files add up
-all_files : (may : Bool) (budget : ℕ) (files words : List (List ℕ)) → list_all (λ word. not (is_option word)) words ≡ true
-    → read may budget files words ≡ Some (record { budget = budget; files = files ++ words })
-all_files may budget files [] h = ap (λ fs. Some (record { budget = budget; files = fs })) (sym (append-nil files))
-all_files may budget files (word ∷ words) h = by_sort (is_option word) refl h (λ fs. all_files may budget fs words)
+all_files : (o : Options) (g : Given) (words : List Word) → list_all (λ word. not (is_dashed word)) words ≡ true
+    → read o g words ≡ Some (with_files words g)
+all_files o g [] h = ap (λ fs. Some (record g { files = fs })) (sym (append-nil g.files))
+all_files o g (word ∷ words) h = by_sort (is_dashed word) refl h (λ k. all_files o k words)
   where
-    by_sort : (b : Bool) → is_option word ≡ b → not b && list_all (λ w. not (is_option w)) words ≡ true
-        → ((fs : List (List ℕ)) → list_all (λ w. not (is_option w)) words ≡ true → read may budget fs words ≡ Some (record { budget = budget; files = fs ++ words }))
-        → read may budget files (word ∷ words) ≡ Some (record { budget = budget; files = files ++ word ∷ words })
+    by_sort : (b : Bool) → is_dashed word ≡ b → not b && list_all (λ w. not (is_dashed w)) words ≡ true
+        → ((k : Given) → list_all (λ w. not (is_dashed w)) words ≡ true → read o k words ≡ Some (with_files words k))
+        → read o g (word ∷ words) ≡ Some (with_files (word ∷ words) g)
     by_sort true is all later = grind arith
     by_sort false is all later =
-        rw (no_end word is, and_not may _ (no_budget word is), and_not may _ (no_number word is), is)
-        (later (files ++ word ∷ []) all ∙ ap (λ fs. Some (record { budget = budget; files = fs })) (append_assoc files (word ∷ []) words))
+        rw (no_end word is, not_named word is, is)
+        (later (with_files (word ∷ []) g) all ∙ ap (λ fs. Some (record g { files = fs })) (append_assoc g.files (word ∷ []) words))
 
 pub files_alone : FilesAlone
-files_alone model files h = rw (all_files true _ [] (model ∷ files) h) refl
+files_alone model files h = rw (all_files solve_options nothing (model ∷ files) h) refl

@@ -1,11 +1,11 @@
 //! The words of a call: what they ask for, or that they are no call.
 #![tactic(auto)]
 
-mod budget;
 mod call;
+mod given;
 pub mod laws;
-mod reading;
+mod number;
 mod words;
 
-pub use call::{Command, Request};
-pub use words::request;
+pub use call::{Command, FilesRequest, Generated, Kind, Request, Searching};
+pub use words::{DEFAULT_BUDGET, request};

@@ -1,8 +1,8 @@
 use Rattle.opl_tool.proofs.LineLemmas.{nothing-tells}
 use Rattle.opl_tool.proofs.line.tell.Goals as goal
 
-pub returns-in-Refused-clause-tells : goal.returns-in-Refused-clause-tells
-returns-in-Refused-clause-tells g c = nothing-tells _ _ _
+pub returns-in-Refused : goal.returns-in-Refused
+returns-in-Refused g c = nothing-tells _ _ _ _
 
-pub returns-in-ReadFault-clause-tells : goal.returns-in-ReadFault-clause-tells
-returns-in-ReadFault-clause-tells g c = rw c.in-ReadFault.is c.put_line-in-ReadFault.ensures.tells
+pub returns-in-ReadFault : goal.returns-in-ReadFault
+returns-in-ReadFault g c = rw c.in-ReadFault.is (rw (c.answer_of-answer.ensures, c.in-ReadFault.is) at c.put_line-in-ReadFault.ensures)

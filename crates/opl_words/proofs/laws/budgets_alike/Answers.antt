@@ -2,4 +2,4 @@ use Rattle.std.proofs.Common.{refl}
 use Rattle.opl_words.proofs.laws.budgets_alike.Goals as goal
 
 pub returns : goal.returns
-returns c number words = refl
+returns c number words h = rw h refl

@@ -1,0 +1,4 @@
+pub mod Held
+pub mod Outcomes
+pub mod Reading
+pub mod Stage

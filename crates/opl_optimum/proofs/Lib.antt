@@ -1,0 +1,4 @@
+pub mod BestLaws
+pub mod GoalLaws
+pub mod Membership
+pub mod Order

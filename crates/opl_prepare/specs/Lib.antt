@@ -1,0 +1,4 @@
+pub mod Data
+pub mod Positions
+pub mod Prepared
+pub mod Subject
