@@ -1,1 +1,2 @@
-minimize 1 subject to { x = ; };
+solve { x = ; };
+search { };

@@ -1,0 +1,3 @@
+var int x in 1..2;
+var int y in 1..2;
+maximize x = y & x > 1 subject to { };

@@ -1,0 +1,3 @@
+enum E {a,b};
+var E x;
+maximize x subject to { };

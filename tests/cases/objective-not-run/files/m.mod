@@ -1,2 +1,0 @@
-var int x in 1..2;
-maximize x subject to { };

@@ -1,0 +1,2 @@
+var int x in 0..1;
+maximize prod(i in 1..2049) x subject to { };

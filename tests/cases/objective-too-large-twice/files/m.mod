@@ -1,0 +1,2 @@
+var int x in 0..1;
+maximize x * 85070591730234615865843651857942052864 subject to { };

@@ -1,0 +1,2 @@
+var int x in 1..3;
+maximize x subject to { x > 3; };

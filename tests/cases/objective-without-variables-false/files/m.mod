@@ -1,0 +1,1 @@
+maximize 1 subject to { 1 = 2; };

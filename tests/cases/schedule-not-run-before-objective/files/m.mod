@@ -1,0 +1,3 @@
+scheduleHorizon = 9;
+Activity a(3);
+minimize a.end subject to { };
