@@ -1,14 +1,12 @@
 -- The numbers of variables and of their values.
 use Rattle.std.proofs.Common.{◌≡◌, ℕ, ◌+◌, ℤ, pos, negsuc, List, [], ◌∷◌, ◌++◌, length, refl, ap, sym, ◌∙◌, arith, length-append}
 use Rattle.std.specs.Prelude.{◌<ℤ◌, ◌≤ℤ◌, unsigned_abs}
-use Rattle.std.specs.List.{flat_map}
 use Rattle.std.proofs.lemmas.Int.{ints}
 use Rattle.std.proofs.lemmas.List.{append-nil}
 use Rattle.opl_value.specs.Places.{or_zero}
-use Rattle.opl_meaning.specs.declared.totals.Totals.{Totals}
 use Rattle.opl_meaning.specs.declared.variable.DeclaredSet.{DeclaredSet}
 use Rattle.opl_meaning.specs.declared.variable.VariableItem.{VariableItem}
-use Rattle.opl_meaning.specs.Variables.{sets_of, size_of, totals_of, values_of}
+use Rattle.opl_meaning.specs.Variables.{sets_of, size_of, values_of}
 
 pub zero-below : (z : ℤ) → z <ℤ pos 0 → 0 ≡ or_zero z
 zero-below (pos n) h = absurd (omega (arith, ints, h))

@@ -3,15 +3,9 @@ pub mod Faults
 pub mod Assigned
 pub mod Runs
 pub mod Places
-pub mod Known
 pub mod Uses
-pub mod Readings
 pub mod Formulas
 pub mod Solutions
-pub mod Several
-pub mod Items
-pub mod Kept
-pub mod Holding
 pub mod Laws
 pub mod Variables
 pub mod VariableReadings

@@ -1,16 +1,9 @@
--- Which forms of a model run today: all declarations but those of scheduling, and as items blocks and conditions, in which a decision
--- variable stands alone as a side of a comparison.
-use Rattle.std.specs.Prelude.{ℕ, Bool, false, not, ◌||◌, ◌&&◌, cond, bytes_eq, List, [], ◌∷◌, ◌++◌, map, Option, Some, None}
+-- The names of decision variables, where expressions name one, and which declarations and sections do not run yet.
+use Rattle.std.specs.Prelude.{ℕ, Bool, false, ◌||◌, bytes_eq, List, [], ◌∷◌, ◌++◌, Option, Some, None}
 use Rattle.std.specs.List.{list_any}
 use Rattle.opl_tree.specs.declared.declaration.DeclTree.{DeclTree}
 use Rattle.opl_tree.specs.declared.declaration.DeclTree.TheVariants as decls
 use Rattle.opl_tree.specs.declared.declaration.DimsTree.{DimsTree}
-use Rattle.opl_tree.specs.declared.instruction.BlockTree.{BlockTree}
-use Rattle.opl_tree.specs.declared.instruction.InstrTree.{InstrTree}
-use Rattle.opl_tree.specs.declared.instruction.InstrTree.TheVariants as instr
-use Rattle.opl_tree.specs.declared.instruction.ItemTree.TheOpen.{ItemTree-F, ItemsTree-F, BlockTree-F}
-use Rattle.opl_tree.specs.declared.instruction.ItemTree.TheFolds.{fold-BlockTree}
-use Rattle.opl_tree.specs.declared.model.ModelTree.{ModelTree}
 use Rattle.opl_tree.specs.declared.search.SearchTree.{SearchTree}
 use Rattle.opl_term.specs.declared.term.GroupTerm.{GroupTerm}
 use Rattle.opl_term.specs.declared.term.SetTerm.{SetTerm}
@@ -18,7 +11,6 @@ use Rattle.opl_term.specs.declared.term.Step.{Step}
 use Rattle.opl_term.specs.declared.term.Term.{Term}
 use Rattle.opl_term.specs.declared.term.GroupTerm.TheOpen.{GroupTerm-F, SetTerm-F, Step-F, Term-F}
 use Rattle.opl_term.specs.declared.term.GroupTerm.TheFolds.{fold-GroupTerm, fold-SetTerm, fold-Step, fold-Term}
-use Rattle.opl_term.specs.Terms.{expr_term}
 
 -- a name, as its bytes
 abbrev pub Text : Type 0
@@ -40,13 +32,10 @@ first_of (Some at ∷ others) = Some at
 
 -- ---- expressions
 
--- of an expression: whether a decision variable is named in it, whether it is a plain one, the place of its first token, and the place
--- of the first form in it, as a condition, that does not run
+-- of an expression: whether a decision variable is named in it, and the place of its first token
 pub record Use : Type 0 where
   pub is_mentioned : Bool
-  pub is_plain : Bool
   pub at : ℕ
-  pub unrun : Option ℕ
 
 abbrev pub any_mentioned : List Use → Bool
 any_mentioned ts = list_any (λ t. t.is_mentioned) ts
@@ -99,11 +88,6 @@ term_mentions names (Term-F.Described at t groups condition) = t.is_mentioned ||
 term_mentions names (Term-F.Array at ts) = any_mentioned ts
 term_mentions names (Term-F.KeyedArray at keys cells) = any_mentioned keys || any_mentioned cells
 
--- whether it is a plain decision variable
-abbrev pub plain_layer : {A B C D : Type 0} → List Text → Term-F A B C D → Bool
-plain_layer names (Term-F.Named at name) = is_among names name
-plain_layer names t = false
-
 -- the place of its first token
 abbrev pub at_layer : {A B C D : Type 0} → Term-F A B C D → ℕ
 at_layer (Term-F.Number at n) = at
@@ -130,32 +114,8 @@ at_layer (Term-F.Described at t groups condition) = at
 at_layer (Term-F.Array at ts) = at
 at_layer (Term-F.KeyedArray at keys cells) = at
 
--- a side of a comparison runs where it names no decision variable, or is a plain one
-abbrev pub side_unrun : Use → Option ℕ
-side_unrun t = cond (t.is_mentioned && not t.is_plain) (Some t.at) None
-
-abbrev pub all_unrun : List Use → Option ℕ
-all_unrun ts = first_of (map (λ t. t.unrun) ts)
-
--- the first form of a condition with decision variables that does not run: connectives, and comparisons of sides that run, do
-abbrev pub connective_unrun : {A B C : Type 0} → ℕ → Term-F A B C Use → Option ℕ
-connective_unrun place (Term-F.Bracket at t) = t.unrun
-connective_unrun place (Term-F.Related at left relation right) = first_of (side_unrun left ∷ side_unrun right ∷ [])
-connective_unrun place (Term-F.Equivalent at ts) = all_unrun ts
-connective_unrun place (Term-F.Implied at premise conclusion) = first_of (premise.unrun ∷ conclusion.unrun ∷ [])
-connective_unrun place (Term-F.Or at ts) = all_unrun ts
-connective_unrun place (Term-F.And at ts) = all_unrun ts
-connective_unrun place (Term-F.Not at t) = t.unrun
-connective_unrun place t = Some place
-
--- a condition without decision variables runs, whatever its form
 abbrev pub use_layer : Names → Term-F Bool Bool Bool Use → Use
-use_layer names t = record {
-  is_mentioned = term_mentions names.all t;
-  is_plain = plain_layer names.plain t;
-  at = at_layer t;
-  unrun = cond (term_mentions names.all t) (connective_unrun (at_layer t) t) None;
-}
+use_layer names t = record { is_mentioned = term_mentions names.all t; at = at_layer t }
 
 unfoldable pub use_of : Names → Term → Use
 use_of names = fold-Term Bool Bool Bool Use group_mentions set_mentions step_mentions (use_layer names)
@@ -193,6 +153,7 @@ names_of before (t ∷ ts) = names_of (record { all = before.all ++ name_of t; p
 abbrev pub no_names : Names
 no_names = record { all = []; plain = [] }
 
+-- the place of a declaration that does not run yet: one of scheduling
 abbrev pub decl_unrun : DeclTree → Option ℕ
 decl_unrun (decls.Data t) = None
 decl_unrun (decls.Range t) = None
@@ -204,38 +165,9 @@ decl_unrun (decls.Unary t) = Some t.at
 decl_unrun (decls.Discrete t) = Some t.at
 decl_unrun (decls.Schedule t) = Some t.at
 
--- ---- items
+-- ---- sections
 
-abbrev pub item_layer : Names → ItemTree-F (Option ℕ) (Option ℕ) (Option ℕ) → Option ℕ
-item_layer names (ItemTree-F.Block inner) = inner
-item_layer names (ItemTree-F.ForAll at params body) = Some at
-item_layer names (ItemTree-F.If at condition holds fails) = Some at
-item_layer names (ItemTree-F.Precedes at first second) = Some at
-item_layer names (ItemTree-F.Requires t) = Some t.at
-item_layer names (ItemTree-F.Constraint t) = (use_of names (expr_term t)).unrun
-
-abbrev pub items_layer : ItemsTree-F (Option ℕ) (Option ℕ) (Option ℕ) → Option ℕ
-items_layer (ItemsTree-F.Empty at) = None
-items_layer (ItemsTree-F.Several at first rest is_closed) = first_of (first ∷ rest)
-
-abbrev pub block_layer : BlockTree-F (Option ℕ) (Option ℕ) (Option ℕ) → Option ℕ
-block_layer t = t.items
-
--- the first form in a block that does not run
-unfoldable pub block_unrun : Names → BlockTree → Option ℕ
-block_unrun names = fold-BlockTree (Option ℕ) (Option ℕ) (Option ℕ) (item_layer names) items_layer block_layer
-
--- ---- the model
-
--- an objective does not run yet, nor does a search section
-abbrev pub instr_unrun : Names → InstrTree → Option ℕ
-instr_unrun names (instr.Solve at block) = block_unrun names block
-instr_unrun names (instr.Optimize at optimum objective block) = Some at
-
+-- the place of a search section, which does not run yet
 abbrev pub search_unrun : Option SearchTree → Option ℕ
 search_unrun None = None
 search_unrun (Some search) = Some search.at
-
--- the place of the first form of a model, in the order of the text, that does not run
-unfoldable pub not_yet : ModelTree → Option ℕ
-not_yet m = first_of (first_of (map decl_unrun m.decls) ∷ instr_unrun (names_of no_names m.decls) m.instr ∷ search_unrun m.search ∷ [])

@@ -1,45 +1,12 @@
--- The solutions of a model: assignments of the declared sets, in lexicographic order, on which all conditions hold.
-use Rattle.std.specs.Prelude.{ℕ, zero, suc, ◌+◌, ℤ, pos, ◌+ℤ◌, ◌-ℤ◌, int_lt, unsigned_abs, Bool, false, if◌then◌else◌, List, [], ◌∷◌, ◌++◌, filter, length, map, Option, Some, None, Ok, Err}
-use Rattle.std.specs.List.{flat_map, list_all}
-use Rattle.opl_term.specs.declared.term.Term.{Term}
-use Rattle.opl_tree.specs.declared.instruction.BlockTree.{BlockTree}
-use Rattle.opl_tree.specs.declared.instruction.InstrTree.{InstrTree}
-use Rattle.opl_tree.specs.declared.instruction.InstrTree.TheVariants as instr
-use Rattle.opl_tree.specs.declared.instruction.ItemTree.TheOpen.{ItemTree-F, ItemsTree-F, BlockTree-F}
-use Rattle.opl_tree.specs.declared.instruction.ItemTree.TheFolds.{fold-BlockTree}
+-- The assignments of the declared sets, in lexicographic order, and the decision variables by name.
+use Rattle.std.specs.Prelude.{ℕ, zero, suc, ◌+◌, ℤ, pos, ◌+ℤ◌, ◌-ℤ◌, int_lt, unsigned_abs, Bool, false, if◌then◌else◌, List, [], ◌∷◌, ◌++◌, length, map, Option, Some, None, Ok, Err}
+use Rattle.std.specs.List.{flat_map}
 use Rattle.opl_value.specs.declared.value.IndexSpace.{IndexSpace}
 use Rattle.opl_value.specs.declared.value.Value.{Value}
-use Rattle.opl_term.specs.Terms.{expr_term}
-use Rattle.opl_eval.specs.Evaluation.{Environment, Found, eval, is_true}
+use Rattle.opl_eval.specs.Evaluation.{Found, is_true}
 use Rattle.opl_meaning.specs.declared.variable.DeclaredSet.{DeclaredSet}
 use Rattle.opl_meaning.specs.declared.variable.VariableItem.{VariableItem}
-use Rattle.opl_meaning.specs.Assigned.{with_variables}
 use Rattle.opl_meaning.specs.Formulas.{Plain, Scope}
-
--- ---- conditions
-
-abbrev pub item_layer : ItemTree-F (List Term) (List Term) (List Term) → List Term
-item_layer (ItemTree-F.Block inner) = inner
-item_layer (ItemTree-F.ForAll at params body) = []
-item_layer (ItemTree-F.If at condition holds fails) = []
-item_layer (ItemTree-F.Precedes at first second) = []
-item_layer (ItemTree-F.Requires t) = []
-item_layer (ItemTree-F.Constraint t) = expr_term t ∷ []
-
-abbrev pub items_layer : ItemsTree-F (List Term) (List Term) (List Term) → List Term
-items_layer (ItemsTree-F.Empty at) = []
-items_layer (ItemsTree-F.Several at first rest is_closed) = flat_map (λ ts. ts) (first ∷ rest)
-
-abbrev pub block_layer : BlockTree-F (List Term) (List Term) (List Term) → List Term
-block_layer t = t.items
-
--- the conditions of a block, in the order of the text
-unfoldable pub block_conditions : BlockTree → List Term
-block_conditions = fold-BlockTree (List Term) (List Term) (List Term) item_layer items_layer block_layer
-
-abbrev pub conditions : InstrTree → List Term
-conditions (instr.Solve at block) = block_conditions block
-conditions (instr.Optimize at optimum objective block) = block_conditions block
 
 -- ---- declared sets
 
@@ -65,28 +32,10 @@ unfoldable pub product : List (List ℤ) → List (List ℤ)
 product [] = [] ∷ []
 product (set ∷ sets) = flat_map (λ v. map (λ vs. v ∷ vs) (product sets)) set
 
--- ---- solutions
-
--- a model with its data: the declared names with their values, the decision variables, and the conditions
-pub record Model : Type 0 where
-  pub environment : Environment
-  pub variables : List VariableItem
-  pub conditions : List Term
-
 -- what comes to no value does not hold
 abbrev pub truth : Found Value → Bool
 truth (Ok v) = is_true v
 truth (Err fault) = false
-
--- whether a condition holds where the decision variables have the values of an assignment
-abbrev pub holds : Environment → List VariableItem → List ℤ → Term → Bool
-holds env items ns t = truth (eval t (with_variables items ns env))
-
-abbrev pub satisfies : Model → List ℤ → Bool
-satisfies m ns = list_all (holds m.environment m.variables ns) m.conditions
-
-unfoldable pub solutions : Model → List (List ℤ)
-solutions m = filter (satisfies m) (product (declared_sets m.variables))
 
 -- ---- the decision variables by name
 

@@ -1,7 +1,7 @@
 -- Places in terms.
-use Rattle.std.specs.Prelude.{ℕ, cond, Option, Some, None}
+use Rattle.std.specs.Prelude.{ℕ, Option, Some, None}
 use Rattle.opl_term.specs.declared.term.Term.{Term}
-use Rattle.opl_meaning.specs.Runs.{Use, no_names, use_of}
+use Rattle.opl_meaning.specs.Runs.{no_names, use_of}
 
 -- the place of a term's first token
 unfoldable pub place_of : Term → ℕ
@@ -11,7 +11,3 @@ place_of t = (use_of no_names t).at
 abbrev pub or_else : Option ℕ → Option ℕ → Option ℕ
 or_else None other = other
 or_else (Some at) other = Some at
-
--- what runs only where it names no decision variable
-abbrev pub whole_unrun : Use → Option ℕ
-whole_unrun u = cond u.is_mentioned (Some u.at) None

@@ -1,14 +1,13 @@
--- Laws of the decision variables of declarations, and of what runs.
-use Rattle.std.specs.Prelude.{◌≡◌, List, [], map, None, Ok}
+-- Laws of the decision variables of declarations.
+use Rattle.std.specs.Prelude.{◌≡◌, List, [], map, Ok}
 use Rattle.std.specs.List.{All}
 use Rattle.opl_tree.specs.declared.declaration.DeclTree.{DeclTree}
-use Rattle.opl_tree.specs.declared.model.ModelTree.{ModelTree}
 use Rattle.opl_eval.specs.Evaluation.{Environment}
 use Rattle.opl_meaning.specs.declared.variable.VariableItem.{VariableItem}
 use Rattle.opl_meaning.specs.Formulas.{names_in}
 use Rattle.opl_meaning.specs.Laws.{HasOneSet}
-use Rattle.opl_meaning.specs.Runs.{names_of, no_names, not_yet, use_of}
-use Rattle.opl_meaning.specs.Solutions.{conditions, scope_of}
+use Rattle.opl_meaning.specs.Runs.{names_of, no_names}
+use Rattle.opl_meaning.specs.Solutions.{scope_of}
 use Rattle.opl_meaning.specs.Variables.{variables_in}
 
 -- a variable that is no array has one declared set
@@ -24,7 +23,3 @@ VariablesAreNamed = (env : Environment) (decls : List DeclTree) (items : List Va
 abbrev pub ScopeIsDeclared : Type 0
 ScopeIsDeclared = (env : Environment) (decls : List DeclTree) (items : List VariableItem) → variables_in env [] decls ≡ Ok items →
     names_in (scope_of items) ≡ names_of no_names decls
-
--- where all of a model runs, each of its conditions does
-abbrev pub ConditionsRun : Type 0
-ConditionsRun = (t : ModelTree) → not_yet t ≡ None → All (λ condition. (use_of (names_of no_names t.decls) condition).unrun ≡ None) (conditions t.instr)

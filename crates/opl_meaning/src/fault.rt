@@ -1,4 +1,4 @@
-//! Why a model has no meaning.
+//! Why a model has no decision variables.
 ghost use Rattle.opl_meaning.specs.declared.fault.MeaningFault.TheVariants.{OutOfMemory};
 ghost use Rattle.std.specs.Prelude.{◌≡◌};
 
@@ -6,10 +6,10 @@ use opl_eval::EvalFault;
 use std::alloc::{AllocError, AllocFailed};
 use thiserror::Error;
 
-/// Why a model with data has no variables or no conditions. A place is the byte offset, from 0, of a first token in the model's file.
+/// Why the declarations of a model with data give no decision variables. A place is the byte offset, from 0, of a first token in the model's file.
 #[derive(Debug, Drop, Error)]
 pub enum MeaningFault {
-    /// An expression without decision variables has no value.
+    /// An end of a declared set, or an index set, has no value.
     #[error("no value")]
     Eval(EvalFault),
     /// With the variables of the declaration at this place there are more than 65,536.

@@ -1,5 +1,5 @@
-//! Laws of the decision variables of declarations, and of what runs, as contracts of functions without effect.
-ghost use Rattle.opl_meaning.specs.VariableLaws.{ConditionsRun, ScopeIsDeclared, SinglesHaveOneSet, VariablesAreNamed};
+//! Laws of the decision variables of declarations, as contracts of functions without effect.
+ghost use Rattle.opl_meaning.specs.VariableLaws.{ScopeIsDeclared, SinglesHaveOneSet, VariablesAreNamed};
 
 /// A variable that is no array has one declared set.
 #[tactic(auto, using(crate::proofs::VariableLaws::singles_have_one_set))]
@@ -17,10 +17,4 @@ pub fn variables_are_named()
 #[tactic(auto, using(crate::proofs::VariableLaws::scope_is_declared))]
 pub fn scope_is_declared()
     ensures { ScopeIsDeclared }
-{}
-
-/// Where all of a model runs, each of its conditions does.
-#[tactic(auto, using(crate::proofs::ConditionsRun::conditions_run))]
-pub fn conditions_run()
-    ensures { ConditionsRun }
 {}

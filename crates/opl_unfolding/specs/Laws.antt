@@ -12,7 +12,6 @@ use Rattle.opl_draft.specs.Drafts.{Cells, Draft, DraftStep, drafts_of, steps_of}
 use Rattle.opl_draft.specs.Forms.{bodies_in}
 use Rattle.opl_draft.specs.Instances.{Condition, Instance, Instances, condition_of, for_all, in_turn}
 use Rattle.opl_draft.specs.Unrolled.{is_mentioned, unrolled}
-use Rattle.opl_form.specs.Forms.{forms}
 use Rattle.opl_form.specs.Made.{made, made_all, made_operands, made_same, made_steps, place, places}
 use Rattle.opl_form.specs.Measures.{all_nodes}
 use Rattle.opl_form.specs.Nodes.{Parts, aggregated, next}
@@ -106,10 +105,6 @@ ForAllByChoice = (inner : Instances) (gs : List Group) (c : Option Term) (env : 
 -- Conditions behind conditions are posted behind their constraints.
 abbrev pub PostedAppend : Type 0
 PostedAppend = (sets : List (ℤ × ℤ)) (arrays : List Cells) (p : Posted) (cs ds : List Condition) → posted sets arrays p (cs ++ ds) ≡ next (posted sets arrays p cs) (λ q. posted sets arrays q ds)
-
--- The constraints of all conditions are what is posted behind none.
-abbrev pub FormsPosted : Type 0
-FormsPosted = (sets : List (ℤ × ℤ)) (arrays : List Cells) (cs : List Condition) → forms sets arrays 0 cs ≡ next (posted sets arrays ([], 0) cs) (λ q. Ok q.0)
 
 -- The conditions of instances, where the declared names have these values.
 abbrev pub conditions : List VariableItem → Names → Environment → List Instance → List Condition

@@ -1,5 +1,5 @@
 //! Laws of forms made part by part, as contracts of functions without effect.
-ghost use Rattle.opl_unfolding.specs.Laws.{AggregatesByChoice, BodiesByChoice, BodiesStop, DraftsOfForms, DraftsOfSteps, ForAllByChoice, FormsPosted, LiveDrafts, MadeOnto, MadeSame, MadeSteps, OntoAppend, OntoEnd, OntoNext, PostedAppend, PostedByChoice, PostedInTurn, PostedStop, ValueDrafts};
+ghost use Rattle.opl_unfolding.specs.Laws.{AggregatesByChoice, BodiesByChoice, BodiesStop, DraftsOfForms, DraftsOfSteps, ForAllByChoice, LiveDrafts, MadeOnto, MadeSame, MadeSteps, OntoAppend, OntoEnd, OntoNext, PostedAppend, PostedByChoice, PostedInTurn, PostedStop, ValueDrafts};
 
 /// Drafts behind drafts are made behind their forms.
 pub fn onto_append()
@@ -80,11 +80,6 @@ pub fn for_all_by_choice()
 /// Conditions behind conditions are posted behind their constraints.
 pub fn posted_append()
     ensures { PostedAppend }
-{}
-
-/// The constraints of all conditions are what is posted behind none.
-pub fn forms_posted()
-    ensures { FormsPosted }
 {}
 
 /// What stands under `forall` is posted for one choice after another.

@@ -1,8 +1,0 @@
-use Rattle.std.proofs.Common.{◌≡◌, map, drop}
-use Rattle.opl_meaning.specs.Items.{item_unrun}
-use Rattle.opl_meaning.specs.Readings.{known_of}
-use Rattle.opl_meaning.specs.Runs.{first_of}
-use Rattle.opl_meaning.proofs.runs.+items.Given as goal
-
-abbrev pub invariant-each-loop-part : goal.invariant-each-loop-part
-invariant-each-loop-part l = first_of (map (item_unrun (known_of l.names)) l.parts) ≡ first_of (map (item_unrun (known_of l.names)) (drop l.part-index l.parts))
