@@ -9,7 +9,7 @@ use crate::fault::BindFault;
 use crate::form::Form;
 use opl_list::Seq;
 use opl_token::Name;
-use opl_value::{KeySpace, Value};
+use opl_value::{Key, KeySpace, Value};
 use std::alloc::{AllocError, Global};
 
 /// A value that is assigned to an item, or to the element of an array with these subscripts.
@@ -21,10 +21,10 @@ pub struct Override {
 }
 
 /// The key of these subscripts.
-fn key(alloc: Global, index: &[i128]) -> Result<Vec<Value>, AllocError>
+fn key(alloc: Global, index: &[i128]) -> Result<Key, AllocError>
     ensures { IfOk result (λ key. key.items ≡ map Value.Int index.now) }
 {
-    let mut key = Vec::new(alloc);
+    let mut key = Key::new(alloc);
     for number in index {
         key.push(Value::Int(*number))?;
     }

@@ -5,6 +5,7 @@ mod compare;
 mod count;
 mod dimension;
 mod index;
+mod key;
 mod keys;
 pub mod laws;
 mod order;
@@ -13,6 +14,7 @@ mod space;
 mod value;
 
 pub use index::place;
+pub use key::Key;
 pub use keys::KeySpace;
 pub use set::make_set;
 pub use value::{Dimension, IndexSpace, Value};

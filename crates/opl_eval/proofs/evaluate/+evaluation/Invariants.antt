@@ -19,6 +19,9 @@ decreases-evaluate_set l = set_weight l.set.now + 5
 abbrev pub decreases-values : goal.decreases-values
 decreases-values l = total (map weight l.terms.now) + 5
 
+abbrev pub decreases-key_of : goal.decreases-key_of
+decreases-key_of l = total (map weight l.subscripts.now) + 5
+
 abbrev pub decreases-operations : goal.decreases-operations
 decreases-operations l = total (map step_weight l.steps.now) + 6
 
@@ -56,6 +59,11 @@ abbrev pub invariant-values-loop-term : goal.invariant-values-loop-term
 invariant-values-loop-term l =
     all (map (λ t. eval t (names_in l.scope)) l.terms)
     ≡ found (λ vs. l.found.items ++ vs) (all (map (λ t. eval t (names_in l.scope)) (drop l.term-index l.terms)))
+
+abbrev pub invariant-key_of-loop-subscript : goal.invariant-key_of-loop-subscript
+invariant-key_of-loop-subscript l =
+    all (map (λ t. eval t (names_in l.scope)) l.subscripts)
+    ≡ found (λ vs. l.key.items ++ vs) (all (map (λ t. eval t (names_in l.scope)) (drop l.subscript-index l.subscripts)))
 
 abbrev pub invariant-operations-loop-step : goal.invariant-operations-loop-step
 invariant-operations-loop-step l =
