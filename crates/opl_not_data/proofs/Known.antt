@@ -76,7 +76,7 @@ module _ (d e : Text → Bool) (more : (name : Text) → Gives (d name) (e name)
 -- ---- one expression
 
 -- the node tells what is mentioned
-abbrev Told : (Text → Bool) → Form → Node → Type 0
+abbrev pub Told : (Text → Bool) → Form → Node → Type 0
 Told d f n = (n.decides ≡ decides d f) × (n.asks ≡ asks f) × (n.place ≡ first_token f)
 
 abbrev Uses : (Text → Bool) → Form → Type 0
@@ -331,7 +331,7 @@ mutual
 
 -- ---- the laws
 
-known-told-at : (sc : Scope) (f : Form) (n : Node) → typing sc f ≡ Ok n → Told (decided sc) f n
+pub known-told-at : (sc : Scope) (f : Form) (n : Node) → typing sc f ≡ Ok n → Told (decided sc) f n
 known-told-at sc f n h = at_ok (Told (decided sc) f) (Blames (decided sc) (decides (decided sc) f) (asks f) (parts f)) (typing sc f) n h (typed f (decided sc) sc (λ name. refl))
 
 pub mentions_are_known : MentionsAreKnown

@@ -1,3 +1,4 @@
+pub mod First
 pub mod Known
 pub mod Outcomes
 pub mod Parameters

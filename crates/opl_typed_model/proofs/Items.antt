@@ -42,10 +42,10 @@ pub record Agrees (l : Looked) (p : Part) : Type 0 where
 
 -- ---- one after the other
 
-agrees-none : Agrees (each []) empty
+pub agrees-none : Agrees (each []) empty
 agrees-none = record { sound = λ sc ks h. tt; complete = λ sc h. ([], refl) }
 
-agrees-more : (l : Looked) (ls : List Looked) (p q : Part) → Agrees l p → Agrees (each ls) q → Agrees (each (l ∷ ls)) (both p q)
+pub agrees-more : (l : Looked) (ls : List Looked) (p q : Part) → Agrees l p → Agrees (each ls) q → Agrees (each (l ∷ ls)) (both p q)
 agrees-more l ls p q first rest = record { sound = more-sound; complete = more-complete }
   where
     more-sound : (sc : Scope) (ks : List Sort) → each (l ∷ ls) sc ≡ Ok ks → IsTyped sc (both p q)
@@ -70,7 +70,7 @@ agrees-each : {T : Type 0} (f : T → Looked) (g : T → Part) (es : List ((t : 
 agrees-each f g [] = agrees-none
 agrees-each f g (e ∷ es) = agrees-more (f e.0) (map f (map (λ e. e.0) es)) (g e.0) (together (map g (map (λ e. e.0) es))) e.1 (agrees-each f g es)
 
-agrees-within : (need : Need) (params : ParamsTree) (l : Looked) (p : Part) → Agrees l p → Agrees (within need params l) (behind need (form_params params) p)
+pub agrees-within : (need : Need) (params : ParamsTree) (l : Looked) (p : Part) → Agrees l p → Agrees (within need params l) (behind need (form_params params) p)
 agrees-within need params l p inner = record { sound = within-sound; complete = within-complete }
   where
     within-sound : (sc : Scope) (ks : List Sort) → within need params l sc ≡ Ok ks → IsTyped sc (behind need (form_params params) p)
@@ -85,7 +85,7 @@ agrees-within need params l p inner = record { sound = within-sound; complete = 
         let r = inner.complete o.0.scope (subst (λ (s : Scope). IsTyped s p) (sym o.2) h.2) in
         (o.0.kinds ++ r.0, goes (open_params need sc (form_params params)) (λ opened. and_then (l opened.scope) (λ rest. Ok (opened.kinds ++ rest))) o.0 o.1 ∙ goes (l o.0.scope) (λ rest. Ok (o.0.kinds ++ rest)) r.0 r.1)
 
-agrees-condition : (need : Need) (t : ExprTree) → Agrees (condition need t) (condition_part need (form_expr t))
+pub agrees-condition : (need : Need) (t : ExprTree) → Agrees (condition need t) (condition_part need (form_expr t))
 agrees-condition need t = record { sound = condition-sound; complete = condition-complete }
   where
     condition-sound : (sc : Scope) (ks : List Sort) → condition need t sc ≡ Ok ks → IsTyped sc (condition_part need (form_expr t))
@@ -96,10 +96,10 @@ agrees-condition need t = record { sound = condition-sound; complete = condition
     condition-complete sc h =
         let k = stands-complete sc need is_truth (form_expr t) h in (kinds k.node, goes (and_then (typing sc (form_expr t)) (used need is_truth)) (λ n. Ok (kinds n)) k.node k.given)
 
-agrees-precedes : (at : ℕ) (first second : PostTree) → Agrees (precedes at first second) (precedence (form_post first) (form_post second))
+pub agrees-precedes : (at : ℕ) (first second : PostTree) → Agrees (precedes at first second) (precedence (form_post first) (form_post second))
 agrees-precedes at first second = record { sound = λ sc ks h. precedes-sound at (form_post first) (form_post second) sc ks h; complete = λ sc h. precedes-complete at (form_post first) (form_post second) sc h }
 
-agrees-requires : (t : RequiresTree) → Agrees (requires t) (requirement t)
+pub agrees-requires : (t : RequiresTree) → Agrees (requires t) (requirement t)
 agrees-requires t = record { sound = λ sc ks h. requires-sound t sc ks h; complete = λ sc h. requires-complete t sc h }
 
 -- ---- items
@@ -124,24 +124,24 @@ abbrev block_inner : BlockTree-F InItem InItems InBlock → BlockTree-F ItemTree
 block_inner = map-BlockTree InItem InItems InBlock ItemTree ItemsTree BlockTree (λ e. e.0) (λ e. e.0) (λ e. e.0)
 
 -- one layer of each
-abbrev part_of_item : ItemTree-F ItemTree ItemsTree BlockTree → Part
+abbrev pub part_of_item : ItemTree-F ItemTree ItemsTree BlockTree → Part
 part_of_item x = item_part_layer (map-ItemTree ItemTree ItemsTree BlockTree Part Part Part item_part items_part block_part x)
 
-abbrev part_of_items : ItemsTree-F ItemTree ItemsTree BlockTree → Part
+abbrev pub part_of_items : ItemsTree-F ItemTree ItemsTree BlockTree → Part
 part_of_items x = items_part_layer (map-ItemsTree ItemTree ItemsTree BlockTree Part Part Part item_part items_part block_part x)
 
-abbrev part_of_block : BlockTree-F ItemTree ItemsTree BlockTree → Part
+abbrev pub part_of_block : BlockTree-F ItemTree ItemsTree BlockTree → Part
 part_of_block x = block_part_layer (map-BlockTree ItemTree ItemsTree BlockTree Part Part Part item_part items_part block_part x)
 
-item_part-roll : (x : ItemTree-F ItemTree ItemsTree BlockTree) → item_part (roll-ItemTree x) ≡ part_of_item x
+pub item_part-roll : (x : ItemTree-F ItemTree ItemsTree BlockTree) → item_part (roll-ItemTree x) ≡ part_of_item x
 unfolding item_part items_part block_part
 item_part-roll x = fold-roll-ItemTree Part Part Part item_part_layer items_part_layer block_part_layer x
 
-items_part-roll : (x : ItemsTree-F ItemTree ItemsTree BlockTree) → items_part (roll-ItemsTree x) ≡ part_of_items x
+pub items_part-roll : (x : ItemsTree-F ItemTree ItemsTree BlockTree) → items_part (roll-ItemsTree x) ≡ part_of_items x
 unfolding item_part items_part block_part
 items_part-roll x = fold-roll-ItemsTree Part Part Part item_part_layer items_part_layer block_part_layer x
 
-block_part-roll : (x : BlockTree-F ItemTree ItemsTree BlockTree) → block_part (roll-BlockTree x) ≡ part_of_block x
+pub block_part-roll : (x : BlockTree-F ItemTree ItemsTree BlockTree) → block_part (roll-BlockTree x) ≡ part_of_block x
 unfolding item_part items_part block_part
 block_part-roll x = fold-roll-BlockTree Part Part Part item_part_layer items_part_layer block_part_layer x
 
@@ -183,7 +183,7 @@ has-labelled : (op : LabelOp) (n : Node) → IsLabelled op (typed_of n) → is_l
 has-labelled labels.Generate n h = h
 has-labelled labels.Rank n h = h
 
-agrees-label : (at : ℕ) (op : LabelOp) (t : PostTree) → Agrees (label at op t) (labelled op (form_post t))
+pub agrees-label : (at : ℕ) (op : LabelOp) (t : PostTree) → Agrees (label at op t) (labelled op (form_post t))
 agrees-label at op t = record { sound = label-sound; complete = label-complete }
   where
     label-sound : (sc : Scope) (ks : List Sort) → label at op t sc ≡ Ok ks → IsTyped sc (labelled op (form_post t))
@@ -207,7 +207,7 @@ key-complete : (t : OrderTree) (sc : Scope) → IsTyped sc (order_part (Some t))
 key-complete t sc h =
     let k = stands-complete sc data_or_questions is_number (form_add t.key) h in (kinds k.node, goes (and_then (typing sc (form_add t.key)) (used data_or_questions is_number)) (λ n. Ok (kinds n)) k.node k.given)
 
-agrees-order : (t : Option OrderTree) → Agrees (order t) (order_part t)
+pub agrees-order : (t : Option OrderTree) → Agrees (order t) (order_part t)
 agrees-order None = record { sound = λ sc ks h. tt; complete = λ sc h. ([], refl) }
 agrees-order (Some t) = record { sound = λ sc ks h. key-sound t sc ks h; complete = λ sc h. key-complete t sc h }
 
@@ -231,24 +231,24 @@ abbrev search_inner : SearchBlockTree-F InStatement InStatements InSearch → Se
 search_inner = map-SearchBlockTree InStatement InStatements InSearch StatementTree StatementsTree SearchBlockTree (λ e. e.0) (λ e. e.0) (λ e. e.0)
 
 -- one layer of each
-abbrev part_of_statement : StatementTree-F StatementTree StatementsTree SearchBlockTree → Part
+abbrev pub part_of_statement : StatementTree-F StatementTree StatementsTree SearchBlockTree → Part
 part_of_statement x = statement_part_layer (map-StatementTree StatementTree StatementsTree SearchBlockTree Part Part Part statement_part statements_part search_part x)
 
-abbrev part_of_statements : StatementsTree-F StatementTree StatementsTree SearchBlockTree → Part
+abbrev pub part_of_statements : StatementsTree-F StatementTree StatementsTree SearchBlockTree → Part
 part_of_statements x = statements_part_layer (map-StatementsTree StatementTree StatementsTree SearchBlockTree Part Part Part statement_part statements_part search_part x)
 
-abbrev part_of_search : SearchBlockTree-F StatementTree StatementsTree SearchBlockTree → Part
+abbrev pub part_of_search : SearchBlockTree-F StatementTree StatementsTree SearchBlockTree → Part
 part_of_search x = search_part_layer (map-SearchBlockTree StatementTree StatementsTree SearchBlockTree Part Part Part statement_part statements_part search_part x)
 
-statement_part-roll : (x : StatementTree-F StatementTree StatementsTree SearchBlockTree) → statement_part (roll-StatementTree x) ≡ part_of_statement x
+pub statement_part-roll : (x : StatementTree-F StatementTree StatementsTree SearchBlockTree) → statement_part (roll-StatementTree x) ≡ part_of_statement x
 unfolding statement_part statements_part search_part
 statement_part-roll x = fold-roll-StatementTree Part Part Part statement_part_layer statements_part_layer search_part_layer x
 
-statements_part-roll : (x : StatementsTree-F StatementTree StatementsTree SearchBlockTree) → statements_part (roll-StatementsTree x) ≡ part_of_statements x
+pub statements_part-roll : (x : StatementsTree-F StatementTree StatementsTree SearchBlockTree) → statements_part (roll-StatementsTree x) ≡ part_of_statements x
 unfolding statement_part statements_part search_part
 statements_part-roll x = fold-roll-StatementsTree Part Part Part statement_part_layer statements_part_layer search_part_layer x
 
-search_part-roll : (x : SearchBlockTree-F StatementTree StatementsTree SearchBlockTree) → search_part (roll-SearchBlockTree x) ≡ part_of_search x
+pub search_part-roll : (x : SearchBlockTree-F StatementTree StatementsTree SearchBlockTree) → search_part (roll-SearchBlockTree x) ≡ part_of_search x
 unfolding statement_part statements_part search_part
 search_part-roll x = fold-roll-SearchBlockTree Part Part Part statement_part_layer statements_part_layer search_part_layer x
 

@@ -1,4 +1,6 @@
 mod Decls
+mod FirstDecls
+mod FirstItems
 mod Items
 mod Lawful
 mod Places

@@ -1,9 +1,10 @@
 -- A model has types exactly where its declarations, one behind the other, its instruction and its search section have.
-use Rattle.std.specs.Prelude.{◌≡◌, ℕ, List, Option, Ok}
+use Rattle.std.specs.Prelude.{◌≡◌, ◌↔◌, ℕ, List, Option, Ok, Err}
 use Rattle.opl_tree.specs.declared.declaration.DeclTree.{DeclTree}
 use Rattle.opl_tree.specs.declared.instruction.InstrTree.{InstrTree}
 use Rattle.opl_tree.specs.declared.model.ModelTree.{ModelTree}
 use Rattle.opl_tree.specs.declared.search.SearchTree.{SearchTree}
+use Rattle.opl_type_rules.specs.declared.fault.TypeFault.TheVariants.{NotData}
 use Rattle.opl_type_rules.specs.Types.{Sort}
 use Rattle.opl_type_rules.specs.Scope.{Scope, empty_scope}
 use Rattle.opl_type_rules.specs.Expressions.{Opened}
@@ -11,6 +12,7 @@ use Rattle.opl_declaration_types.specs.Declarations.{decl}
 use Rattle.opl_item_types.specs.Items.{instr, search}
 use Rattle.opl_model_types.specs.Models.{model}
 use Rattle.opl_typed_model.specs.Declares.{Declares, AllDeclare}
+use Rattle.opl_typed_model.specs.First.{InModel}
 use Rattle.opl_typed_model.specs.Parts.{IsInstr, IsSearch}
 
 -- a model has types: the instruction and the search section stand behind all declarations
@@ -44,3 +46,7 @@ ModelSound = (t : ModelTree) (ks : List Sort) → model t ≡ Ok ks → IsModel 
 
 abbrev pub ModelComplete : Type 0
 ModelComplete = (t : ModelTree) → IsModel t → (ks : List Sort) × (model t ≡ Ok ks)
+
+-- a model is refused as no data exactly at the first place where an expression begins that is no data and stands where data is needed, where no fault is found before it
+abbrev pub NotDataIsFirstOfModels : Type 0
+NotDataIsFirstOfModels = (t : ModelTree) (at : ℕ) → (model t ≡ Err (NotData at)) ↔ InModel t at

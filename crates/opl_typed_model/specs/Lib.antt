@@ -1,4 +1,5 @@
 pub mod Declares
+pub mod First
 pub mod Laws
 pub mod Parts
 pub mod Places

@@ -1,5 +1,5 @@
 //! Laws of the relation, as contracts of functions without effect.
-ghost use Rattle.opl_typed_model.specs.Laws.{DeclsComplete, DeclsSound, InstrComplete, InstrSound, ModelComplete, ModelSound, SearchComplete, SearchSound};
+ghost use Rattle.opl_typed_model.specs.Laws.{DeclsComplete, DeclsSound, InstrComplete, InstrSound, ModelComplete, ModelSound, NotDataIsFirstOfModels, SearchComplete, SearchSound};
 
 /// Where typing accepts a declaration, the relation has it, with the scope that typing lets it leave.
 pub fn decls_sound()
@@ -40,4 +40,10 @@ pub fn model_sound()
 /// And the other way round: so typing accepts exactly the models that have types.
 pub fn model_complete()
     ensures { ModelComplete }
+{}
+
+/// Typing refuses a model as no data exactly where it comes first to an expression that is no data and stands where data is needed, and finds no other fault before: at the place where that
+/// expression begins.
+pub fn not_data_is_first_of_models()
+    ensures { NotDataIsFirstOfModels }
 {}

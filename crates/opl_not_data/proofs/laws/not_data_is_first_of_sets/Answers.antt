@@ -1,0 +1,5 @@
+use Rattle.opl_not_data.proofs.First.{not_data_is_first_of_sets}
+use Rattle.opl_not_data.proofs.laws.not_data_is_first_of_sets.Goals as goal
+
+pub returns : goal.returns
+returns c = not_data_is_first_of_sets
