@@ -24,12 +24,12 @@ use Rattle.opl_fit.specs.Laws.{CellsStandByTheirKeys}
 pub some_same : {A : Type 0} (a b : A) → (let x : Option A = Some a in x) ≡ Some b → a ≡ b
 some_same a b h = cc
 
-get-left : {A : Type 0} (xs ys : List A) (k : ℕ) (x : A) → slice_get xs k ≡ Some x → slice_get (xs ++ ys) k ≡ Some x
+pub get-left : {A : Type 0} (xs ys : List A) (k : ℕ) (x : A) → slice_get xs k ≡ Some x → slice_get (xs ++ ys) k ≡ Some x
 get-left [] ys k x h = absurd (cc)
 get-left (y ∷ xs) ys zero x h = h
 get-left (y ∷ xs) ys (suc k) x h = get-left xs ys k x h
 
-get-right : {A : Type 0} (xs ys : List A) (k j : ℕ) → j ≡ length xs + k → slice_get (xs ++ ys) j ≡ slice_get ys k
+pub get-right : {A : Type 0} (xs ys : List A) (k j : ℕ) → j ≡ length xs + k → slice_get (xs ++ ys) j ≡ slice_get ys k
 get-right [] ys k j e = let s : j ≡ k = omega (arith, e) in ap (slice_get ys) s
 get-right (x ∷ xs) ys k zero e = absurd (omega (arith, e))
 get-right (x ∷ xs) ys k (suc j) e = get-right xs ys k j (omega (arith, e))
@@ -46,7 +46,7 @@ set-other (z ∷ xs) zero (suc q) x n = refl
 set-other (z ∷ xs) (suc p) zero x n = refl
 set-other (z ∷ xs) (suc p) (suc q) x n = set-other xs p q x (λ e. n (ap suc e))
 
-length-set : {A : Type 0} (xs : List A) (p : ℕ) (x : A) → length (set xs p x) ≡ length xs
+pub length-set : {A : Type 0} (xs : List A) (p : ℕ) (x : A) → length (set xs p x) ≡ length xs
 length-set [] p x = refl
 length-set (z ∷ xs) zero x = refl
 length-set (z ∷ xs) (suc p) x = ap suc (length-set xs p x)
@@ -165,13 +165,13 @@ cells-part known wrong axis value cells h = layer-part known wrong axis (out-Dat
 
 -- ---- dimension after dimension
 
-index-first : (n p : ℕ) → 0 * n + p ≡ p
+pub index-first : (n p : ℕ) → 0 * n + p ≡ p
 index-first n p = omega arith
 
-index-later : (i n p m : ℕ) → m ≡ n → suc i * n + p ≡ m + (i * n + p)
+pub index-later : (i n p m : ℕ) → m ≡ n → suc i * n + p ≡ m + (i * n + p)
 index-later i n p m e = omega (arith, add-mul 1 i n, e)
 
-index-inner : (i l p n q : ℕ) → i * (l * n) + (p * n + q) ≡ (i * l + p) * n + q
+pub index-inner : (i l p n q : ℕ) → i * (l * n) + (p * n + q) ≡ (i * l + p) * n + q
 index-inner i l p n q = omega (arith, add-mul (i * l) p n, mul_assoc i l n)
 
 -- a part of the i-th of the values
@@ -208,7 +208,7 @@ record CellAt (axes : List Axis) (cells : List DataValue) (i : ℕ) (key : List 
   place_is : place_of (map values_of axes) key ≡ Some place
   stands : slice_get cells (i * elements (map values_of axes) + place) ≡ Some cell
 
-index-itself : (i : ℕ) → i * 1 + 0 ≡ i
+pub index-itself : (i : ℕ) → i * 1 + 0 ≡ i
 index-itself i = omega arith
 
 flat-stands : (known : Known) (wrong : BindFault) (axes : List Axis) (values cells : List DataValue) (i : ℕ) (value : DataValue) (key : List Value) (cell : DataValue) →
@@ -248,7 +248,7 @@ all-read known file form before vs (c ∷ cs) h =
     let r = all-read known file form (before ++ w.0 ∷ []) vs cs w.2 in
     (w.0 ∷ r.0, r.1 ∙ append_assoc before (w.0 ∷ []) r.0, more-read known file form c cs w.0 r.0 w.1 r.2)
 
-index-whole : (n p : ℕ) → p ≡ 0 * n + p
+pub index-whole : (n p : ℕ) → p ≡ 0 * n + p
 index-whole n p = omega arith
 
 pub cells_stand_by_their_keys : CellsStandByTheirKeys

@@ -1,5 +1,5 @@
 -- Laws of the values of data.
-use Rattle.std.specs.Prelude.{◌≡◌, ◌≤◌, ◌<◌, ◌⊎◌, ℕ, ℤ, ◌+ℤ◌, ◌*ℤ◌, ◌≤ℤ◌, pos, unsigned_abs, true, List, ◌∷◌, ◌++◌, Some, Ok, false, []}
+use Rattle.std.specs.Prelude.{◌≡◌, ◌≤◌, ◌<◌, ◌⊎◌, ℕ, ℤ, ◌+ℤ◌, ◌*ℤ◌, ◌≤ℤ◌, pos, unsigned_abs, true, List, ◌∷◌, ◌++◌, Some, Ok, false}
 use Rattle.std.specs.List.{list_any, slice_get}
 use Rattle.opl_tree.specs.declared.declaration.DataTree.{DataTree}
 use Rattle.opl_tree.specs.declared.declaration.DeclTree.{DeclTree}
@@ -7,7 +7,6 @@ use Rattle.opl_tree.specs.declared.declaration.DeclTree.TheVariants as decls
 use Rattle.opl_tree.specs.declared.declaration.DimTree.{DimTree}
 use Rattle.opl_tree.specs.declared.declaration.InitialTree.TheVariants as initials
 use Rattle.opl_term.specs.declared.term.Term.{Term}
-use Rattle.opl_term.specs.declared.term.Term.TheVariants as terms
 use Rattle.opl_tree.specs.declared.expression.AddTree.{AddTree}
 use Rattle.opl_data.specs.declared.tree.DataFile.{DataFile}
 use Rattle.opl_data.specs.declared.tree.DataValue.{DataValue}
@@ -29,7 +28,7 @@ use Rattle.opl_bind.specs.Bind.{Data, bound}
 use Rattle.opl_bind.specs.Written.{has_name, written_cells, written_value}
 use Rattle.opl_fit.specs.Declared.{ItemIs, Stands}
 use Rattle.opl_fit.specs.Fits.{Fits}
-use Rattle.opl_fit.specs.Keys.{Says}
+use Rattle.opl_fit.specs.Keys.{IsKeyIn, Says, SaysWritten}
 use Rattle.opl_fit.specs.OfKind.{HasKind}
 
 -- ---- the forms of values
@@ -71,12 +70,19 @@ CellsStandByTheirKeys =
     elements_in known file wrong axes form value ≡ Ok cells → Says known axes value key cell →
     (place : ℕ) × (v : Value) × (place_of (lists_of axes) key ≡ Some place) × (slice_get cells place ≡ Some v) × (value_in known file cell form ≡ Ok v)
 
--- in `#[..]#` of the model over one index set without a name, the cell at the place of a key is the value behind the key
+-- of an array that the model writes as `[..]` and `#[..]#`, over any number of index sets without names, the cell at a key's place is the value of the expression that stands for the key
 abbrev pub WrittenCellsStandByTheirKeys : Type 0
 WrittenCellsStandByTheirKeys =
-    (known : Known) (env : Environment) (form : Form) (ts : List DimTree) (axis : Axis) (at : ℕ) (ks us : List Term) (cells : List Value) (i : ℕ) (k u : Term) →
-    list_any has_name ts ≡ false → written_cells known env form ts (axis ∷ []) (terms.KeyedArray at ks us) ≡ Ok cells → slice_get ks i ≡ Some k → slice_get us i ≡ Some u →
-    (place : ℕ) × (key : Value) × (v : Value) × (eval k env ≡ Ok key) × (place_in key (values_of axis) ≡ Some place) × (slice_get cells place ≡ Some v) × (written_value known env form u ≡ Ok v)
+    (known : Known) (env : Environment) (form : Form) (ts : List DimTree) (axis : Axis) (axes : List Axis) (t : Term) (cells : List Value) (key : List Value) (cell : Term) →
+    list_any has_name ts ≡ false → written_cells known env form ts (axis ∷ axes) t ≡ Ok cells → SaysWritten env (axis ∷ axes) t key cell →
+    (place : ℕ) × (v : Value) × (place_of (lists_of (axis ∷ axes)) key ≡ Some place) × (slice_get cells place ≡ Some v) × (written_value known env form cell ≡ Ok v)
+
+-- each key in such an array has a value, which is an element of its index set
+abbrev pub WrittenKeysAreElements : Type 0
+WrittenKeysAreElements =
+    (known : Known) (env : Environment) (form : Form) (ts : List DimTree) (axes : List Axis) (t : Term) (cells : List Value) (axis : Axis) (key : Term) →
+    list_any has_name ts ≡ false → written_cells known env form ts axes t ≡ Ok cells → IsKeyIn axis key axes t →
+    (v : Value) × (place : ℕ) × (eval key env ≡ Ok v) × (place_in v (values_of axis) ≡ Some place)
 
 -- ---- numbers
 

@@ -1,5 +1,5 @@
 //! Laws of the definitions, as contracts of functions without effect.
-ghost use Rattle.opl_fit.specs.Laws.{CellsStandByTheirKeys, GivenValuesFit, QuotientsAreCutOff, WrittenCellsStandByTheirKeys, WrittenValuesFit};
+ghost use Rattle.opl_fit.specs.Laws.{CellsStandByTheirKeys, GivenValuesFit, QuotientsAreCutOff, WrittenCellsStandByTheirKeys, WrittenKeysAreElements, WrittenValuesFit};
 
 /// Each item whose value a data file gives, or is assigned, has a value of the form of its type: its numbers lie within their ranges, its names are those of their
 /// enumerations, its records have a part for each field, the elements of its sets differ, and an array has a cell for each key of its index sets.
@@ -18,9 +18,15 @@ pub fn cells_stand_by_their_keys()
     ensures { CellsStandByTheirKeys }
 {}
 
-/// In `#[..]#` of the model, over one index set without a name, the cell at the place of a key is the value behind the key.
+/// Of an array that the model writes as `[..]` and `#[..]#`, over any number of index sets without names, the cell at a key's place is the value of the expression that stands for the key: in
+/// `#[..]#` the one behind it, in `[..]` that at its place.
 pub fn written_cells_stand_by_their_keys()
     ensures { WrittenCellsStandByTheirKeys }
+{}
+
+/// Each key in such an array has a value, which is an element of its index set.
+pub fn written_keys_are_elements()
+    ensures { WrittenKeysAreElements }
 {}
 
 /// A quotient is cut off towards 0, and the remainder has the sign of the number that is divided.
