@@ -1,0 +1,4 @@
+mod Outside
+mod Said
+mod Sound
+mod Terms

@@ -1,0 +1,350 @@
+-- The term of each tree says what its form says.
+use Rattle.std.proofs.Common.{◌≡◌, ◌⊎◌, inl, inr, ℕ, List, [], ◌∷◌, ◌++◌, map, Option, None, Some, refl, ap, sym, subst, ◌∙◌}
+use Rattle.std.specs.Option.{option_map}
+use Rattle.opl_tree.specs.declared.expression.CompareTree.{CompareTree}
+use Rattle.opl_tree.specs.declared.expression.MulTree.{MulTree}
+use Rattle.opl_tree.specs.declared.expression.NegTree.{NegTree}
+use Rattle.opl_tree.specs.declared.expression.OpenTree.{OpenTree}
+use Rattle.opl_tree.specs.declared.expression.PrimTree.{PrimTree}
+use Rattle.opl_tree.specs.declared.expression.SignTree.{SignTree}
+use Rattle.opl_tree.specs.declared.expression.SuffixTree.{SuffixTree}
+use Rattle.opl_tree.specs.declared.expression.AddStep.{AddStep}
+use Rattle.opl_tree.specs.declared.expression.AddTree.{AddTree}
+use Rattle.opl_tree.specs.declared.expression.AndTree.{AndTree}
+use Rattle.opl_tree.specs.declared.expression.ExprTree.{ExprTree}
+use Rattle.opl_tree.specs.declared.expression.GroupStep.{GroupStep}
+use Rattle.opl_tree.specs.declared.expression.GroupTree.{GroupTree}
+use Rattle.opl_tree.specs.declared.expression.ImpTree.{ImpTree}
+use Rattle.opl_tree.specs.declared.expression.KeyedTree.{KeyedTree}
+use Rattle.opl_tree.specs.declared.expression.LastStep.{LastStep}
+use Rattle.opl_tree.specs.declared.expression.MulStep.{MulStep}
+use Rattle.opl_tree.specs.declared.expression.OrTree.{OrTree}
+use Rattle.opl_tree.specs.declared.expression.ParamsTree.{ParamsTree}
+use Rattle.opl_tree.specs.declared.expression.PostTree.{PostTree}
+use Rattle.opl_tree.specs.declared.expression.SetTree.{SetTree}
+use Rattle.opl_tree.specs.declared.expression.SubscriptsTree.{SubscriptsTree}
+use Rattle.opl_tree.specs.declared.expression.CallOp.{CallOp}
+use Rattle.opl_tree.specs.declared.expression.CallOp.TheVariants as calls
+use Rattle.opl_tree.specs.declared.expression.NameTree.{NameTree}
+use Rattle.opl_tree.specs.declared.expression.NegTree.TheVariants as negs
+use Rattle.opl_tree.specs.declared.expression.CompareTree.TheVariants as compares
+use Rattle.opl_tree.specs.declared.expression.MulTree.TheVariants as muls
+use Rattle.opl_tree.specs.declared.expression.OpenTree.TheVariants as opens
+use Rattle.opl_tree.specs.declared.expression.SignTree.TheVariants as signs
+use Rattle.opl_tree.specs.declared.expression.SuffixTree.TheVariants as suffixes
+use Rattle.opl_tree.specs.declared.expression.PrimTree.TheVariants as prims
+use Rattle.opl_tree.specs.declared.expression.CompareTree.TheOpen.{CompareTree-F, MulTree-F, NegTree-F, OpenTree-F, PrimTree-F, SignTree-F, SuffixTree-F, AddTree-F, AndTree-F, ExprTree-F, ImpTree-F, OrTree-F, PostTree-F}
+use Rattle.opl_tree.specs.declared.expression.CompareTree.TheViews.{roll-CompareTree, roll-MulTree, roll-NegTree, roll-OpenTree, roll-PrimTree, roll-SignTree, roll-SuffixTree, roll-AddTree, roll-AndTree, roll-ExprTree, roll-ImpTree, roll-OrTree, roll-PostTree, out-SuffixTree, roll-out-SuffixTree, out-roll-ExprTree, out-roll-ImpTree, out-roll-OrTree, out-roll-AndTree, out-roll-AddTree, out-roll-PostTree}
+use Rattle.opl_tree.specs.declared.expression.CompareTree.TheFolds.{map-CompareTree, map-MulTree, map-NegTree, map-OpenTree, map-PrimTree, map-SignTree, map-AddTree, map-AndTree, map-ExprTree, map-ImpTree, map-OrTree, map-PostTree, ind-AddTree}
+use Rattle.opl_term.specs.declared.term.FieldName.{FieldName}
+use Rattle.opl_term.specs.declared.term.Step.{Step}
+use Rattle.opl_term.specs.declared.term.Term.{Term}
+use Rattle.opl_term.specs.declared.term.Term.TheVariants as terms
+use Rattle.opl_term.specs.Terms as says
+use Rattle.opl_term.specs.Terms.{text_of, compare_term, mul_term, neg_term, open_term, prim_term, sign_term, add_term, and_term, expr_term, imp_term, or_term, post_term, suffix_of, add_step_of, mul_step_of, last_step_of, subscripts_terms}
+use Rattle.opl_term.proofs.Layers as term_is
+use Rattle.opl_type_rules.specs.Forms as forms
+use Rattle.opl_type_rules.specs.Forms.{Form, Forms, forms_of, form_compare, form_mul, form_neg, form_open, form_prim, form_sign, form_add, form_and, form_expr, form_imp, form_or, form_post, form_suffix, form_add_step, form_mul_step, form_last_step, form_subscripts}
+use Rattle.opl_type_rules.specs.Forms.Form.{number, named, bracket, negative, arithmetic, related, member, connected, aggregate, all_different, subscripted, field, tuple, listed}
+use Rattle.opl_type_rules.proofs.Forms as form_is
+use Rattle.opl_typed_values.proofs.Outside.{GivesBool, bool-AllDifferent, bool-And, bool-Equivalent, bool-Implied, bool-Member, bool-Not, bool-Or, bool-Related, int-Aggregate, int-Call, int-Chain, int-Negative, int-Number}
+use Rattle.opl_typed_values.proofs.Said.{AllSay, Says}
+
+-- nothing has to be known of these trees
+abbrev Any : {X : Type 0} → X → Type 0
+Any x = Unit {0}
+
+abbrev In : Type 0 → Type 0
+In X = (x : X) × Any x
+
+abbrev In_compare : Type 0
+In_compare = (t : CompareTree) × Says (form_compare t) (compare_term t)
+
+abbrev In_mul : Type 0
+In_mul = (t : MulTree) × Says (form_mul t) (mul_term t)
+
+abbrev In_neg : Type 0
+In_neg = (t : NegTree) × Says (form_neg t) (neg_term t)
+
+abbrev In_open : Type 0
+In_open = (t : OpenTree) × Says (form_open t) (open_term t)
+
+abbrev In_prim : Type 0
+In_prim = (t : PrimTree) × Says (form_prim t) (prim_term t)
+
+abbrev In_sign : Type 0
+In_sign = (t : SignTree) × Says (form_sign t) (sign_term t)
+
+abbrev In_add : Type 0
+In_add = (t : AddTree) × Says (form_add t) (add_term t)
+
+abbrev In_and : Type 0
+In_and = (t : AndTree) × Says (form_and t) (and_term t)
+
+abbrev In_expr : Type 0
+In_expr = (t : ExprTree) × Says (form_expr t) (expr_term t)
+
+abbrev In_imp : Type 0
+In_imp = (t : ImpTree) × Says (form_imp t) (imp_term t)
+
+abbrev In_or : Type 0
+In_or = (t : OrTree) × Says (form_or t) (or_term t)
+
+abbrev In_post : Type 0
+In_post = (t : PostTree) × Says (form_post t) (post_term t)
+
+abbrev inner_compare : CompareTree-F In_compare In_mul In_neg In_open In_prim In_sign (In SuffixTree) (In AddStep) In_add In_and In_expr (In GroupStep) (In GroupTree) In_imp (In KeyedTree) (In LastStep) (In MulStep) In_or (In ParamsTree) In_post (In SetTree) (In SubscriptsTree) → CompareTree-F CompareTree MulTree NegTree OpenTree PrimTree SignTree SuffixTree AddStep AddTree AndTree ExprTree GroupStep GroupTree ImpTree KeyedTree LastStep MulStep OrTree ParamsTree PostTree SetTree SubscriptsTree
+inner_compare = map-CompareTree In_compare In_mul In_neg In_open In_prim In_sign (In SuffixTree) (In AddStep) In_add In_and In_expr (In GroupStep) (In GroupTree) In_imp (In KeyedTree) (In LastStep) (In MulStep) In_or (In ParamsTree) In_post (In SetTree) (In SubscriptsTree) CompareTree MulTree NegTree OpenTree PrimTree SignTree SuffixTree AddStep AddTree AndTree ExprTree GroupStep GroupTree ImpTree KeyedTree LastStep MulStep OrTree ParamsTree PostTree SetTree SubscriptsTree (λ e. e.0) (λ e. e.0) (λ e. e.0) (λ e. e.0) (λ e. e.0) (λ e. e.0) (λ e. e.0) (λ e. e.0) (λ e. e.0) (λ e. e.0) (λ e. e.0) (λ e. e.0) (λ e. e.0) (λ e. e.0) (λ e. e.0) (λ e. e.0) (λ e. e.0) (λ e. e.0) (λ e. e.0) (λ e. e.0) (λ e. e.0) (λ e. e.0)
+
+abbrev inner_mul : MulTree-F In_compare In_mul In_neg In_open In_prim In_sign (In SuffixTree) (In AddStep) In_add In_and In_expr (In GroupStep) (In GroupTree) In_imp (In KeyedTree) (In LastStep) (In MulStep) In_or (In ParamsTree) In_post (In SetTree) (In SubscriptsTree) → MulTree-F CompareTree MulTree NegTree OpenTree PrimTree SignTree SuffixTree AddStep AddTree AndTree ExprTree GroupStep GroupTree ImpTree KeyedTree LastStep MulStep OrTree ParamsTree PostTree SetTree SubscriptsTree
+inner_mul = map-MulTree In_compare In_mul In_neg In_open In_prim In_sign (In SuffixTree) (In AddStep) In_add In_and In_expr (In GroupStep) (In GroupTree) In_imp (In KeyedTree) (In LastStep) (In MulStep) In_or (In ParamsTree) In_post (In SetTree) (In SubscriptsTree) CompareTree MulTree NegTree OpenTree PrimTree SignTree SuffixTree AddStep AddTree AndTree ExprTree GroupStep GroupTree ImpTree KeyedTree LastStep MulStep OrTree ParamsTree PostTree SetTree SubscriptsTree (λ e. e.0) (λ e. e.0) (λ e. e.0) (λ e. e.0) (λ e. e.0) (λ e. e.0) (λ e. e.0) (λ e. e.0) (λ e. e.0) (λ e. e.0) (λ e. e.0) (λ e. e.0) (λ e. e.0) (λ e. e.0) (λ e. e.0) (λ e. e.0) (λ e. e.0) (λ e. e.0) (λ e. e.0) (λ e. e.0) (λ e. e.0) (λ e. e.0)
+
+abbrev inner_neg : NegTree-F In_compare In_mul In_neg In_open In_prim In_sign (In SuffixTree) (In AddStep) In_add In_and In_expr (In GroupStep) (In GroupTree) In_imp (In KeyedTree) (In LastStep) (In MulStep) In_or (In ParamsTree) In_post (In SetTree) (In SubscriptsTree) → NegTree-F CompareTree MulTree NegTree OpenTree PrimTree SignTree SuffixTree AddStep AddTree AndTree ExprTree GroupStep GroupTree ImpTree KeyedTree LastStep MulStep OrTree ParamsTree PostTree SetTree SubscriptsTree
+inner_neg = map-NegTree In_compare In_mul In_neg In_open In_prim In_sign (In SuffixTree) (In AddStep) In_add In_and In_expr (In GroupStep) (In GroupTree) In_imp (In KeyedTree) (In LastStep) (In MulStep) In_or (In ParamsTree) In_post (In SetTree) (In SubscriptsTree) CompareTree MulTree NegTree OpenTree PrimTree SignTree SuffixTree AddStep AddTree AndTree ExprTree GroupStep GroupTree ImpTree KeyedTree LastStep MulStep OrTree ParamsTree PostTree SetTree SubscriptsTree (λ e. e.0) (λ e. e.0) (λ e. e.0) (λ e. e.0) (λ e. e.0) (λ e. e.0) (λ e. e.0) (λ e. e.0) (λ e. e.0) (λ e. e.0) (λ e. e.0) (λ e. e.0) (λ e. e.0) (λ e. e.0) (λ e. e.0) (λ e. e.0) (λ e. e.0) (λ e. e.0) (λ e. e.0) (λ e. e.0) (λ e. e.0) (λ e. e.0)
+
+abbrev inner_open : OpenTree-F In_compare In_mul In_neg In_open In_prim In_sign (In SuffixTree) (In AddStep) In_add In_and In_expr (In GroupStep) (In GroupTree) In_imp (In KeyedTree) (In LastStep) (In MulStep) In_or (In ParamsTree) In_post (In SetTree) (In SubscriptsTree) → OpenTree-F CompareTree MulTree NegTree OpenTree PrimTree SignTree SuffixTree AddStep AddTree AndTree ExprTree GroupStep GroupTree ImpTree KeyedTree LastStep MulStep OrTree ParamsTree PostTree SetTree SubscriptsTree
+inner_open = map-OpenTree In_compare In_mul In_neg In_open In_prim In_sign (In SuffixTree) (In AddStep) In_add In_and In_expr (In GroupStep) (In GroupTree) In_imp (In KeyedTree) (In LastStep) (In MulStep) In_or (In ParamsTree) In_post (In SetTree) (In SubscriptsTree) CompareTree MulTree NegTree OpenTree PrimTree SignTree SuffixTree AddStep AddTree AndTree ExprTree GroupStep GroupTree ImpTree KeyedTree LastStep MulStep OrTree ParamsTree PostTree SetTree SubscriptsTree (λ e. e.0) (λ e. e.0) (λ e. e.0) (λ e. e.0) (λ e. e.0) (λ e. e.0) (λ e. e.0) (λ e. e.0) (λ e. e.0) (λ e. e.0) (λ e. e.0) (λ e. e.0) (λ e. e.0) (λ e. e.0) (λ e. e.0) (λ e. e.0) (λ e. e.0) (λ e. e.0) (λ e. e.0) (λ e. e.0) (λ e. e.0) (λ e. e.0)
+
+abbrev inner_prim : PrimTree-F In_compare In_mul In_neg In_open In_prim In_sign (In SuffixTree) (In AddStep) In_add In_and In_expr (In GroupStep) (In GroupTree) In_imp (In KeyedTree) (In LastStep) (In MulStep) In_or (In ParamsTree) In_post (In SetTree) (In SubscriptsTree) → PrimTree-F CompareTree MulTree NegTree OpenTree PrimTree SignTree SuffixTree AddStep AddTree AndTree ExprTree GroupStep GroupTree ImpTree KeyedTree LastStep MulStep OrTree ParamsTree PostTree SetTree SubscriptsTree
+inner_prim = map-PrimTree In_compare In_mul In_neg In_open In_prim In_sign (In SuffixTree) (In AddStep) In_add In_and In_expr (In GroupStep) (In GroupTree) In_imp (In KeyedTree) (In LastStep) (In MulStep) In_or (In ParamsTree) In_post (In SetTree) (In SubscriptsTree) CompareTree MulTree NegTree OpenTree PrimTree SignTree SuffixTree AddStep AddTree AndTree ExprTree GroupStep GroupTree ImpTree KeyedTree LastStep MulStep OrTree ParamsTree PostTree SetTree SubscriptsTree (λ e. e.0) (λ e. e.0) (λ e. e.0) (λ e. e.0) (λ e. e.0) (λ e. e.0) (λ e. e.0) (λ e. e.0) (λ e. e.0) (λ e. e.0) (λ e. e.0) (λ e. e.0) (λ e. e.0) (λ e. e.0) (λ e. e.0) (λ e. e.0) (λ e. e.0) (λ e. e.0) (λ e. e.0) (λ e. e.0) (λ e. e.0) (λ e. e.0)
+
+abbrev inner_sign : SignTree-F In_compare In_mul In_neg In_open In_prim In_sign (In SuffixTree) (In AddStep) In_add In_and In_expr (In GroupStep) (In GroupTree) In_imp (In KeyedTree) (In LastStep) (In MulStep) In_or (In ParamsTree) In_post (In SetTree) (In SubscriptsTree) → SignTree-F CompareTree MulTree NegTree OpenTree PrimTree SignTree SuffixTree AddStep AddTree AndTree ExprTree GroupStep GroupTree ImpTree KeyedTree LastStep MulStep OrTree ParamsTree PostTree SetTree SubscriptsTree
+inner_sign = map-SignTree In_compare In_mul In_neg In_open In_prim In_sign (In SuffixTree) (In AddStep) In_add In_and In_expr (In GroupStep) (In GroupTree) In_imp (In KeyedTree) (In LastStep) (In MulStep) In_or (In ParamsTree) In_post (In SetTree) (In SubscriptsTree) CompareTree MulTree NegTree OpenTree PrimTree SignTree SuffixTree AddStep AddTree AndTree ExprTree GroupStep GroupTree ImpTree KeyedTree LastStep MulStep OrTree ParamsTree PostTree SetTree SubscriptsTree (λ e. e.0) (λ e. e.0) (λ e. e.0) (λ e. e.0) (λ e. e.0) (λ e. e.0) (λ e. e.0) (λ e. e.0) (λ e. e.0) (λ e. e.0) (λ e. e.0) (λ e. e.0) (λ e. e.0) (λ e. e.0) (λ e. e.0) (λ e. e.0) (λ e. e.0) (λ e. e.0) (λ e. e.0) (λ e. e.0) (λ e. e.0) (λ e. e.0)
+
+abbrev inner_add : AddTree-F In_compare In_mul In_neg In_open In_prim In_sign (In SuffixTree) (In AddStep) In_add In_and In_expr (In GroupStep) (In GroupTree) In_imp (In KeyedTree) (In LastStep) (In MulStep) In_or (In ParamsTree) In_post (In SetTree) (In SubscriptsTree) → AddTree-F CompareTree MulTree NegTree OpenTree PrimTree SignTree SuffixTree AddStep AddTree AndTree ExprTree GroupStep GroupTree ImpTree KeyedTree LastStep MulStep OrTree ParamsTree PostTree SetTree SubscriptsTree
+inner_add = map-AddTree In_compare In_mul In_neg In_open In_prim In_sign (In SuffixTree) (In AddStep) In_add In_and In_expr (In GroupStep) (In GroupTree) In_imp (In KeyedTree) (In LastStep) (In MulStep) In_or (In ParamsTree) In_post (In SetTree) (In SubscriptsTree) CompareTree MulTree NegTree OpenTree PrimTree SignTree SuffixTree AddStep AddTree AndTree ExprTree GroupStep GroupTree ImpTree KeyedTree LastStep MulStep OrTree ParamsTree PostTree SetTree SubscriptsTree (λ e. e.0) (λ e. e.0) (λ e. e.0) (λ e. e.0) (λ e. e.0) (λ e. e.0) (λ e. e.0) (λ e. e.0) (λ e. e.0) (λ e. e.0) (λ e. e.0) (λ e. e.0) (λ e. e.0) (λ e. e.0) (λ e. e.0) (λ e. e.0) (λ e. e.0) (λ e. e.0) (λ e. e.0) (λ e. e.0) (λ e. e.0) (λ e. e.0)
+
+abbrev inner_and : AndTree-F In_compare In_mul In_neg In_open In_prim In_sign (In SuffixTree) (In AddStep) In_add In_and In_expr (In GroupStep) (In GroupTree) In_imp (In KeyedTree) (In LastStep) (In MulStep) In_or (In ParamsTree) In_post (In SetTree) (In SubscriptsTree) → AndTree-F CompareTree MulTree NegTree OpenTree PrimTree SignTree SuffixTree AddStep AddTree AndTree ExprTree GroupStep GroupTree ImpTree KeyedTree LastStep MulStep OrTree ParamsTree PostTree SetTree SubscriptsTree
+inner_and = map-AndTree In_compare In_mul In_neg In_open In_prim In_sign (In SuffixTree) (In AddStep) In_add In_and In_expr (In GroupStep) (In GroupTree) In_imp (In KeyedTree) (In LastStep) (In MulStep) In_or (In ParamsTree) In_post (In SetTree) (In SubscriptsTree) CompareTree MulTree NegTree OpenTree PrimTree SignTree SuffixTree AddStep AddTree AndTree ExprTree GroupStep GroupTree ImpTree KeyedTree LastStep MulStep OrTree ParamsTree PostTree SetTree SubscriptsTree (λ e. e.0) (λ e. e.0) (λ e. e.0) (λ e. e.0) (λ e. e.0) (λ e. e.0) (λ e. e.0) (λ e. e.0) (λ e. e.0) (λ e. e.0) (λ e. e.0) (λ e. e.0) (λ e. e.0) (λ e. e.0) (λ e. e.0) (λ e. e.0) (λ e. e.0) (λ e. e.0) (λ e. e.0) (λ e. e.0) (λ e. e.0) (λ e. e.0)
+
+abbrev inner_expr : ExprTree-F In_compare In_mul In_neg In_open In_prim In_sign (In SuffixTree) (In AddStep) In_add In_and In_expr (In GroupStep) (In GroupTree) In_imp (In KeyedTree) (In LastStep) (In MulStep) In_or (In ParamsTree) In_post (In SetTree) (In SubscriptsTree) → ExprTree-F CompareTree MulTree NegTree OpenTree PrimTree SignTree SuffixTree AddStep AddTree AndTree ExprTree GroupStep GroupTree ImpTree KeyedTree LastStep MulStep OrTree ParamsTree PostTree SetTree SubscriptsTree
+inner_expr = map-ExprTree In_compare In_mul In_neg In_open In_prim In_sign (In SuffixTree) (In AddStep) In_add In_and In_expr (In GroupStep) (In GroupTree) In_imp (In KeyedTree) (In LastStep) (In MulStep) In_or (In ParamsTree) In_post (In SetTree) (In SubscriptsTree) CompareTree MulTree NegTree OpenTree PrimTree SignTree SuffixTree AddStep AddTree AndTree ExprTree GroupStep GroupTree ImpTree KeyedTree LastStep MulStep OrTree ParamsTree PostTree SetTree SubscriptsTree (λ e. e.0) (λ e. e.0) (λ e. e.0) (λ e. e.0) (λ e. e.0) (λ e. e.0) (λ e. e.0) (λ e. e.0) (λ e. e.0) (λ e. e.0) (λ e. e.0) (λ e. e.0) (λ e. e.0) (λ e. e.0) (λ e. e.0) (λ e. e.0) (λ e. e.0) (λ e. e.0) (λ e. e.0) (λ e. e.0) (λ e. e.0) (λ e. e.0)
+
+abbrev inner_imp : ImpTree-F In_compare In_mul In_neg In_open In_prim In_sign (In SuffixTree) (In AddStep) In_add In_and In_expr (In GroupStep) (In GroupTree) In_imp (In KeyedTree) (In LastStep) (In MulStep) In_or (In ParamsTree) In_post (In SetTree) (In SubscriptsTree) → ImpTree-F CompareTree MulTree NegTree OpenTree PrimTree SignTree SuffixTree AddStep AddTree AndTree ExprTree GroupStep GroupTree ImpTree KeyedTree LastStep MulStep OrTree ParamsTree PostTree SetTree SubscriptsTree
+inner_imp = map-ImpTree In_compare In_mul In_neg In_open In_prim In_sign (In SuffixTree) (In AddStep) In_add In_and In_expr (In GroupStep) (In GroupTree) In_imp (In KeyedTree) (In LastStep) (In MulStep) In_or (In ParamsTree) In_post (In SetTree) (In SubscriptsTree) CompareTree MulTree NegTree OpenTree PrimTree SignTree SuffixTree AddStep AddTree AndTree ExprTree GroupStep GroupTree ImpTree KeyedTree LastStep MulStep OrTree ParamsTree PostTree SetTree SubscriptsTree (λ e. e.0) (λ e. e.0) (λ e. e.0) (λ e. e.0) (λ e. e.0) (λ e. e.0) (λ e. e.0) (λ e. e.0) (λ e. e.0) (λ e. e.0) (λ e. e.0) (λ e. e.0) (λ e. e.0) (λ e. e.0) (λ e. e.0) (λ e. e.0) (λ e. e.0) (λ e. e.0) (λ e. e.0) (λ e. e.0) (λ e. e.0) (λ e. e.0)
+
+abbrev inner_or : OrTree-F In_compare In_mul In_neg In_open In_prim In_sign (In SuffixTree) (In AddStep) In_add In_and In_expr (In GroupStep) (In GroupTree) In_imp (In KeyedTree) (In LastStep) (In MulStep) In_or (In ParamsTree) In_post (In SetTree) (In SubscriptsTree) → OrTree-F CompareTree MulTree NegTree OpenTree PrimTree SignTree SuffixTree AddStep AddTree AndTree ExprTree GroupStep GroupTree ImpTree KeyedTree LastStep MulStep OrTree ParamsTree PostTree SetTree SubscriptsTree
+inner_or = map-OrTree In_compare In_mul In_neg In_open In_prim In_sign (In SuffixTree) (In AddStep) In_add In_and In_expr (In GroupStep) (In GroupTree) In_imp (In KeyedTree) (In LastStep) (In MulStep) In_or (In ParamsTree) In_post (In SetTree) (In SubscriptsTree) CompareTree MulTree NegTree OpenTree PrimTree SignTree SuffixTree AddStep AddTree AndTree ExprTree GroupStep GroupTree ImpTree KeyedTree LastStep MulStep OrTree ParamsTree PostTree SetTree SubscriptsTree (λ e. e.0) (λ e. e.0) (λ e. e.0) (λ e. e.0) (λ e. e.0) (λ e. e.0) (λ e. e.0) (λ e. e.0) (λ e. e.0) (λ e. e.0) (λ e. e.0) (λ e. e.0) (λ e. e.0) (λ e. e.0) (λ e. e.0) (λ e. e.0) (λ e. e.0) (λ e. e.0) (λ e. e.0) (λ e. e.0) (λ e. e.0) (λ e. e.0)
+
+abbrev inner_post : PostTree-F In_compare In_mul In_neg In_open In_prim In_sign (In SuffixTree) (In AddStep) In_add In_and In_expr (In GroupStep) (In GroupTree) In_imp (In KeyedTree) (In LastStep) (In MulStep) In_or (In ParamsTree) In_post (In SetTree) (In SubscriptsTree) → PostTree-F CompareTree MulTree NegTree OpenTree PrimTree SignTree SuffixTree AddStep AddTree AndTree ExprTree GroupStep GroupTree ImpTree KeyedTree LastStep MulStep OrTree ParamsTree PostTree SetTree SubscriptsTree
+inner_post = map-PostTree In_compare In_mul In_neg In_open In_prim In_sign (In SuffixTree) (In AddStep) In_add In_and In_expr (In GroupStep) (In GroupTree) In_imp (In KeyedTree) (In LastStep) (In MulStep) In_or (In ParamsTree) In_post (In SetTree) (In SubscriptsTree) CompareTree MulTree NegTree OpenTree PrimTree SignTree SuffixTree AddStep AddTree AndTree ExprTree GroupStep GroupTree ImpTree KeyedTree LastStep MulStep OrTree ParamsTree PostTree SetTree SubscriptsTree (λ e. e.0) (λ e. e.0) (λ e. e.0) (λ e. e.0) (λ e. e.0) (λ e. e.0) (λ e. e.0) (λ e. e.0) (λ e. e.0) (λ e. e.0) (λ e. e.0) (λ e. e.0) (λ e. e.0) (λ e. e.0) (λ e. e.0) (λ e. e.0) (λ e. e.0) (λ e. e.0) (λ e. e.0) (λ e. e.0) (λ e. e.0) (λ e. e.0)
+
+-- ---- lists and chains
+
+by-both : (f g : Form) (t u : Term) → f ≡ g → t ≡ u → Says g u → Says f t
+by-both f g t u p q s = subst (λ (h : Form). Says h t) (sym p) (subst (Says g) (sym q) s)
+
+-- one operand stands for itself, several make a number
+chain-says : {A : Type 0} (at p : ℕ) (f : Form) (t : Term) (g : A → Form) (h : A → Step) (ss : List A) → Says f t → Says (forms.chain (arithmetic at) f (map g ss)) (says.chain p t (map h ss))
+chain-says at p f t g h [] s = s
+chain-says at p f t g h (x ∷ xs) s = int-Chain p t (h x ∷ map h xs)
+
+-- or a truth value
+connected-says : {A : Type 0} (make : ℕ → List Term → Term) (at p : ℕ) (f : Form) (t : Term) (g : A → Form) (h : A → Term) (ss : List A) → ((q : ℕ) (ts : List Term) → GivesBool (make q ts)) → Says f t →
+    Says (forms.chain (connected at) f (map g ss)) (says.connected make p t (map h ss))
+connected-says make at p f t g h [] gives s = s
+connected-says make at p f t g h (x ∷ xs) gives s = gives p (t ∷ h x ∷ map h xs)
+
+product-says : (at : ℕ) (f : Form) (t : Term) (steps : List MulStep) (last : Option LastStep) → Says f t →
+    Says (forms.chain (arithmetic at) f (map form_mul_step steps ++ forms.or_none (option_map form_last_step last))) (says.chain at t (map mul_step_of steps ++ says.or_none (option_map last_step_of last)))
+product-says at f t [] None s = s
+product-says at f t [] (Some l) s = int-Chain at t _
+product-says at f t (x ∷ xs) last s = int-Chain at t _
+
+all-say : (es : List In_add) → AllSay (forms_of (map form_add (map (λ e. e.0) es))) (map add_term (map (λ e. e.0) es))
+all-say [] = tt
+all-say (e ∷ es) = (e.1, all-say es)
+
+-- ---- suffixes
+
+abbrev IsSuffix : SuffixTree → Type 0
+IsSuffix t = ((inner : SubscriptsTree) × (t ≡ suffixes.Subscripts inner)) ⊎ ((at : ℕ) × (name : NameTree) × (t ≡ suffixes.Field at name))
+
+suffix-layer : (x : SuffixTree-F CompareTree MulTree NegTree OpenTree PrimTree SignTree SuffixTree AddStep AddTree AndTree ExprTree GroupStep GroupTree ImpTree KeyedTree LastStep MulStep OrTree ParamsTree PostTree SetTree SubscriptsTree) → IsSuffix (roll-SuffixTree x)
+suffix-layer (SuffixTree-F.Subscripts inner) = inl (inner, suffixes.rolls-Subscripts inner)
+suffix-layer (SuffixTree-F.Field at name) = inr (at, name, suffixes.rolls-Field at name)
+
+is-suffix : (t : SuffixTree) → IsSuffix t
+is-suffix t = subst IsSuffix (roll-out-SuffixTree t) (suffix-layer (out-SuffixTree t))
+
+suffix-says : (at p : ℕ) (f : Form) (t : Term) (fields : List FieldName) (x : SuffixTree) (xs : List SuffixTree) → Says f (says.with_fields p t fields) →
+    ((g : Form) (u : Term) (gs : List FieldName) → Says g (says.with_fields p u gs) → Says (forms.with_suffixes at g (map form_suffix xs)) (says.with_suffixes p u gs (map suffix_of xs))) → IsSuffix x →
+    Says (forms.with_suffixes at f (map form_suffix (x ∷ xs))) (says.with_suffixes p t fields (map suffix_of (x ∷ xs)))
+suffix-says at p f t fields x xs s more (inl (inner, e)) =
+    by-both (forms.with_suffixes at f (map form_suffix (x ∷ xs))) (forms.with_suffixes at (subscripted at f (forms_of (form_subscripts inner))) (map form_suffix xs)) (says.with_suffixes p t fields (map suffix_of (x ∷ xs)))
+    (says.with_suffixes p (terms.Element p (says.with_fields p t fields) (subscripts_terms inner)) [] (map suffix_of xs))
+    (ap (λ r. forms.with_suffixes at f (r ∷ map form_suffix xs)) (ap form_suffix e ∙ form_is.form_suffix-Subscripts inner)) (ap (λ r. says.with_suffixes p t fields (r ∷ map suffix_of xs)) (ap suffix_of e ∙ term_is.suffix_of-Subscripts inner))
+    (more (subscripted at f (forms_of (form_subscripts inner))) (terms.Element p (says.with_fields p t fields) (subscripts_terms inner)) [] (p, says.with_fields p t fields, subscripts_terms inner, refl, s))
+suffix-says at p f t fields x xs s more (inr (q, name, e)) =
+    by-both (forms.with_suffixes at f (map form_suffix (x ∷ xs))) (forms.with_suffixes at (field at f name) (map form_suffix xs)) (says.with_suffixes p t fields (map suffix_of (x ∷ xs)))
+    (says.with_suffixes p t (fields ++ says.field_name name ∷ []) (map suffix_of xs))
+    (ap (λ r. forms.with_suffixes at f (r ∷ map form_suffix xs)) (ap form_suffix e ∙ form_is.form_suffix-Field q name)) (ap (λ r. says.with_suffixes p t fields (r ∷ map suffix_of xs)) (ap suffix_of e ∙ term_is.suffix_of-Field q name))
+    (more (field at f name) t (fields ++ says.field_name name ∷ []) tt)
+
+suffixes-say : (at p : ℕ) (f : Form) (t : Term) (fields : List FieldName) (ss : List SuffixTree) → Says f (says.with_fields p t fields) → Says (forms.with_suffixes at f (map form_suffix ss)) (says.with_suffixes p t fields (map suffix_of ss))
+suffixes-say at p f t fields [] s = s
+suffixes-say at p f t fields (x ∷ xs) s = suffix-says at p f t fields x xs s (λ g u gs h. suffixes-say at p g u gs xs h) (is-suffix x)
+
+-- ---- one layer of each tree
+
+case_expr : (y : ExprTree-F In_compare In_mul In_neg In_open In_prim In_sign (In SuffixTree) (In AddStep) In_add In_and In_expr (In GroupStep) (In GroupTree) In_imp (In KeyedTree) (In LastStep) (In MulStep) In_or (In ParamsTree) In_post (In SetTree) (In SubscriptsTree)) → Says (form_expr (roll-ExprTree (inner_expr y))) (expr_term (roll-ExprTree (inner_expr y)))
+case_expr y =
+    let F : ExprTree-F CompareTree MulTree NegTree OpenTree PrimTree SignTree SuffixTree AddStep AddTree AndTree ExprTree GroupStep GroupTree ImpTree KeyedTree LastStep MulStep OrTree ParamsTree PostTree SetTree SubscriptsTree → Form = λ z. forms.chain (connected z.at) (form_imp z.first) (map form_imp z.rest) in
+    let G : ExprTree-F CompareTree MulTree NegTree OpenTree PrimTree SignTree SuffixTree AddStep AddTree AndTree ExprTree GroupStep GroupTree ImpTree KeyedTree LastStep MulStep OrTree ParamsTree PostTree SetTree SubscriptsTree → Term = λ z. says.connected terms.Equivalent z.at (imp_term z.first) (map imp_term z.rest) in
+    by-both (form_expr (roll-ExprTree (inner_expr y))) (F (inner_expr y)) (expr_term (roll-ExprTree (inner_expr y))) (G (inner_expr y)) (form_is.form_expr-is (roll-ExprTree (inner_expr y)) ∙ ap F (out-roll-ExprTree (inner_expr y)))
+    (term_is.expr_term-is (roll-ExprTree (inner_expr y)) ∙ ap G (out-roll-ExprTree (inner_expr y))) (connected-says terms.Equivalent y.at y.at (form_imp y.first.0) (imp_term y.first.0) form_imp imp_term (map (λ e. e.0) y.rest) bool-Equivalent y.first.1)
+
+implied-says : (at p : ℕ) (f : Form) (t : Term) (o : Option ImpTree) → Says f t → Says (forms.implied at f (option_map form_imp o)) (says.implied p t (option_map imp_term o))
+implied-says at p f t None s = s
+implied-says at p f t (Some i) s = bool-Implied p t (imp_term i)
+
+case_imp : (y : ImpTree-F In_compare In_mul In_neg In_open In_prim In_sign (In SuffixTree) (In AddStep) In_add In_and In_expr (In GroupStep) (In GroupTree) In_imp (In KeyedTree) (In LastStep) (In MulStep) In_or (In ParamsTree) In_post (In SetTree) (In SubscriptsTree)) → Says (form_imp (roll-ImpTree (inner_imp y))) (imp_term (roll-ImpTree (inner_imp y)))
+case_imp y =
+    let F : ImpTree-F CompareTree MulTree NegTree OpenTree PrimTree SignTree SuffixTree AddStep AddTree AndTree ExprTree GroupStep GroupTree ImpTree KeyedTree LastStep MulStep OrTree ParamsTree PostTree SetTree SubscriptsTree → Form = λ z. forms.implied z.at (form_or z.premise) (option_map form_imp z.conclusion) in
+    let G : ImpTree-F CompareTree MulTree NegTree OpenTree PrimTree SignTree SuffixTree AddStep AddTree AndTree ExprTree GroupStep GroupTree ImpTree KeyedTree LastStep MulStep OrTree ParamsTree PostTree SetTree SubscriptsTree → Term = λ z. says.implied z.at (or_term z.premise) (option_map imp_term z.conclusion) in
+    by-both (form_imp (roll-ImpTree (inner_imp y))) (F (inner_imp y)) (imp_term (roll-ImpTree (inner_imp y))) (G (inner_imp y)) (form_is.form_imp-is (roll-ImpTree (inner_imp y)) ∙ ap F (out-roll-ImpTree (inner_imp y)))
+    (term_is.imp_term-is (roll-ImpTree (inner_imp y)) ∙ ap G (out-roll-ImpTree (inner_imp y))) (implied-says y.at y.at (form_or y.premise.0) (or_term y.premise.0) _ y.premise.1)
+
+case_or : (y : OrTree-F In_compare In_mul In_neg In_open In_prim In_sign (In SuffixTree) (In AddStep) In_add In_and In_expr (In GroupStep) (In GroupTree) In_imp (In KeyedTree) (In LastStep) (In MulStep) In_or (In ParamsTree) In_post (In SetTree) (In SubscriptsTree)) → Says (form_or (roll-OrTree (inner_or y))) (or_term (roll-OrTree (inner_or y)))
+case_or y =
+    let F : OrTree-F CompareTree MulTree NegTree OpenTree PrimTree SignTree SuffixTree AddStep AddTree AndTree ExprTree GroupStep GroupTree ImpTree KeyedTree LastStep MulStep OrTree ParamsTree PostTree SetTree SubscriptsTree → Form = λ z. forms.chain (connected z.at) (form_and z.first) (map form_and z.rest) in
+    let G : OrTree-F CompareTree MulTree NegTree OpenTree PrimTree SignTree SuffixTree AddStep AddTree AndTree ExprTree GroupStep GroupTree ImpTree KeyedTree LastStep MulStep OrTree ParamsTree PostTree SetTree SubscriptsTree → Term = λ z. says.connected terms.Or z.at (and_term z.first) (map and_term z.rest) in
+    by-both (form_or (roll-OrTree (inner_or y))) (F (inner_or y)) (or_term (roll-OrTree (inner_or y))) (G (inner_or y)) (form_is.form_or-is (roll-OrTree (inner_or y)) ∙ ap F (out-roll-OrTree (inner_or y)))
+    (term_is.or_term-is (roll-OrTree (inner_or y)) ∙ ap G (out-roll-OrTree (inner_or y))) (connected-says terms.Or y.at y.at (form_and y.first.0) (and_term y.first.0) form_and and_term (map (λ e. e.0) y.rest) bool-Or y.first.1)
+
+case_and : (y : AndTree-F In_compare In_mul In_neg In_open In_prim In_sign (In SuffixTree) (In AddStep) In_add In_and In_expr (In GroupStep) (In GroupTree) In_imp (In KeyedTree) (In LastStep) (In MulStep) In_or (In ParamsTree) In_post (In SetTree) (In SubscriptsTree)) → Says (form_and (roll-AndTree (inner_and y))) (and_term (roll-AndTree (inner_and y)))
+case_and y =
+    let F : AndTree-F CompareTree MulTree NegTree OpenTree PrimTree SignTree SuffixTree AddStep AddTree AndTree ExprTree GroupStep GroupTree ImpTree KeyedTree LastStep MulStep OrTree ParamsTree PostTree SetTree SubscriptsTree → Form = λ z. forms.chain (connected z.at) (form_neg z.first) (map form_neg z.rest) in
+    let G : AndTree-F CompareTree MulTree NegTree OpenTree PrimTree SignTree SuffixTree AddStep AddTree AndTree ExprTree GroupStep GroupTree ImpTree KeyedTree LastStep MulStep OrTree ParamsTree PostTree SetTree SubscriptsTree → Term = λ z. says.connected terms.And z.at (neg_term z.first) (map neg_term z.rest) in
+    by-both (form_and (roll-AndTree (inner_and y))) (F (inner_and y)) (and_term (roll-AndTree (inner_and y))) (G (inner_and y)) (form_is.form_and-is (roll-AndTree (inner_and y)) ∙ ap F (out-roll-AndTree (inner_and y)))
+    (term_is.and_term-is (roll-AndTree (inner_and y)) ∙ ap G (out-roll-AndTree (inner_and y))) (connected-says terms.And y.at y.at (form_neg y.first.0) (neg_term y.first.0) form_neg neg_term (map (λ e. e.0) y.rest) bool-And y.first.1)
+
+case_add : (y : AddTree-F In_compare In_mul In_neg In_open In_prim In_sign (In SuffixTree) (In AddStep) In_add In_and In_expr (In GroupStep) (In GroupTree) In_imp (In KeyedTree) (In LastStep) (In MulStep) In_or (In ParamsTree) In_post (In SetTree) (In SubscriptsTree)) → Says (form_add (roll-AddTree (inner_add y))) (add_term (roll-AddTree (inner_add y)))
+case_add y =
+    let F : AddTree-F CompareTree MulTree NegTree OpenTree PrimTree SignTree SuffixTree AddStep AddTree AndTree ExprTree GroupStep GroupTree ImpTree KeyedTree LastStep MulStep OrTree ParamsTree PostTree SetTree SubscriptsTree → Form = λ z. forms.chain (arithmetic z.at) (form_mul z.first) (map form_add_step z.rest) in
+    let G : AddTree-F CompareTree MulTree NegTree OpenTree PrimTree SignTree SuffixTree AddStep AddTree AndTree ExprTree GroupStep GroupTree ImpTree KeyedTree LastStep MulStep OrTree ParamsTree PostTree SetTree SubscriptsTree → Term = λ z. says.chain z.at (mul_term z.first) (map add_step_of z.rest) in
+    by-both (form_add (roll-AddTree (inner_add y))) (F (inner_add y)) (add_term (roll-AddTree (inner_add y))) (G (inner_add y)) (form_is.form_add-is (roll-AddTree (inner_add y)) ∙ ap F (out-roll-AddTree (inner_add y)))
+    (term_is.add_term-is (roll-AddTree (inner_add y)) ∙ ap G (out-roll-AddTree (inner_add y))) (chain-says y.at y.at (form_mul y.first.0) (mul_term y.first.0) form_add_step add_step_of (map (λ e. e.0) y.rest) y.first.1)
+
+case_post : (y : PostTree-F In_compare In_mul In_neg In_open In_prim In_sign (In SuffixTree) (In AddStep) In_add In_and In_expr (In GroupStep) (In GroupTree) In_imp (In KeyedTree) (In LastStep) (In MulStep) In_or (In ParamsTree) In_post (In SetTree) (In SubscriptsTree)) → Says (form_post (roll-PostTree (inner_post y))) (post_term (roll-PostTree (inner_post y)))
+case_post y =
+    let F : PostTree-F CompareTree MulTree NegTree OpenTree PrimTree SignTree SuffixTree AddStep AddTree AndTree ExprTree GroupStep GroupTree ImpTree KeyedTree LastStep MulStep OrTree ParamsTree PostTree SetTree SubscriptsTree → Form = λ z. forms.with_suffixes z.at (form_prim z.prim) (map form_suffix z.suffixes) in
+    let G : PostTree-F CompareTree MulTree NegTree OpenTree PrimTree SignTree SuffixTree AddStep AddTree AndTree ExprTree GroupStep GroupTree ImpTree KeyedTree LastStep MulStep OrTree ParamsTree PostTree SetTree SubscriptsTree → Term = λ z. says.with_suffixes z.at (prim_term z.prim) [] (map suffix_of z.suffixes) in
+    by-both (form_post (roll-PostTree (inner_post y))) (F (inner_post y)) (post_term (roll-PostTree (inner_post y))) (G (inner_post y)) (form_is.form_post-is (roll-PostTree (inner_post y)) ∙ ap F (out-roll-PostTree (inner_post y)))
+    (term_is.post_term-is (roll-PostTree (inner_post y)) ∙ ap G (out-roll-PostTree (inner_post y))) (suffixes-say y.at y.at (form_prim y.prim.0) (prim_term y.prim.0) [] (map (λ e. e.0) y.suffixes) y.prim.1)
+
+case_neg : (y : NegTree-F In_compare In_mul In_neg In_open In_prim In_sign (In SuffixTree) (In AddStep) In_add In_and In_expr (In GroupStep) (In GroupTree) In_imp (In KeyedTree) (In LastStep) (In MulStep) In_or (In ParamsTree) In_post (In SetTree) (In SubscriptsTree)) → Says (form_neg (roll-NegTree (inner_neg y))) (neg_term (roll-NegTree (inner_neg y)))
+case_neg (NegTree-F.Not at e) =
+    subst (λ (t : NegTree). Says (form_neg t) (neg_term t)) (sym (negs.rolls-Not at e.0))
+    (by-both (form_neg (negs.Not at e.0)) _ (neg_term (negs.Not at e.0)) _ (form_is.form_neg-Not at e.0) (term_is.neg_term-Not at e.0) (bool-Not at (neg_term e.0)))
+case_neg (NegTree-F.Compare e) =
+    subst (λ (t : NegTree). Says (form_neg t) (neg_term t)) (sym (negs.rolls-Compare e.0))
+    (by-both (form_neg (negs.Compare e.0)) _ (neg_term (negs.Compare e.0)) _ (form_is.form_neg-Compare e.0) (term_is.neg_term-Compare e.0) (e.1))
+
+case_compare : (y : CompareTree-F In_compare In_mul In_neg In_open In_prim In_sign (In SuffixTree) (In AddStep) In_add In_and In_expr (In GroupStep) (In GroupTree) In_imp (In KeyedTree) (In LastStep) (In MulStep) In_or (In ParamsTree) In_post (In SetTree) (In SubscriptsTree)) → Says (form_compare (roll-CompareTree (inner_compare y))) (compare_term (roll-CompareTree (inner_compare y)))
+case_compare (CompareTree-F.Single at e) =
+    subst (λ (t : CompareTree). Says (form_compare t) (compare_term t)) (sym (compares.rolls-Single at e.0))
+    (by-both (form_compare (compares.Single at e.0)) _ (compare_term (compares.Single at e.0)) _ (form_is.form_compare-Single at e.0) (term_is.compare_term-Single at e.0) (e.1))
+case_compare (CompareTree-F.Related at e relation d) =
+    subst (λ (t : CompareTree). Says (form_compare t) (compare_term t)) (sym (compares.rolls-Related at e.0 relation d.0))
+    (by-both (form_compare (compares.Related at e.0 relation d.0)) _ (compare_term (compares.Related at e.0 relation d.0)) _ (form_is.form_compare-Related at e.0 relation d.0) (term_is.compare_term-Related at e.0 relation d.0) (bool-Related at (add_term e.0) relation (add_term d.0)))
+case_compare (CompareTree-F.Member at e d) =
+    subst (λ (t : CompareTree). Says (form_compare t) (compare_term t)) (sym (compares.rolls-Member at e.0 d.0))
+    (by-both (form_compare (compares.Member at e.0 d.0)) _ (compare_term (compares.Member at e.0 d.0)) _ (form_is.form_compare-Member at e.0 d.0) (term_is.compare_term-Member at e.0 d.0) (bool-Member at (add_term e.0) _))
+
+case_mul : (y : MulTree-F In_compare In_mul In_neg In_open In_prim In_sign (In SuffixTree) (In AddStep) In_add In_and In_expr (In GroupStep) (In GroupTree) In_imp (In KeyedTree) (In LastStep) (In MulStep) In_or (In ParamsTree) In_post (In SetTree) (In SubscriptsTree)) → Says (form_mul (roll-MulTree (inner_mul y))) (mul_term (roll-MulTree (inner_mul y)))
+case_mul (MulTree-F.Opened e) =
+    subst (λ (t : MulTree). Says (form_mul t) (mul_term t)) (sym (muls.rolls-Opened e.0))
+    (by-both (form_mul (muls.Opened e.0)) _ (mul_term (muls.Opened e.0)) _ (form_is.form_mul-Opened e.0) (term_is.mul_term-Opened e.0) (e.1))
+case_mul (MulTree-F.Product at e steps None) =
+    subst (λ (t : MulTree). Says (form_mul t) (mul_term t)) (sym (muls.rolls-Product at e.0 (map (λ e. e.0) steps) None))
+    (by-both (form_mul (muls.Product at e.0 (map (λ e. e.0) steps) None)) _ (mul_term (muls.Product at e.0 (map (λ e. e.0) steps) None)) _ (form_is.form_mul-Product at e.0 (map (λ e. e.0) steps) None) (term_is.mul_term-Product at e.0 (map (λ e. e.0) steps) None) (product-says at (form_sign e.0) (sign_term e.0) (map (λ e. e.0) steps) None e.1))
+case_mul (MulTree-F.Product at e steps (Some d)) =
+    subst (λ (t : MulTree). Says (form_mul t) (mul_term t)) (sym (muls.rolls-Product at e.0 (map (λ e. e.0) steps) (Some d.0)))
+    (by-both (form_mul (muls.Product at e.0 (map (λ e. e.0) steps) (Some d.0))) _ (mul_term (muls.Product at e.0 (map (λ e. e.0) steps) (Some d.0))) _ (form_is.form_mul-Product at e.0 (map (λ e. e.0) steps) (Some d.0)) (term_is.mul_term-Product at e.0 (map (λ e. e.0) steps) (Some d.0)) (product-says at (form_sign e.0) (sign_term e.0) (map (λ e. e.0) steps) (Some d.0) e.1))
+
+case_open : (y : OpenTree-F In_compare In_mul In_neg In_open In_prim In_sign (In SuffixTree) (In AddStep) In_add In_and In_expr (In GroupStep) (In GroupTree) In_imp (In KeyedTree) (In LastStep) (In MulStep) In_or (In ParamsTree) In_post (In SetTree) (In SubscriptsTree)) → Says (form_open (roll-OpenTree (inner_open y))) (open_term (roll-OpenTree (inner_open y)))
+case_open (OpenTree-F.NegativeOpen at e) =
+    subst (λ (t : OpenTree). Says (form_open t) (open_term t)) (sym (opens.rolls-NegativeOpen at e.0))
+    (by-both (form_open (opens.NegativeOpen at e.0)) _ (open_term (opens.NegativeOpen at e.0)) _ (form_is.form_open-NegativeOpen at e.0) (term_is.open_term-NegativeOpen at e.0) (int-Negative at (open_term e.0)))
+case_open (OpenTree-F.Aggregate at op params e) =
+    subst (λ (t : OpenTree). Says (form_open t) (open_term t)) (sym (opens.rolls-Aggregate at op params.0 e.0))
+    (by-both (form_open (opens.Aggregate at op params.0 e.0)) _ (open_term (opens.Aggregate at op params.0 e.0)) _ (form_is.form_open-Aggregate at op params.0 e.0) (term_is.open_term-Aggregate at op params.0 e.0) (int-Aggregate at op _ _ (mul_term e.0)))
+
+case_sign : (y : SignTree-F In_compare In_mul In_neg In_open In_prim In_sign (In SuffixTree) (In AddStep) In_add In_and In_expr (In GroupStep) (In GroupTree) In_imp (In KeyedTree) (In LastStep) (In MulStep) In_or (In ParamsTree) In_post (In SetTree) (In SubscriptsTree)) → Says (form_sign (roll-SignTree (inner_sign y))) (sign_term (roll-SignTree (inner_sign y)))
+case_sign (SignTree-F.Negative at e) =
+    subst (λ (t : SignTree). Says (form_sign t) (sign_term t)) (sym (signs.rolls-Negative at e.0))
+    (by-both (form_sign (signs.Negative at e.0)) _ (sign_term (signs.Negative at e.0)) _ (form_is.form_sign-Negative at e.0) (term_is.sign_term-Negative at e.0) (int-Negative at (sign_term e.0)))
+case_sign (SignTree-F.Postfix e) =
+    subst (λ (t : SignTree). Says (form_sign t) (sign_term t)) (sym (signs.rolls-Postfix e.0))
+    (by-both (form_sign (signs.Postfix e.0)) _ (sign_term (signs.Postfix e.0)) _ (form_is.form_sign-Postfix e.0) (term_is.sign_term-Postfix e.0) (e.1))
+
+text-is : (name : NameTree) → text_of name ≡ name.text
+unfolding text_of
+text-is name = refl
+
+call-says : (op : CallOp) (at p : ℕ) (f : Form) (t : Term) → Says (forms.call op at f) (terms.Call p op t)
+call-says calls.Absolute at p f t = int-Call p calls.Absolute t
+call-says calls.Cardinality at p f t = int-Call p calls.Cardinality t
+
+case_prim : (y : PrimTree-F In_compare In_mul In_neg In_open In_prim In_sign (In SuffixTree) (In AddStep) In_add In_and In_expr (In GroupStep) (In GroupTree) In_imp (In KeyedTree) (In LastStep) (In MulStep) In_or (In ParamsTree) In_post (In SetTree) (In SubscriptsTree)) → Says (form_prim (roll-PrimTree (inner_prim y))) (prim_term (roll-PrimTree (inner_prim y)))
+case_prim (PrimTree-F.Number at n) =
+    subst (λ (t : PrimTree). Says (form_prim t) (prim_term t)) (sym (prims.rolls-Number at n))
+    (by-both (form_prim (prims.Number at n)) _ (prim_term (prims.Number at n)) _ (form_is.form_prim-Number at n) (term_is.prim_term-Number at n) (int-Number at n))
+case_prim (PrimTree-F.Named name) =
+    subst (λ (t : PrimTree). Says (form_prim t) (prim_term t)) (sym (prims.rolls-Named name))
+    (by-both (form_prim (prims.Named name)) _ (prim_term (prims.Named name)) _ (form_is.form_prim-Named name) (term_is.prim_term-Named name) (ap (terms.Named name.at) (text-is name)))
+case_prim (PrimTree-F.Bracket at e) =
+    subst (λ (t : PrimTree). Says (form_prim t) (prim_term t)) (sym (prims.rolls-Bracket at e.0))
+    (by-both (form_prim (prims.Bracket at e.0)) _ (prim_term (prims.Bracket at e.0)) _ (form_is.form_prim-Bracket at e.0) (term_is.prim_term-Bracket at e.0) ((at, expr_term e.0, refl, e.1)))
+case_prim (PrimTree-F.Record at e es) =
+    subst (λ (t : PrimTree). Says (form_prim t) (prim_term t)) (sym (prims.rolls-Record at e.0 (map (λ e. e.0) es)))
+    (by-both (form_prim (prims.Record at e.0 (map (λ e. e.0) es))) _ (prim_term (prims.Record at e.0 (map (λ e. e.0) es))) _ (form_is.form_prim-Record at e.0 (map (λ e. e.0) es)) (term_is.prim_term-Record at e.0 (map (λ e. e.0) es)) ((at, add_term e.0 ∷ map add_term (map (λ e. e.0) es), refl, (e.1, all-say es))))
+case_prim (PrimTree-F.Listed at es) =
+    subst (λ (t : PrimTree). Says (form_prim t) (prim_term t)) (sym (prims.rolls-Listed at (map (λ e. e.0) es)))
+    (by-both (form_prim (prims.Listed at (map (λ e. e.0) es))) _ (prim_term (prims.Listed at (map (λ e. e.0) es))) _ (form_is.form_prim-Listed at (map (λ e. e.0) es)) (term_is.prim_term-Listed at (map (λ e. e.0) es)) ((at, map add_term (map (λ e. e.0) es), refl, all-say es)))
+case_prim (PrimTree-F.Described at e d) =
+    subst (λ (t : PrimTree). Says (form_prim t) (prim_term t)) (sym (prims.rolls-Described at e.0 d.0))
+    (by-both (form_prim (prims.Described at e.0 d.0)) _ (prim_term (prims.Described at e.0 d.0)) _ (form_is.form_prim-Described at e.0 d.0) (term_is.prim_term-Described at e.0 d.0) (tt))
+case_prim (PrimTree-F.Array at es) =
+    subst (λ (t : PrimTree). Says (form_prim t) (prim_term t)) (sym (prims.rolls-Array at (map (λ e. e.0) es)))
+    (by-both (form_prim (prims.Array at (map (λ e. e.0) es))) _ (prim_term (prims.Array at (map (λ e. e.0) es))) _ (form_is.form_prim-Array at (map (λ e. e.0) es)) (term_is.prim_term-Array at (map (λ e. e.0) es)) (tt))
+case_prim (PrimTree-F.KeyedArray at es) =
+    subst (λ (t : PrimTree). Says (form_prim t) (prim_term t)) (sym (prims.rolls-KeyedArray at (map (λ e. e.0) es)))
+    (by-both (form_prim (prims.KeyedArray at (map (λ e. e.0) es))) _ (prim_term (prims.KeyedArray at (map (λ e. e.0) es))) _ (form_is.form_prim-KeyedArray at (map (λ e. e.0) es)) (term_is.prim_term-KeyedArray at (map (λ e. e.0) es)) (tt))
+case_prim (PrimTree-F.Call at op e) =
+    subst (λ (t : PrimTree). Says (form_prim t) (prim_term t)) (sym (prims.rolls-Call at op e.0))
+    (by-both (form_prim (prims.Call at op e.0)) _ (prim_term (prims.Call at op e.0)) _ (form_is.form_prim-Call at op e.0) (term_is.prim_term-Call at op e.0) (call-says op at at (form_expr e.0) (expr_term e.0)))
+case_prim (PrimTree-F.AllDifferent at e) =
+    subst (λ (t : PrimTree). Says (form_prim t) (prim_term t)) (sym (prims.rolls-AllDifferent at e.0))
+    (by-both (form_prim (prims.AllDifferent at e.0)) _ (prim_term (prims.AllDifferent at e.0)) _ (form_is.form_prim-AllDifferent at e.0) (term_is.prim_term-AllDifferent at e.0) (bool-AllDifferent at (add_term e.0)))
+case_prim (PrimTree-F.Question at op e) =
+    subst (λ (t : PrimTree). Says (form_prim t) (prim_term t)) (sym (prims.rolls-Question at op e.0))
+    (by-both (form_prim (prims.Question at op e.0)) _ (prim_term (prims.Question at op e.0)) _ (form_is.form_prim-Question at op e.0) (term_is.prim_term-Question at op e.0) (tt))
+
+-- ---- every tree
+
+pub add-says : (t : AddTree) → Says (form_add t) (add_term t)
+add-says = ind-AddTree (λ t. Says (form_compare t) (compare_term t)) (λ t. Says (form_mul t) (mul_term t)) (λ t. Says (form_neg t) (neg_term t)) (λ t. Says (form_open t) (open_term t)) (λ t. Says (form_prim t) (prim_term t)) (λ t. Says (form_sign t) (sign_term t)) Any Any (λ t. Says (form_add t) (add_term t)) (λ t. Says (form_and t) (and_term t)) (λ t. Says (form_expr t) (expr_term t)) Any Any (λ t. Says (form_imp t) (imp_term t)) Any Any Any (λ t. Says (form_or t) (or_term t)) Any (λ t. Says (form_post t) (post_term t)) Any Any
+    (λ x y is. subst (λ z. Says (form_compare (roll-CompareTree z)) (compare_term (roll-CompareTree z))) is (case_compare y))
+    (λ x y is. subst (λ z. Says (form_mul (roll-MulTree z)) (mul_term (roll-MulTree z))) is (case_mul y))
+    (λ x y is. subst (λ z. Says (form_neg (roll-NegTree z)) (neg_term (roll-NegTree z))) is (case_neg y))
+    (λ x y is. subst (λ z. Says (form_open (roll-OpenTree z)) (open_term (roll-OpenTree z))) is (case_open y))
+    (λ x y is. subst (λ z. Says (form_prim (roll-PrimTree z)) (prim_term (roll-PrimTree z))) is (case_prim y))
+    (λ x y is. subst (λ z. Says (form_sign (roll-SignTree z)) (sign_term (roll-SignTree z))) is (case_sign y))
+    (λ x y is. tt)
+    (λ x y is. tt)
+    (λ x y is. subst (λ z. Says (form_add (roll-AddTree z)) (add_term (roll-AddTree z))) is (case_add y))
+    (λ x y is. subst (λ z. Says (form_and (roll-AndTree z)) (and_term (roll-AndTree z))) is (case_and y))
+    (λ x y is. subst (λ z. Says (form_expr (roll-ExprTree z)) (expr_term (roll-ExprTree z))) is (case_expr y))
+    (λ x y is. tt)
+    (λ x y is. tt)
+    (λ x y is. subst (λ z. Says (form_imp (roll-ImpTree z)) (imp_term (roll-ImpTree z))) is (case_imp y))
+    (λ x y is. tt)
+    (λ x y is. tt)
+    (λ x y is. tt)
+    (λ x y is. subst (λ z. Says (form_or (roll-OrTree z)) (or_term (roll-OrTree z))) is (case_or y))
+    (λ x y is. tt)
+    (λ x y is. subst (λ z. Says (form_post (roll-PostTree z)) (post_term (roll-PostTree z))) is (case_post y))
+    (λ x y is. tt)
+    (λ x y is. tt)
