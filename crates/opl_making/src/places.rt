@@ -8,6 +8,7 @@ ghost use Rattle.opl_making.specs.Places.{AreAt, place_or, term_drafts};
 
 use opl_declared::{Declared, is_mentioned, place};
 use opl_term::Term;
+use smallvec::SmallVec;
 use std::alloc::{AllocError, Global};
 
 /// The place of what an expression is unrolled to, where that is no fault. For what typing lets no variable stand in it is 0.
@@ -57,15 +58,15 @@ fn live_place(declared: &Declared<'_>, term: &Term) -> u32
     }
 }
 
-/// The places of what expressions are unrolled to, one after another.
+/// The places of what expressions are unrolled to, one after another. Of one or two expressions they take no memory.
 pub fn places_of(
     alloc: Global,
     declared: &Declared<'_>,
     terms: &[Term],
-) -> Result<Vec<u32>, AllocError>
+) -> Result<SmallVec<u32, 2>, AllocError>
     ensures { IfOk result (λ places. (env : evaluation.Environment) → AreAt (term_drafts declared.now.items.now (names_in declared.now) env terms.now) places.items) }
 {
-    let mut places = Vec::new(alloc);
+    let mut places = SmallVec::new(alloc);
     for term in terms {
         places.push(draft_place(declared, term))?;
     }

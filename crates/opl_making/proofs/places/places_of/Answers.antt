@@ -12,7 +12,7 @@ loop-term-init c env = subst (λ (ats : List ℕ). AreAt [] ats) (sym c.new-plac
 
 pub loop-term-preserved : goal.loop-term-preserved
 loop-term-preserved c env =
-    subst (λ (ats : List ℕ). AreAt (term_drafts c.args.declared.now.items.now (names_in c.args.declared.now) env (take (c.loop-term.term-index + 1) c.args.terms.now)) ats) (sym c.in_ok-push.ensures.items)
+    subst (λ (ats : List ℕ). AreAt (term_drafts c.args.declared.now.items.now (names_in c.args.declared.now) env (take (c.loop-term.term-index + 1) c.args.terms.now)) ats) (sym c.in_ok-push.ensures.ok)
     (at-more (λ t. unrolled c.args.declared.now.items.now (names_in c.args.declared.now) t env) c.args.terms.now c.loop-term.term-index c.term-item.result c.loop-term.places.items c.draft_place.result
     c.loop-term-test.true c.term-item.is (c.loop-term.invariant env) (c.draft_place.ensures env))
 
