@@ -1,7 +1,7 @@
 mod Plain
 mod Constants
 mod Building
-mod Weights
+pub mod Weights
 mod Counts
 mod Equations
 mod Values

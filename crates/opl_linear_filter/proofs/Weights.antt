@@ -92,7 +92,7 @@ times_none : (k : ℤ) → k *ℤ pos 0 ≡ pos 0
 times_none k = grind (arith, ints)
 
 mutual
-  coef_there : (sets : List (ℤ × ℤ)) (t : Term) (x : ℕ) → IsSoundTerm sets t → length sets ≤ x → coef t x ≡ pos 0
+  pub coef_there : (sets : List (ℤ × ℤ)) (t : Term) (x : ℕ) → IsSoundTerm sets t → length sets ≤ x → coef t x ≡ pos 0
   coef_there sets (Term.const k) x s h = refl
   coef_there sets (Term.var y) x s h = ap (λ b. cond b (pos 1) (pos 0)) (not_same x y (λ e. omega (arith, s.1, h, e)))
   coef_there sets (Term.sum ts) x s h = coefs_there sets ts x s.1 h

@@ -9,4 +9,5 @@ mod numbers;
 mod parts;
 mod short;
 
+pub use constant::constant_part;
 pub use linear_filter::LinearFilter;

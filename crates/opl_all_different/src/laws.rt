@@ -1,0 +1,7 @@
+//! Laws of `alldifferent` over parts. Each law is the contract of a function without effect.
+ghost use Rattle.opl_all_different.specs.Laws.{DifferentByParts};
+
+/// A family refutes that expressions of one variable each differ, where two of them have one value each, and the same.
+pub fn different_by_parts()
+    ensures { DifferentByParts }
+{}
