@@ -76,8 +76,8 @@ read_one core t k x a s p e l m = record {
           ]
         ]
 
-pub read_two : (core : Core) (t : Term) (x y : ℕ) (a b : ℤ) → IsLastFactor (coef t) (length core.sets) (Some (x, a)) → IsLastFactor (coef t) x (Some (y, b)) → IsReadAs core t None
-read_two core t x y a b l m = λ p o. let e = o x y l.0.nonzero m.0.nonzero in omega (arith, e, m.0.below)
+pub read_two : (core : Core) (t : Term) (first second : ℕ × ℤ) → IsLastFactor (coef t) (length core.sets) (Some first) → IsLastFactor (coef t) first.0 (Some second) → IsReadAs core t None
+read_two core t first second l m = λ p o. let e = o first.0 second.0 l.0.nonzero m.0.nonzero in omega (arith, e, m.0.below)
 
 pub read_other : (core : Core) (t : Term) → pure t ≡ false → IsReadAs core t None
 read_other core t e = λ p o. cc

@@ -13,7 +13,7 @@ ghost use Rattle.opl_all_different.specs.DifferentForms.{IsMade, IsFilterOf, IsM
 use crate::constructor::{marks, parts_of};
 use crate::part::Part;
 use crate::settling::settle;
-use opl_domain::{Narrow, OutOfMemory};
+use opl_domain::{Narrow, OutOfMemory, View};
 use opl_expr::{Cons, Core, Expr};
 use opl_filter::Outcome;
 use opl_list::Seq;
@@ -95,6 +95,8 @@ impl DifferentFilter {
         ensures made { (d : Core) → IsMade d self.old → IsMade d self.new }
         ensures constraint { (d : Core) (c : Fact) → IsFilterOf d c self.old → IsFilterOf d c self.new }
     {
+        // No set is empty: a view says so with its number of variables.
+        let _vars = n.vars();
         clear(self.done.as_mut_slice());
         settle(self.parts.as_slice(), self.done.as_mut_slice(), n)
     }

@@ -39,11 +39,15 @@ pub fn settle<N: Narrow>(parts: &[Part], done: &mut [bool], n: &mut N) -> Outcom
 {
     // No set is empty: a view says so with its number of variables.
     let _vars = n.vars();
-    while let Some(i) = next_single(parts, &*done, &*n) {
-        if !spread(parts, i, n) {
-            return Outcome::Failed;
+    loop {
+        match next_single(parts, &*done, &*n) {
+            None => return Outcome::Stable,
+            Some(i) => {
+                if !spread(parts, i, n) {
+                    return Outcome::Failed;
+                }
+                done[i] = true;
+            }
         }
-        done[i] = true;
     }
-    Outcome::Stable
 }
