@@ -1,28 +1,26 @@
 -- What a family refutes of a constraint that parts differ.
-use Rattle.std.proofs.Common.{◌≡◌, ◌≢◌, ◌∙◌, ◌⊎◌, ℕ, zero, suc, ◌<◌, Bool, true, false, cond, ◌||◌, ◌&&◌, refl, List, [], ◌∷◌, ◌++◌, map, length, ℤ, pos, ◌+ℤ◌, ◌*ℤ◌, neg_ℤ, ◌≤ℤ◌, get_or, ap, sym, subst, arith, inl, inr}
-use Rattle.std.specs.Prelude.{Option, Some, None}
+use Rattle.std.proofs.Common.{◌≡◌, ◌≢◌, ◌∙◌, ◌⊎◌, ℕ, suc, ◌<◌, Bool, true, false, cond, ◌||◌, ◌&&◌, refl, List, [], ◌∷◌, ◌++◌, map, length, ℤ, pos, ◌+ℤ◌, neg_ℤ, get_or, ap, sym, subst, arith, inl, inr}
+use Rattle.std.specs.Prelude.{Option, Some}
 use Rattle.std.specs.Ordering.{int_eq}
 use Rattle.std.proofs.lemmas.Int.{ints}
 use Rattle.std.proofs.lemmas.Bool.{cases_eq}
 use Rattle.std.proofs.lemmas.Bool.Decides.{Decides-int_eq}
 use Rattle.opl_domain.specs.Span.{Span, smaller, point, is_point}
 use Rattle.opl_domain.specs.Arithmetic.{span_add, span_min}
-use Rattle.opl_domain.specs.Family.{member, Family, Full}
+use Rattle.opl_domain.specs.Family.{Family, Full}
 use Rattle.opl_domain.proofs.Members.{between_is}
 use Rattle.opl_expr.specs.Forms.{Term, Terms, Fact}
 use Rattle.opl_expr.specs.Forms.Relation.{equal}
 use Rattle.opl_expr.specs.Options.{lift1, lift, lift_all}
 use Rattle.opl_expr.specs.Range.{Linear, verdict, flip, is_possible, weighted, with_variables, never_zero, compare, pairwise, defined_range, differ_range, linears, coef, pure, rest, fact_range}
-use Rattle.opl_expr.proofs.Narrower.{pure_is, fixed_part}
+use Rattle.opl_expr.proofs.Narrower.{pure_is}
 use Rattle.opl_range.proofs.Compare.{zero_apart}
-use Rattle.opl_filter.specs.Filtering.{refutes}
-use Rattle.opl_linear.specs.Forms.{constant_part}
 use Rattle.opl_linear.proofs.Normal.{difference, difference_fixed, same_part, normal_range, sure_refuted}
 use Rattle.opl_all_different.specs.declared.part.Part.{Part}
-use Rattle.opl_all_different.specs.Parts.{nothing, part_at, factor_of, numbers_of, value_with, meets, meets_any, clashes, AreApart, AreSeparate, IsThere, IsPartOf, ArePartsOf}
+use Rattle.opl_all_different.specs.Parts.{nothing, numbers_of, value_with, meets, meets_any, clashes, AreApart, IsThere, IsPartOf, ArePartsOf}
 use Rattle.opl_all_different.specs.Laws.{DifferentByParts}
 use Rattle.opl_all_different.proofs.Meetings.{zero_or_not, numbers_some, meets_to, meets_from}
-use Rattle.opl_all_different.proofs.Sums.{apart_from, apart_sum, factor_there, factor_none, scaled, part_sum, in_scaled, low_among, high_among}
+use Rattle.opl_all_different.proofs.Sums.{apart_sum, factor_there, factor_none, scaled, part_sum, in_scaled, low_among, high_among}
 
 -- ---- two parts
 
@@ -142,7 +140,6 @@ unfolding flip
 true_told r e = record { never = true; is = ap Some e; apart = λ h. cc }
 
 -- ---- all pairs
-
 
 defined_told : (F : Family) (t : Term) → pure t ≡ true → IsTold (defined_range (record { coef = coef t; pure = pure t; rest = rest F t })) false
 defined_told F t h = subst (λ o. IsTold (lift1 (λ (r : Span). point (pos 1)) o) false) (sym (pure_is F t h)) (true_told (point (pos 1)) refl)

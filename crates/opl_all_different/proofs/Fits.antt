@@ -1,5 +1,5 @@
 -- All values of the parts, and their differences, fit wherever the constraint is sound.
-use Rattle.std.proofs.Common.{◌≡◌, ◌≢◌, ◌∙◌, ℕ, zero, suc, ◌+◌, ◌*◌, ◌<◌, ◌≤◌, true, false, refl, List, [], ◌∷◌, length, ℤ, pos, ◌+ℤ◌, ◌*ℤ◌, get_or, ap, sym, subst, arith, inl, inr}
+use Rattle.std.proofs.Common.{◌≡◌, ◌≢◌, ◌∙◌, ℕ, zero, suc, ◌+◌, ◌*◌, ◌<◌, ◌≤◌, true, refl, List, [], ◌∷◌, length, ℤ, ◌+ℤ◌, ◌*ℤ◌, get_or, ap, sym, subst, arith, inl, inr}
 use Rattle.std.specs.Prelude.{unsigned_abs}
 use Rattle.std.proofs.lemmas.Int.{ints, unsigned_abs-mul}
 use Rattle.std.proofs.lemmas.Bool.{cases_eq}
@@ -19,7 +19,7 @@ use Rattle.opl_linear.proofs.Normal.{same_part}
 use Rattle.opl_linear_filter.proofs.Weights.{below_length}
 use Rattle.opl_all_different.specs.declared.part.Part.{Part}
 use Rattle.opl_all_different.specs.Parts.{nothing, part_at, numbers_of, weight_of, AreFitting, IsPartOf, ArePartsOf}
-use Rattle.opl_all_different.proofs.Meetings.{zero_or_not, numbers_none, numbers_set}
+use Rattle.opl_all_different.proofs.Meetings.{zero_or_not, numbers_set}
 use Rattle.opl_all_different.proofs.Sums.{factor_here}
 
 -- ---- over declared sets

@@ -1,17 +1,17 @@
 -- The filter of `alldifferent`: for which constraints it is made, and that it filters them.
-use Rattle.std.proofs.Common.{◌≡◌, ◌≢◌, ◌∙◌, ℕ, ◌+◌, ◌<◌, Bool, true, false, refl, List, [], map, length, ℤ, ap, sym, subst}
-use Rattle.std.specs.Prelude.{Option, Some, None, unsigned_abs}
-use Rattle.opl_domain.specs.Family.{Family, IsFamily, Full, Below}
+use Rattle.std.proofs.Common.{◌≡◌, ◌∙◌, ℕ, Bool, true, false, refl, List, [], map, length, ℤ, ap, sym, subst}
+use Rattle.std.specs.Prelude.{Option, Some, None}
+use Rattle.opl_domain.specs.Family.{Family, IsFamily, Below}
 use Rattle.opl_expr.specs.declared.model.Core.{Core}
 use Rattle.opl_expr.specs.declared.forms.Op.{Op}
 use Rattle.opl_expr.specs.declared.forms.Expr.{Expr}
 use Rattle.opl_expr.specs.declared.forms.Cons.{Cons}
 use Rattle.opl_expr.specs.declared.forms.Cons.TheVariants as C
 use Rattle.opl_expr.specs.declared.forms.Cons.TheOpen.{Cons-F}
-use Rattle.opl_expr.specs.declared.forms.Cons.TheViews.{roll-Cons, out-Cons, out-roll-Cons}
-use Rattle.opl_expr.specs.Forms.{Terms, Fact, fact, terms_of}
+use Rattle.opl_expr.specs.declared.forms.Cons.TheViews.{out-Cons, out-roll-Cons}
+use Rattle.opl_expr.specs.Forms.{Fact, fact, terms_of}
 use Rattle.opl_expr.specs.Solutions.{declared}
-use Rattle.opl_expr.specs.Sound.{IsSmall, IsSoundFact}
+use Rattle.opl_expr.specs.Sound.{IsSoundFact}
 use Rattle.opl_expr.proofs.Plain.{fact_AllDifferent}
 use Rattle.opl_range.specs.Between.{term_of}
 use Rattle.opl_filter.specs.declared.outcome.Outcome.{Outcome}
@@ -20,9 +20,9 @@ use Rattle.opl_linear.proofs.Carrying.{SaysTheSame, between_carried, outcome_car
 use Rattle.opl_linear_filter.proofs.Weights.{below_length}
 use Rattle.opl_all_different.specs.declared.part.Part.{Part}
 use Rattle.opl_all_different.specs.declared.different_filter.DifferentFilter.{DifferentFilter}
-use Rattle.opl_all_different.specs.Parts.{part_at, weight_of, clashes, AreSeparate, ArePartsOf, AreFitting}
-use Rattle.opl_all_different.specs.Reading.{AreSingleVariables, HaveParts, AreReadAs}
-use Rattle.opl_all_different.specs.DifferentForms.{IsMade, IsFilterOf, SeparatesVariables, IsMadeForParts, IsThereFor, IsFilterIfAny}
+use Rattle.opl_all_different.specs.Parts.{clashes, AreSeparate, ArePartsOf, AreFitting}
+use Rattle.opl_all_different.specs.Reading.{AreSingleVariables, HaveParts}
+use Rattle.opl_all_different.specs.DifferentForms.{IsMade, IsFilterOf, IsMadeForParts, IsThereFor, IsFilterIfAny}
 use Rattle.opl_all_different.proofs.Fits.{own_fits, pairs_fit, family_fits}
 use Rattle.opl_all_different.proofs.Readings.{all_single}
 use Rattle.opl_all_different.proofs.Differing.{different_by_parts}
@@ -127,20 +127,3 @@ module _ (core : Core) (c : Fact) (f : DifferentFilter) (is : IsFilterOf core c 
 
   pub filters_outcome : Filters (clashes f.parts) D F o → Filters (refutes c) D F o
   filters_outcome g = outcome_carried (length D) (clashes f.parts) (refutes c) same D F o refl g
-
--- the marks may be any
-pub made_again : (core : Core) (f g : DifferentFilter) → g.parts ≡ f.parts → length g.done.items ≡ length f.done.items → IsMade core f → IsMade core g
-made_again core f g e l m = record {
-  separate = subst (λ ps. AreSeparate (length core.sets) ps) (sym e) m.separate;
-  own = subst (λ ps. (i : ℕ) → i < length ps → IsSmall (weight_of core.sets (part_at ps i))) (sym e) m.own;
-  pairs = subst (λ ps. (i j : ℕ) → i < length ps → j < length ps → j ≢ i → IsSmall (unsigned_abs (part_at ps j).constant + weight_of core.sets (part_at ps i))) (sym e) m.pairs;
-  marks = l ∙ m.marks ∙ ap length (sym e);
-}
-
-pub filter_again : (core : Core) (c : Fact) (f g : DifferentFilter) → g.parts ≡ f.parts → length g.done.items ≡ length f.done.items → IsFilterOf core c f → IsFilterOf core c g
-filter_again core c f g e l is = record {
-  terms = is.terms;
-  is = is.is;
-  parts = subst (λ ps. ArePartsOf (length core.sets) is.terms ps) (sym e) is.parts;
-  made = made_again core f g e l is.made;
-}

@@ -2,15 +2,15 @@
 use Rattle.std.proofs.Common.{◌≡◌, ◌≢◌, ◌∙◌, ◌⊎◌, ℕ, zero, suc, ◌<◌, Bool, true, false, cond, ◌||◌, refl, List, [], ◌∷◌, length, ℤ, pos, get_or, ap, sym, subst, arith, inl, inr}
 use Rattle.std.specs.List.{list_all}
 use Rattle.std.specs.Ordering.{int_eq}
-use Rattle.std.proofs.lemmas.Bool.{cases_eq, cases_lt}
+use Rattle.std.proofs.lemmas.Bool.{cases_lt}
 use Rattle.std.proofs.lemmas.Bool.Decides.{Decides-int_eq}
-use Rattle.opl_domain.specs.Family.{member, Family, Full, Below, set_of, has, only}
+use Rattle.opl_domain.specs.Family.{member, Family, Full, Below, set_of, only}
 use Rattle.opl_domain.proofs.Members.{member_first, member_cases}
 use Rattle.opl_domain.proofs.Sets.{only_here, only_there}
 use Rattle.opl_trace.specs.Stable.{IsMonotone}
 use Rattle.opl_trace.proofs.Passing.{all_member, all_from, or_left, or_right}
 use Rattle.opl_all_different.specs.declared.part.Part.{Part}
-use Rattle.opl_all_different.specs.Parts.{nothing, part_at, numbers_of, value_with, HasOnly, Misses, meets, meets_any, clashes, IsThere, AreApart}
+use Rattle.opl_all_different.specs.Parts.{nothing, part_at, numbers_of, value_with, HasOnly, Misses, meets, meets_any, clashes, IsThere}
 
 -- ---- the numbers of a part
 

@@ -1,6 +1,6 @@
 -- Expressions that are read as parts.
-use Rattle.std.proofs.Common.{◌≡◌, ◌≢◌, ◌∙◌, ◌⊎◌, ℕ, zero, suc, ◌+◌, ◌<◌, ◌≤◌, Bool, true, false, cond, refl, List, [], ◌∷◌, ◌++◌, map, length, take, ℤ, pos, ◌+ℤ◌, neg_ℤ, get_or, ap, sym, subst, arith, inl, inr}
-use Rattle.std.specs.Prelude.{Option, Some, None, nat_eq, slice_get}
+use Rattle.std.proofs.Common.{◌≡◌, ◌≢◌, ◌∙◌, ◌⊎◌, ℕ, zero, suc, ◌+◌, ◌<◌, ◌≤◌, Bool, true, false, refl, List, [], ◌∷◌, ◌++◌, map, length, take, ℤ, pos, ◌+ℤ◌, neg_ℤ, get_or, ap, sym, subst, arith, inl, inr}
+use Rattle.std.specs.Prelude.{Option, Some, None, slice_get}
 use Rattle.std.proofs.Math.Path.{fun_ext}
 use Rattle.std.proofs.Math.ListN.{get_or-append}
 use Rattle.std.proofs.Math.Seq.{get_or-append_seam}
@@ -11,17 +11,17 @@ use Rattle.std.proofs.lemmas.Option.{slice_get_within, get_or_from_slice_get, sl
 use Rattle.opl_expr.specs.declared.model.Core.{Core}
 use Rattle.opl_expr.specs.declared.forms.Expr.{Expr}
 use Rattle.opl_expr.specs.declared.forms.Expr.TheVariants as E
-use Rattle.opl_expr.specs.Forms.{Term, Terms, terms_of}
+use Rattle.opl_expr.specs.Forms.{Term, terms_of}
 use Rattle.opl_expr.specs.Range.{coef, pure}
 use Rattle.opl_expr.specs.Sound.{IsSoundTerm}
 use Rattle.opl_expr.proofs.Plain.{term_Const}
 use Rattle.opl_expr.proofs.Parts.{any_default}
-use Rattle.opl_range.specs.Between.{term_of, between, IsLastVariable, IsLastFactor}
+use Rattle.opl_range.specs.Between.{term_of, between, IsLastFactor}
 use Rattle.opl_linear.specs.Forms.{constant_part}
 use Rattle.opl_linear_filter.proofs.Weights.{coef_there}
 use Rattle.opl_all_different.specs.declared.part.Part.{Part}
 use Rattle.opl_all_different.specs.Parts.{nothing, part_at, factor_of, IsThere, AreApart, AreSeparate, IsPartOf, ArePartsOf}
-use Rattle.opl_all_different.specs.Reading.{HasOneVariable, HaveNoneInCommon, AreSingleVariables, IsReadAs, HasVariableAt, HasVariable, SharesAt, Shares, HaveParts}
+use Rattle.opl_all_different.specs.Reading.{AreSingleVariables, IsReadAs, HasVariable, Shares, HaveParts}
 use Rattle.opl_all_different.proofs.Meetings.{zero_or_not}
 use Rattle.opl_all_different.proofs.Sums.{factor_here, factor_there, factor_none}
 
@@ -79,13 +79,7 @@ read_one core t k x a s p e l m = record {
 pub read_two : (core : Core) (t : Term) (first second : ℕ × ℤ) → IsLastFactor (coef t) (length core.sets) (Some first) → IsLastFactor (coef t) first.0 (Some second) → IsReadAs core t None
 read_two core t first second l m = λ p o. let e = o first.0 second.0 l.0.nonzero m.0.nonzero in omega (arith, e, m.0.below)
 
-pub read_other : (core : Core) (t : Term) → pure t ≡ false → IsReadAs core t None
-read_other core t e = λ p o. cc
-
 -- ---- variables of a list
-
-pub variable_first : (ps : List Part) (x : ℕ) → (i : ℕ) → i < 0 → (part_at ps i).factor ≢ pos 0 → (part_at ps i).variable ≢ x
-variable_first ps x i h = absurd (omega (arith, h))
 
 pub shares_none : (ps : List Part) (p : Part) → p.factor ≡ pos 0 → Shares ps p false
 shares_none ps p e = λ i h m n. absurd (n e)
@@ -143,9 +137,6 @@ all_single core es ps h = record {
 }
 
 -- ---- the loop over expressions
-
-pub parts_first : (core : Core) (es : List Expr) → HaveParts core (take 0 es) []
-parts_first core es = record { parts = tt; separate = record { there = λ i h. absurd (omega (arith, h)); apart = λ i j h. absurd (omega (arith, h)) } }
 
 added_part : (n : ℕ) (f : Expr → Term) (es : List Expr) (ps : List Part) (e : Expr) (p : Part) → ArePartsOf n (terms_of (map f es)) ps → IsPartOf n (f e) p → ArePartsOf n (terms_of (map f (es ++ e ∷ []))) (ps ++ p ∷ [])
 added_part n f [] [] e p is i = (i, tt)
@@ -224,12 +215,3 @@ shared_read core es ps i e p h g k r s a =
     let c : coef (term_of core e) (part_at ps j).variable ≡ p.factor = ap (coef (term_of core e)) s.1.same ∙ r.factors p.variable ∙ factor_here p in
     let z = a.apart j i d e (slice_get_read es (length es) j d refl (omega (arith, before, h)) (any_default es j e d (omega (arith, before, h)))) (slice_get_read es (length es) i e refl h g) (λ y. omega (arith, before, y)) (part_at ps j).variable (λ y. s.1.first (sym f ∙ y)) in
     s.1.second (sym c ∙ z)
-
-taken_all : {X : Type 0} (xs : List X) (n : ℕ) → length xs ≤ n → take n xs ≡ xs
-taken_all [] zero h = refl
-taken_all [] (suc n) h = refl
-taken_all (x ∷ xs) zero h = absurd (omega (arith, h))
-taken_all (x ∷ xs) (suc n) h = ap (λ ys. x ∷ ys) (taken_all xs n (omega (arith, h)))
-
-pub parts_end : (core : Core) (es : List Expr) (ps : List Part) (i : ℕ) → length es ≤ i → HaveParts core (take i es) ps → HaveParts core es ps
-parts_end core es ps i h k = subst (λ ds. HaveParts core ds ps) (taken_all es i h) k

@@ -1,25 +1,18 @@
 -- Each part that has one value is looked at in its turn: the loop over them, and its end.
-use Rattle.std.proofs.Common.{◌≡◌, ◌≢◌, ◌∙◌, ◌⊎◌, ℕ, zero, suc, ◌+◌, ◌<◌, ◌≤◌, Bool, true, false, cond, refl, List, [], ◌∷◌, length, ℤ, pos, get_or, set, ap, sym, subst, arith, inl, inr, length-set, get_or-set_same, get_or-set_other}
-use Rattle.std.specs.Prelude.{Option, Some, None}
+use Rattle.std.proofs.Common.{◌≡◌, ◌≢◌, ◌∙◌, ℕ, zero, suc, ◌+◌, ◌<◌, Bool, true, false, cond, refl, List, [], ◌∷◌, length, ℤ, pos, get_or, set, sym, subst, arith, inl, inr, length-set, get_or-set_other}
+use Rattle.std.specs.Prelude.{None}
 use Rattle.std.proofs.lemmas.Bool.{cases_eq}
 use Rattle.opl_domain.specs.Family.{member, Family, IsFamily, Full, Below, has, only}
 use Rattle.opl_domain.proofs.Sets.{length-only}
-use Rattle.opl_trace.specs.Stable.{IsMonotone, IsStable, IsGreatestStable, HasFailed}
+use Rattle.opl_trace.specs.Stable.{IsStable, IsGreatestStable, HasFailed}
 use Rattle.opl_trace.proofs.Passing.{false_unless}
-use Rattle.opl_trace.proofs.Families.{only_below, only_full, below_self}
+use Rattle.opl_trace.proofs.Families.{only_below, only_full}
 use Rattle.opl_filter.specs.Filtering.{IsLeftOf, IsBetween}
-use Rattle.opl_filter.proofs.Removals.{left_self, left_join, left_below, left_sets, left_kept}
+use Rattle.opl_filter.proofs.Removals.{left_join, left_below, left_sets, left_kept}
 use Rattle.opl_all_different.specs.declared.part.Part.{Part}
-use Rattle.opl_all_different.specs.Parts.{nothing, part_at, numbers_of, value_with, HasOnly, Misses, meets, clashes, IsThere, AreSeparate, AreFitting}
-use Rattle.opl_all_different.specs.Singles.{HasTwo, Singles}
-use Rattle.opl_all_different.specs.Spreading.{IsSpread, Spreads, is_done, IsSingleAt, IsNextSingle}
-use Rattle.opl_all_different.proofs.Meetings.{zero_or_not, numbers_below, numbers_some, numbers_set, numbers_only, numbers_other, only_below_has, misses_below, meets_from, meets_to, Clash, clash_from, clashes_fall}
-
--- ---- which part is next
-
-pub next_here : (F : Family) (ps : List Part) (done : List Bool) (i : ℕ) (b : Bool) → i < length ps → is_done done i ≡ false → Singles F (part_at ps i) b → b ≡ true → IsNextSingle F ps done (Some i)
-next_here F ps done i true h n s e = record { place = h; not_done = n; single = s }
-next_here F ps done i false h n s e = cc
+use Rattle.opl_all_different.specs.Parts.{part_at, numbers_of, value_with, meets, clashes, AreSeparate, AreFitting}
+use Rattle.opl_all_different.specs.Spreading.{IsSpread, Spreads, is_done, IsNextSingle}
+use Rattle.opl_all_different.proofs.Meetings.{zero_or_not, numbers_below, numbers_some, numbers_other, only_below_has, misses_below, meets_from, meets_to, clash_from, clashes_fall}
 
 -- ---- what has been done
 
@@ -28,9 +21,6 @@ pub record Settling (D F : Family) (ps : List Part) (done : List Bool) : Type 0 
   pub removals : IsLeftOf (clashes ps) D F
   pub same : length done ≡ length ps
   pub spread : (i : ℕ) → i < length ps → is_done done i ≡ true → IsSpread F ps i
-
-pub settle_first : (D : Family) (ps : List Part) (done : List Bool) → length done ≡ length ps → ((i : ℕ) → is_done done i ≡ false) → Settling D D ps done
-settle_first D ps done e n = record { removals = left_self (clashes ps) D; same = e; spread = λ i h m. let z = n i in cc }
 
 spread_below : (F G : Family) (ps : List Part) (i : ℕ) → Below F G → IsSpread G ps i → IsSpread F ps i
 spread_below F G ps i b s = record {

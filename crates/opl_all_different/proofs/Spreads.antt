@@ -1,15 +1,12 @@
 -- The value of one part is taken from the others: what goes is dead, and what is left.
-use Rattle.std.proofs.Common.{◌≡◌, ◌≢◌, ◌∙◌, ◌⊎◌, ℕ, ◌+◌, ◌<◌, ◌≤◌, Bool, true, false, refl, List, length, ℤ, pos, get_or, ap, sym, subst, arith, inl, inr}
-use Rattle.std.proofs.lemmas.Bool.{cases_eq}
-use Rattle.opl_domain.specs.Family.{member, Family, IsFamily, Full, Below, has, only, cut_of}
-use Rattle.opl_domain.proofs.Sets.{length-only}
-use Rattle.opl_trace.proofs.Families.{below_self}
+use Rattle.std.proofs.Common.{◌≡◌, ◌≢◌, ◌∙◌, ◌⊎◌, ℕ, ◌+◌, ◌<◌, ◌≤◌, Bool, true, false, List, length, ℤ, pos, ap, sym, subst, arith, inl, inr}
+use Rattle.opl_domain.specs.Family.{member, Family, Below, only}
 use Rattle.opl_filter.specs.Filtering.{IsLeftOf}
-use Rattle.opl_filter.proofs.Removals.{left_self, left_one, left_join, left_below, left_sets}
+use Rattle.opl_filter.proofs.Removals.{left_self, left_one, left_join, left_below}
 use Rattle.opl_all_different.specs.declared.part.Part.{Part}
-use Rattle.opl_all_different.specs.Parts.{part_at, numbers_of, value_with, HasOnly, Misses, clashes, IsThere, AreSeparate}
+use Rattle.opl_all_different.specs.Parts.{part_at, value_with, HasOnly, Misses, clashes, AreSeparate}
 use Rattle.opl_all_different.specs.Taking.{HasLost, Takes}
-use Rattle.opl_all_different.specs.Spreading.{TakesFrom, IsSpread, Spreads}
+use Rattle.opl_all_different.specs.Spreading.{TakesFrom, Spreads}
 use Rattle.opl_all_different.proofs.Meetings.{numbers_only, numbers_other, only_below_has, misses_below, both_clash}
 
 module _ (ps : List Part) (D : Family) (i j : ℕ) (v : ℤ) (s : AreSeparate (length D) ps) (a : i < length ps) (b : j < length ps) (n : j ≢ i) (h : HasOnly D (part_at ps i) v) where
@@ -33,18 +30,12 @@ module _ (ps : List Part) (D : Family) (i j : ℕ) (v : ℤ) (s : AreSeparate (l
   taken_from F true t = (elim t.0 [ inl e ↦ subst (λ G. IsLeftOf (clashes ps) D G) (sym e) (left_self (clashes ps) D) | inr l ↦ lost_goes F l ], λ m. t.1)
   taken_from F false t = (t.0, both_clash D ps i j v a b (λ z. n (sym z)) h t.1)
 
-pub taken_itself : (ps : List Part) (D : Family) (i j : ℕ) (v : ℤ) → j ≡ i → TakesFrom D D ps i j v true
-taken_itself ps D i j v e = (left_self (clashes ps) D, λ n. absurd (n e))
-
 -- ---- the loop over the other parts
 
 -- the value was taken from the first k parts
 pub record Spreading (D F : Family) (ps : List Part) (i k : ℕ) (v : ℤ) : Type 0 where
   pub removals : IsLeftOf (clashes ps) D F
   pub others : (j : ℕ) → j < k → j ≢ i → Misses F (part_at ps j) v
-
-pub spread_first : (D : Family) (ps : List Part) (i : ℕ) (v : ℤ) → Spreading D D ps i 0 v
-spread_first D ps i v = record { removals = left_self (clashes ps) D; others = λ j h. absurd (omega (arith, h)) }
 
 last_or_before : (j k : ℕ) → j < k + 1 → (j ≡ k) ⊎ (j < k)
 last_or_before j k h = grind arith
@@ -58,10 +49,6 @@ spread_next D F G ps i k v true s t e = record {
   ];
 }
 spread_next D F G ps i k v false s t e = cc
-
-pub spread_fails : (D F G : Family) (ps : List Part) (i k : ℕ) (v : ℤ) (b : Bool) → Spreading D F ps i k v → TakesFrom F G ps i k v b → b ≡ false → Spreads D G ps i false
-spread_fails D F G ps i k v true s t e = cc
-spread_fails D F G ps i k v false s t e = subst (λ H. IsLeftOf (clashes ps) D H × (clashes ps H ≡ true)) (sym t.0) (s.removals, t.1)
 
 pub spread_end : (D F : Family) (ps : List Part) (i k : ℕ) (v : ℤ) → HasOnly D (part_at ps i) v → Spreading D F ps i k v → length ps ≤ k → Spreads D F ps i true
 spread_end D F ps i k v h s e = (

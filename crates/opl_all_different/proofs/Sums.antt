@@ -1,20 +1,20 @@
 -- The sum over all variables, where an expression has one variable, and where two have none in common.
-use Rattle.std.proofs.Common.{◌≡◌, ◌≢◌, ◌∙◌, ◌⊎◌, ℕ, zero, suc, ◌<◌, ◌≤◌, true, false, cond, refl, List, [], ◌∷◌, length, ℤ, pos, ◌+ℤ◌, ◌*ℤ◌, neg_ℤ, ◌≤ℤ◌, ap, sym, subst, arith, inl, inr}
+use Rattle.std.proofs.Common.{◌≡◌, ◌≢◌, ◌∙◌, ◌⊎◌, ℕ, zero, suc, ◌<◌, true, false, cond, refl, List, [], ◌∷◌, length, ℤ, pos, ◌+ℤ◌, ◌*ℤ◌, neg_ℤ, ap, sym, subst, arith, inl, inr}
 use Rattle.std.specs.Prelude.{nat_eq, int_le}
 use Rattle.std.proofs.lemmas.Int.{ints}
 use Rattle.std.proofs.lemmas.Bool.{cases_eq}
 use Rattle.std.proofs.lemmas.Bool.Decides.{Decides-eqb}
 use Rattle.opl_domain.specs.Span.{Span, IsWithin, smaller, larger, hull_of}
 use Rattle.opl_domain.specs.Arithmetic.{span_add}
-use Rattle.opl_domain.specs.Family.{member, Family, Full, hull, set_of, has}
-use Rattle.opl_domain.proofs.Members.{member_first, least_member, least_is, greatest_member, greatest_is}
+use Rattle.opl_domain.specs.Family.{member, Family, hull, set_of}
+use Rattle.opl_domain.proofs.Members.{least_member, least_is, greatest_member, greatest_is}
 use Rattle.opl_expr.specs.Forms.{Term}
 use Rattle.opl_expr.specs.Range.{span_scale, weighted, coef}
 use Rattle.opl_expr.proofs.Ring.{neg_times}
 use Rattle.opl_expr.proofs.Inside.{scale_holds}
 use Rattle.opl_all_different.specs.declared.part.Part.{Part}
-use Rattle.opl_all_different.specs.Parts.{numbers_of, factor_of, IsThere, IsPartOf}
-use Rattle.opl_all_different.proofs.Meetings.{zero_or_not, numbers_none, numbers_set, numbers_some}
+use Rattle.opl_all_different.specs.Parts.{numbers_of, factor_of, IsPartOf}
+use Rattle.opl_all_different.proofs.Meetings.{zero_or_not, numbers_set}
 
 -- both ends of an interval are those of another one
 pub record SameEnds (a b : Span) : Type 0 where

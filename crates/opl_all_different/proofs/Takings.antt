@@ -1,5 +1,5 @@
 -- A value is taken from one part: how the code finds it, and what it removes.
-use Rattle.std.proofs.Common.{◌≡◌, ◌≢◌, ◌∙◌, ℕ, zero, suc, ◌<◌, Bool, true, false, refl, List, [], ◌∷◌, length, ℤ, pos, negsuc, ◌+ℤ◌, ◌*ℤ◌, neg_ℤ, ◌≤ℤ◌, ◌<ℤ◌, ap, sym, subst, arith, inl, inr}
+use Rattle.std.proofs.Common.{◌≡◌, ◌≢◌, ◌∙◌, ℕ, zero, suc, ◌<◌, Bool, true, false, refl, List, [], length, ℤ, pos, negsuc, ◌+ℤ◌, ◌*ℤ◌, neg_ℤ, ◌≤ℤ◌, ◌<ℤ◌, ap, sym, subst, arith, inl, inr}
 use Rattle.std.specs.Prelude.{Option, Some, None}
 use Rattle.std.proofs.lemmas.Int.{ints}
 use Rattle.std.proofs.Math.IntN.{*ℤ_comm, zero-*ℤ}
@@ -11,9 +11,9 @@ use Rattle.opl_trace.proofs.Removals.{one_member, other_stays}
 use Rattle.opl_range.specs.Between.{IsRoot}
 use Rattle.opl_linear.specs.Roots.{IsValueOf}
 use Rattle.opl_all_different.specs.declared.part.Part.{Part}
-use Rattle.opl_all_different.specs.Parts.{numbers_of, value_with, HasOnly, Misses}
+use Rattle.opl_all_different.specs.Parts.{numbers_of, value_with, HasOnly}
 use Rattle.opl_all_different.specs.Singles.{Singles}
-use Rattle.opl_all_different.specs.Taking.{IsNumber, IsNumberFor, Loses, HasLost, Takes}
+use Rattle.opl_all_different.specs.Taking.{IsNumber, IsNumberFor, Loses, Takes}
 use Rattle.opl_all_different.proofs.Meetings.{numbers_none, numbers_set}
 
 -- ---- products
@@ -107,10 +107,6 @@ pub loses_one : (F G : Family) (x : ℕ) (w : ℤ) → IsFamily F → x < length
 loses_one F G x w f h m n e = (e, other_stays F x w f h m n)
 
 -- ---- a part
-
-pub takes_none : (F : Family) (p : Part) (v : ℤ) (b : Bool) → p.factor ≡ pos 0 → (b ≡ true → p.constant ≢ v) → (b ≡ false → p.constant ≡ v) → Takes F F p v b
-takes_none F p v true e n s = (inl refl, λ w m h. n refl (sym (value_none F p e w m) ∙ h))
-takes_none F p v false e n s = (refl, λ w m. value_none F p e w m ∙ s refl)
 
 pub takes_missing : (F : Family) (p : Part) (v : ℤ) → p.factor ≢ pos 0 → IsNumberFor F p v None → Takes F F p v true
 takes_missing F p v n h = (inl refl, λ w m. h w (subst (λ vs. member w vs ≡ true) (numbers_set F p n) m))

@@ -61,11 +61,7 @@ fn clear(done: &mut [bool])
 impl DifferentFilter {
     /// The filter of a constraint, exactly where that is `alldifferent` of linear parts with at most one variable each, no two
     /// of them the same.
-    pub fn new(
-        alloc: Global,
-        core: &Core,
-        c: &Cons,
-    ) -> Result<Option<DifferentFilter>, OutOfMemory>
+    pub fn new(alloc: Global, core: &Core, c: &Cons) -> Result<Option<DifferentFilter>, OutOfMemory>
         requires { IsSoundFact core.now.sets (fact core.now.tables core.now.resources c.now) }
         ensures filter { IfOk result (IsFilterIfAny core.now (fact core.now.tables core.now.resources c.now)) }
         ensures kind { IfOk result (IsThereFor core.now c.now) }

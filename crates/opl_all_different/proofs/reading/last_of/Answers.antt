@@ -1,5 +1,4 @@
-use Rattle.std.proofs.Common.{refl, rules}
-use Rattle.std.specs.Prelude.{FitsSigned}
+use Rattle.std.proofs.Common.{refl}
 use Rattle.opl_range.proofs.Compare.{with_zero}
 use Rattle.opl_all_different.proofs.Readings.{last_is}
 use Rattle.opl_all_different.proofs.reading.last_of.Goals as goal

@@ -1,4 +1,4 @@
-use Rattle.std.proofs.Common.{rules, length, ◌∙◌, sym, subst}
+use Rattle.std.proofs.Common.{rules, ◌∙◌, sym, subst}
 use Rattle.std.specs.Prelude.{FitsSigned, None, Some}
 use mir.Syntax.{w128}
 use Rattle.std.proofs.lemmas.Int.{to_z-of_z}

@@ -1,4 +1,4 @@
-use Rattle.std.proofs.Common.{◌≡◌, ◌<◌, length, sym, arith}
+use Rattle.std.proofs.Common.{◌<◌, length, arith}
 use Rattle.opl_filter.proofs.Removals.{left_below, left_sets}
 use Rattle.opl_all_different.proofs.Spreads.{separate_later}
 use Rattle.opl_all_different.proofs.Settled.{settle_next, settle_fails, failed_removals, settle_end, left_between, fitting_later, fewer_unmarked}

@@ -1,4 +1,4 @@
-use Rattle.std.proofs.Common.{rules, arith, ◌≡◌, ◌≢◌, pos}
+use Rattle.std.proofs.Common.{rules, arith, ◌≢◌, pos}
 use Rattle.std.specs.Prelude.{FitsSigned}
 use mir.Syntax.{w64, w128}
 use Rattle.std.proofs.lemmas.Int.{ints, to_z-of_z, unsigned_abs-mul}

@@ -1,4 +1,4 @@
-use Rattle.std.proofs.Common.{rules, arith, sym, ◌≡◌}
+use Rattle.std.proofs.Common.{rules, sym}
 use Rattle.std.specs.Prelude.{FitsSigned}
 use mir.Syntax.{w128}
 use Rattle.std.proofs.lemmas.Int.{to_z-of_z}
@@ -6,7 +6,7 @@ use Rattle.opl_filter.proofs.Removals.{left_below, left_sets}
 use Rattle.opl_all_different.specs.Parts.{part_at}
 use Rattle.opl_all_different.proofs.Meetings.{only_below_has, numbers_some}
 use Rattle.opl_all_different.proofs.Fits.{value_small}
-use Rattle.opl_all_different.proofs.Spreads.{separate_later, spread_next, spread_fails, spread_end}
+use Rattle.opl_all_different.proofs.Spreads.{separate_later, spread_next, spread_end}
 use Rattle.opl_all_different.proofs.spreading.spread.Goals as goal
 
 pub take_from-requires-clause-sets : goal.take_from-requires-clause-sets

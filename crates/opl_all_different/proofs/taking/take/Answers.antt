@@ -1,8 +1,8 @@
-use Rattle.std.proofs.Common.{rules, arith, ◌≡◌, ◌≢◌, pos}
+use Rattle.std.proofs.Common.{rules, arith, ◌≢◌, pos}
 use Rattle.std.specs.Prelude.{FitsSigned}
 use mir.Syntax.{w64, w128}
 use Rattle.std.proofs.lemmas.Int.{ints, to_z-of_z}
-use Rattle.opl_all_different.proofs.Takings.{takes_none, takes_missing, takes_value}
+use Rattle.opl_all_different.proofs.Takings.{takes_missing, takes_value}
 use Rattle.opl_all_different.proofs.taking.take.Goals as goal
 
 pub number_for-requires-clause-there : goal.number_for-requires-clause-there
