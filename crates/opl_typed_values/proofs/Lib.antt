@@ -1,3 +1,4 @@
+mod Fitting
 mod Outside
 mod Said
 mod Sound

@@ -2,13 +2,14 @@
 use Rattle.std.proofs.Common.{◌≡◌, ◌<◌, ◌&&◌, ◌||◌, not, ℕ, zero, suc, Bool, true, false, List, [], ◌∷◌, length, map, Option, None, Some, Ok, refl, sym, ap, subst, ◌∙◌, arith}
 use Rattle.opl_tree.specs.declared.expression.NameTree.{NameTree}
 use Rattle.opl_type_rules.specs.Types.{Sort, Sorts, is_storable, sorts_of}
-use Rattle.opl_type_rules.specs.Types.Sort.{int, bool, row, array, anything}
+use Rattle.opl_type_rules.specs.Types.Sort.{int, bool, row, empty_set, array, anything}
+use Rattle.opl_type_rules.specs.Types.Sorts.{no_sorts}
 use Rattle.opl_type_rules.specs.Scope.{Scope, field_sorts, is_decided, sort_of}
 use Rattle.opl_type_rules.specs.Forms.{Form, Forms, form_add}
 use Rattle.opl_type_rules.specs.Forms.Form.{number, named, bracket, negative, arithmetic, absolute, related, member, connected, aggregate, cardinality, all_different, subscripted, field, tuple, listed, described, cells, keyed_cells, question}
 use Rattle.opl_type_rules.specs.Forms.Forms.{no_forms, more_forms}
 use Rattle.opl_type_rules.specs.Expressions.Need.{data_alone}
-use Rattle.opl_typed.specs.Relation.{Typed, Each, HasType, HaveTypes, Is, IsData, IsElement, is_data}
+use Rattle.opl_typed.specs.Relation.{AreOne, Typed, Each, HasType, HaveTypes, Is, IsData, IsElement, is_data, set_of}
 use Rattle.opl_typed.proofs.Lawful as typed
 use Rattle.opl_term.specs.Terms.{add_term}
 use Rattle.opl_term.specs.declared.term.Term.{Term}
@@ -17,13 +18,16 @@ use Rattle.opl_value.specs.declared.value.Value.{Value}
 use Rattle.opl_value.specs.declared.value.Value.TheVariants as values
 use Rattle.opl_value.specs.declared.value.Dimension.TheViews.{out-Value}
 use Rattle.opl_value.specs.Places.{elements, lists, place_of, value_at}
+use Rattle.opl_value.specs.Sets.{first_occurrences}
 use Rattle.opl_value.proofs.PlaceLaws.{places_below}
+use Rattle.opl_value.proofs.Sets.{sets_differ}
 use Rattle.opl_eval.specs.Evaluation.{Environment, Found, Item, all, at_place, element, element_layer, eval, item_named, meaning, value_named, values_of}
-use Rattle.opl_eval.proofs.Meanings.{meaning-Named, meaning-Bracket, meaning-Element, meaning-Record}
+use Rattle.opl_eval.proofs.Meanings.{meaning-Named, meaning-Bracket, meaning-Element, meaning-Listed, meaning-Record}
 use Rattle.opl_typed_values.specs.Covered.{are_covered, is_covered, is_name}
 use Rattle.opl_typed_values.specs.Laws.{ValuesAreOfTheirSorts}
-use Rattle.opl_typed_values.specs.OfSort.{AllHaveSort, HasSort, HaveSorts, IsArrayOf, a_name, a_number, a_record, a_row, a_set, a_truth, more_have, more_parts, no_elements, no_parts, none_has}
+use Rattle.opl_typed_values.specs.OfSort.{AllHaveSort, HasSort, HaveSorts, IsArrayOf, a_number, a_row, a_set, a_truth, more_have, more_parts, no_elements, no_parts, none_has}
 use Rattle.opl_typed_values.specs.Visible.{AreOfTheirSorts}
+use Rattle.opl_typed_values.proofs.Fitting.{first-has, joined-has, new-have, none-anything, none-have}
 use Rattle.opl_typed_values.proofs.Outside.{IsBool, IsInt, same_ok, went}
 use Rattle.opl_typed_values.proofs.Said.{AllSay, Says}
 use Rattle.opl_typed_values.proofs.Terms.{add-says}
@@ -58,16 +62,6 @@ module _ (names : ℕ → ℕ) (sc : Scope) (env : Environment) (visible : AreOf
 
   as_bool : (s : Sort) (v : Value) → s ≡ bool → IsBool v → Has s v
   as_bool s v e i = subst (λ (r : Sort). Has r v) (sym e) (subst (Has bool) (sym i.1) (a_truth i.0))
-
-  -- no value is of the type of what ranges over `{}`
-  none-anything : (s : Sort) (v : Value) → Has s v → s ≡ anything → ⊥
-  none-anything _ _ (a_number n) e = absurd (cc)
-  none-anything _ _ (a_truth b) e = absurd (cc)
-  none-anything _ _ (a_name k p l) e = absurd (cc)
-  none-anything _ _ (a_record k vs h) e = absurd (cc)
-  none-anything _ _ (a_row ss vs h) e = absurd (cc)
-  none-anything _ _ (a_set s vs h d) e = absurd (cc)
-  none-anything _ _ no_elements e = absurd (cc)
 
   named-has : (name : NameTree) (a : Typed) (t : Term) (v : Value) → HasType sc (named name) a → IsData a → is_storable a.sort ≡ true → t ≡ terms.Named name.at name.text → eval t env ≡ Ok v → Has a.sort v
   named-has name a t v h given storable is e =
@@ -122,8 +116,25 @@ module _ (names : ℕ → ℕ) (sc : Scope) (env : Environment) (visible : AreOf
   element-has p u us base parts anything a v f n is h b e given storable k =
       let d : base.decides ≡ false = first-decides base _ true _ (sym (ap is_data e) ∙ given) in
       let x = name-has f base n h d (ap is_storable b) in
-      absurd (none-anything base.sort x.0 x.1 b)
+      absurd (none-anything (field_sorts sc) names base.sort x.0 x.1 b)
   element-has p u us base parts s a v f n is h b e given storable k = absurd e
+
+  -- ---- sets that are written out
+
+  one-have : (parts : List Typed) (before s : Sort) (vs : List Value) → AreOne sc before parts s → HaveSorts (field_sorts sc) names (sorts_of (map (λ (x : Typed). x.sort) parts)) vs →
+      AllHaveSort (field_sorts sc) names s vs × ((v : Value) → Has before v → Has s v)
+  one-have [] before s vs h hs =
+      (subst (AllHaveSort (field_sorts sc) names s) (sym (none-have (field_sorts sc) names no_sorts vs hs refl)) (none_has s), (λ v d. subst (λ (x : Sort). Has x v) (sym h) d))
+  one-have (a ∷ parts) before s vs h hs =
+      let f = first-has (field_sorts sc) names (sorts_of (map (λ (x : Typed). x.sort) (a ∷ parts))) vs a.sort (sorts_of (map (λ (x : Typed). x.sort) parts)) hs refl in
+      let j = joined-has (field_sorts sc) names visible.structs before a.sort h.0 h.1 in
+      let r = one-have parts h.0 s f.1 h.2 f.4 in
+      (subst (AllHaveSort (field_sorts sc) names s) (sym f.2) (more_have s f.0 f.1 (r.1 f.0 (j.1 f.0 f.3)) r.0), (λ v d. r.1 v (j.0 v d)))
+
+  set-has : (parts : List Typed) (s : Sort) (vs : List Value) → AreOne sc anything parts s → HaveSorts (field_sorts sc) names (sorts_of (map (λ (x : Typed). x.sort) parts)) vs → Has (set_of parts s) (values.Set (first_occurrences vs))
+  set-has [] s vs h hs = subst (λ (ws : List Value). Has empty_set (values.Set (first_occurrences ws))) (sym (none-have (field_sorts sc) names no_sorts vs hs refl)) no_elements
+  set-has (a ∷ parts) s vs h hs =
+      a_set s (first_occurrences vs) (new-have (field_sorts sc) names s [] vs (none_has s) (one-have (a ∷ parts) anything s vs h hs).0) (sets_differ vs)
 
   -- ---- all covered forms
 
@@ -149,7 +160,10 @@ module _ (names : ℕ → ℕ) (sc : Scope) (env : Environment) (visible : AreOf
         let w = went (values_of (map meaning is.1) env) _ v (sym (ap (λ u. eval u env) is.2 ∙ ap (λ m. m.value env) (meaning-Record is.0 is.1)) ∙ e) in
         let r = have fs is.1 h.0 w.0 c is.3 h.1 h.2 h.3 w.1 in
         subst (λ (x : Sort). Has x v) (sym (ap (λ (x : Typed). x.sort) h.4)) (subst (Has (row (sorts_of (map (λ (x : Typed). x.sort) h.0)))) (same_ok (values.Record w.0) v w.2) (a_row _ w.0 r))
-    has (listed at fs) t a v c is h given storable e = absurd (cc)
+    has (listed at fs) t a v c is h given storable e =
+        let w = went (values_of (map meaning is.1) env) _ v (sym (ap (λ u. eval u env) is.2 ∙ ap (λ m. m.value env) (meaning-Listed is.0 is.1)) ∙ e) in
+        let r = have fs is.1 h.0 w.0 c is.3 h.2 h.3 h.4 w.1 in
+        subst (λ (x : Sort). Has x v) (sym (ap (λ (x : Typed). x.sort) h.6)) (subst (Has (set_of h.0 h.1)) (same_ok (values.Set (first_occurrences w.0)) v w.2) (set-has h.0 h.1 w.0 h.5 r))
     has (described at f p) t a v c is h given storable e = absurd (cc)
     has (cells at fs) t a v c is h given storable e = absurd h
     has (keyed_cells at ps) t a v c is h given storable e = absurd h

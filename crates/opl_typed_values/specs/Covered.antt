@@ -11,13 +11,13 @@ is_name (bracket at f) = is_name f
 is_name f = false
 
 abbrev mutual
-  -- all but `e.f`, `{..}` and `{e | p}`, and records that are made of such; what numbers and truth values are made of does not matter
+  -- all but `e.f` and `{e | p}`, and records and sets that are made of such; what numbers and truth values are made of does not matter
   pub is_covered : Form → Bool
   is_covered (bracket at f) = is_covered f
   is_covered (subscripted at f es) = is_name f
   is_covered (field at f name) = false
   is_covered (tuple at fs) = are_covered fs
-  is_covered (listed at fs) = false
+  is_covered (listed at fs) = are_covered fs
   is_covered (described at f p) = false
   is_covered f = true
 

@@ -1,12 +1,24 @@
 -- When a value is of a type of expressions. The types of a struct's fields and the number of an enumeration's names are told by the number of its declaration.
-use Rattle.std.specs.Prelude.{◌≡◌, ◌<◌, ℕ, ℤ, Bool, List, [], ◌∷◌, length}
+use Rattle.std.specs.Prelude.{◌≡◌, ◌<◌, ℕ, ℤ, Bool, true, false, ◌&&◌, List, [], ◌∷◌, length}
 use Rattle.opl_type_rules.specs.Types.{Sort, Sorts}
-use Rattle.opl_type_rules.specs.Types.Sort.{int, bool, enumeration, structure, row, set, empty_set}
+use Rattle.opl_type_rules.specs.Types.Sort.{anything, int, bool, enumeration, structure, row, set, empty_set}
 use Rattle.opl_type_rules.specs.Types.Sorts.{no_sorts, more_sorts}
 use Rattle.opl_value.specs.declared.value.Value.{Value}
 use Rattle.opl_value.specs.declared.value.Value.TheVariants as values
 use Rattle.opl_value.specs.declared.value.IndexSpace.{IndexSpace}
 use Rattle.opl_value.specs.Places.{AreDifferent, elements, lists}
+
+-- a type in which nothing stands for what ranges over `{}`
+abbrev mutual
+  pub is_known : Sort → Bool
+  is_known anything = false
+  is_known (row ss) = are_known ss
+  is_known (set s) = is_known s
+  is_known s = true
+
+  pub are_known : Sorts → Bool
+  are_known no_sorts = true
+  are_known (more_sorts s ss) = is_known s && are_known ss
 
 module _ (fields : ℕ → Sorts) (names : ℕ → ℕ) where
   mutual
