@@ -5,5 +5,6 @@ pub mod Given
 pub mod Items
 pub mod OfKind
 pub mod Quotients
-pub mod Written
+pub mod TypedValues
+mod Written
 pub mod WrittenCells

@@ -37,7 +37,7 @@ slot-put ss (Some p) c h =
 
 -- ---- what stands behind the keys, and how many cells it has
 
-evaluated-ok : {A : Type 0} (f : Found A) (a : A) → evaluated f ≡ Ok a → f ≡ Ok a
+pub evaluated-ok : {A : Type 0} (f : Found A) (a : A) → evaluated f ≡ Ok a → f ≡ Ok a
 evaluated-ok (Ok b) a h = ap Ok (same_ok b a h)
 evaluated-ok (Err e) a h = absurd (cc)
 
@@ -175,14 +175,14 @@ module _ (known : Known) (wrong : BindFault) (env : Environment) (axes : List Ax
 
 -- ---- one layer
 
-abbrev in_term : Known → Term-F GroupTerm SetTerm Step Term → Term-F Group Meaning Run Written
+abbrev pub in_term : Known → Term-F GroupTerm SetTerm Step Term → Term-F Group Meaning Run Written
 in_term known x = map-Term GroupTerm SetTerm Step Term Group Meaning Run Written
     (fold-GroupTerm Group Meaning Run Written group_means set_means step_means (written_layer known))
     (fold-SetTerm Group Meaning Run Written group_means set_means step_means (written_layer known))
     (fold-Step Group Meaning Run Written group_means set_means step_means (written_layer known))
     (written known) x
 
-written-out : (known : Known) (t : Term) → written known t ≡ written_layer known (in_term known (out-Term t))
+pub written-out : (known : Known) (t : Term) → written known t ≡ written_layer known (in_term known (out-Term t))
 unfolding written
 written-out known t = ap (written known) (sym (roll-out-Term t)) ∙ fold-roll-Term Group Meaning Run Written group_means set_means step_means (written_layer known) (out-Term t)
 

@@ -1,5 +1,5 @@
 -- Laws of the values of data.
-use Rattle.std.specs.Prelude.{◌≡◌, ◌≤◌, ◌<◌, ◌⊎◌, ℕ, ℤ, ◌+ℤ◌, ◌*ℤ◌, ◌≤ℤ◌, pos, unsigned_abs, true, List, ◌∷◌, ◌++◌, Some, Ok, false}
+use Rattle.std.specs.Prelude.{◌≡◌, ◌≤◌, ◌<◌, ◌⊎◌, ℕ, ℤ, ◌+ℤ◌, ◌*ℤ◌, ◌≤ℤ◌, pos, unsigned_abs, true, List, ◌∷◌, ◌++◌, length, Some, Ok, false}
 use Rattle.std.specs.List.{list_any, slice_get}
 use Rattle.opl_tree.specs.declared.declaration.DataTree.{DataTree}
 use Rattle.opl_tree.specs.declared.declaration.DeclTree.{DeclTree}
@@ -7,7 +7,15 @@ use Rattle.opl_tree.specs.declared.declaration.DeclTree.TheVariants as decls
 use Rattle.opl_tree.specs.declared.declaration.DimTree.{DimTree}
 use Rattle.opl_tree.specs.declared.declaration.InitialTree.TheVariants as initials
 use Rattle.opl_term.specs.declared.term.Term.{Term}
+use Rattle.opl_term.specs.Terms.{add_term}
 use Rattle.opl_tree.specs.declared.expression.AddTree.{AddTree}
+use Rattle.opl_type_rules.specs.Types.{Sort}
+use Rattle.opl_type_rules.specs.Scope.{Scope, and_then, fits_in}
+use Rattle.opl_type_rules.specs.Forms.{form_add}
+use Rattle.opl_type_rules.specs.Expressions.{Node, typing, used}
+use Rattle.opl_type_rules.specs.Expressions.Need.{data_alone}
+use Rattle.opl_typed_values.specs.Covered.{is_covered}
+use Rattle.opl_typed_values.specs.Visible.{AreOfTheirSorts}
 use Rattle.opl_data.specs.declared.tree.DataFile.{DataFile}
 use Rattle.opl_data.specs.declared.tree.DataValue.{DataValue}
 use Rattle.opl_value.specs.declared.value.Value.{Value}
@@ -20,7 +28,7 @@ use Rattle.opl_given.specs.declared.form.Form.{Form}
 use Rattle.opl_given.specs.declared.form.Form.TheVariants as forms
 use Rattle.opl_given.specs.Arrays.{Axis, elements_in, values_of}
 use Rattle.opl_given.specs.Assigned.{is_assigned}
-use Rattle.opl_given.specs.Forms.{Known, form_of}
+use Rattle.opl_given.specs.Forms.{Known, form_of, names_of}
 use Rattle.opl_given.specs.Given.{Given, all_given}
 use Rattle.opl_given.specs.Items.{lists_of}
 use Rattle.opl_given.specs.Values.{value_in}
@@ -30,6 +38,7 @@ use Rattle.opl_fit.specs.Declared.{ItemIs, Stands}
 use Rattle.opl_fit.specs.Fits.{Fits}
 use Rattle.opl_fit.specs.Keys.{IsKeyIn, Says, SaysWritten}
 use Rattle.opl_fit.specs.OfKind.{HasKind}
+use Rattle.opl_fit.specs.Typed.{IsFormOf, StructsAgree}
 
 -- ---- the forms of values
 
@@ -60,6 +69,14 @@ abbrev pub WrittenValuesFit : Type 0
 WrittenValuesFit = (position : ℕ → ℕ) (before after : List DeclTree) (t : DataTree) (e : AddTree) (files : List DataFile) (os : List Override) (final : Data) →
     t.initial ≡ initials.Written e → bound position (before ++ decls.Data t ∷ after) files os ≡ Ok final →
     (given : Given) × (all_given (before ++ decls.Data t ∷ after) files ≡ Ok given) × Stands position given os before t final (ItemFitsByKind t)
+
+-- a value that the model writes for a type without dimensions has the form of the type, where typing takes its expression as data of that type, the expression is covered, and the visible
+-- names have values of their types
+abbrev pub TypedValuesFit : Type 0
+TypedValuesFit =
+    (known : Known) (sc : Scope) (env : Environment) (e : AddTree) (form : Form) (want : Sort) (n : Node) (v : Value) →
+    AreOfTheirSorts (λ k. length (names_of known k)) sc env → StructsAgree known sc → IsFormOf form want → is_covered (form_add e) ≡ true →
+    and_then (typing sc (form_add e)) (used data_alone (fits_in sc want)) ≡ Ok n → written_value known env form (add_term e) ≡ Ok v → Fits known form v
 
 -- ---- the cells of arrays
 

@@ -3,3 +3,4 @@ pub mod Fits
 pub mod Keys
 pub mod OfKind
 pub mod Laws
+pub mod Typed

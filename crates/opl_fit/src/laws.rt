@@ -1,5 +1,5 @@
 //! Laws of the definitions, as contracts of functions without effect.
-ghost use Rattle.opl_fit.specs.Laws.{CellsStandByTheirKeys, GivenValuesFit, QuotientsAreCutOff, WrittenCellsStandByTheirKeys, WrittenKeysAreElements, WrittenValuesFit};
+ghost use Rattle.opl_fit.specs.Laws.{CellsStandByTheirKeys, GivenValuesFit, QuotientsAreCutOff, TypedValuesFit, WrittenCellsStandByTheirKeys, WrittenKeysAreElements, WrittenValuesFit};
 
 /// Each item whose value a data file gives, or is assigned, has a value of the form of its type: its numbers lie within their ranges, its names are those of their
 /// enumerations, its records have a part for each field, the elements of its sets differ, and an array has a cell for each key of its index sets.
@@ -11,6 +11,12 @@ pub fn given_values_fit()
 /// within their ranges. An array has a cell for each key of its index sets, whatever the kinds of its cells.
 pub fn written_values_fit()
     ensures { WrittenValuesFit }
+{}
+
+/// A value that the model writes for an item without dimensions, or for a cell, has the form of the declared type, where typing takes its expression as data of that type and the visible names
+/// have values of their types: of each expression but fields and sets that are described, and records and sets that are made of these.
+pub fn typed_values_fit()
+    ensures { TypedValuesFit }
 {}
 
 /// Of an array that a data file gives, the cell at a key's place is what the array says for that key: in `#[..]#` the value behind it, in `[..]` that at its place.

@@ -27,22 +27,22 @@ known-something : (s : Sort) → is_known s ≡ true → is_anything s ≡ false
 known-something anything h = absurd (cc)
 known-something s h = refl
 
-int-fits : (want : Sort) → is_anything want ≡ false → (is_anything want || same want int) ≡ true → want ≡ int
+pub int-fits : (want : Sort) → is_anything want ≡ false → (is_anything want || same want int) ≡ true → want ≡ int
 int-fits int k h = refl
 int-fits anything k h = absurd (cc)
 int-fits want k h = absurd (cc)
 
-bool-fits : (want : Sort) → is_anything want ≡ false → (is_anything want || same want bool) ≡ true → want ≡ bool
+pub bool-fits : (want : Sort) → is_anything want ≡ false → (is_anything want || same want bool) ≡ true → want ≡ bool
 bool-fits bool k h = refl
 bool-fits anything k h = absurd (cc)
 bool-fits want k h = absurd (cc)
 
-name-fits : (want : Sort) (k : ℕ) → is_anything want ≡ false → (is_anything want || same want (enumeration k)) ≡ true → want ≡ enumeration k
+pub name-fits : (want : Sort) (k : ℕ) → is_anything want ≡ false → (is_anything want || same want (enumeration k)) ≡ true → want ≡ enumeration k
 name-fits (enumeration l) k a h = ap enumeration (same_number l k h)
 name-fits anything k a h = absurd (cc)
 name-fits want k a h = absurd (cc)
 
-record-fits : (want : Sort) (k : ℕ) → is_anything want ≡ false → (is_anything want || same want (structure k)) ≡ true → want ≡ structure k
+pub record-fits : (want : Sort) (k : ℕ) → is_anything want ≡ false → (is_anything want || same want (structure k)) ≡ true → want ≡ structure k
 record-fits (structure l) k a h = ap structure (same_number l k h)
 record-fits anything k a h = absurd (cc)
 record-fits want k a h = absurd (cc)
@@ -50,15 +50,27 @@ record-fits want k a h = absurd (cc)
 different-none : AreDifferent []
 different-none j k l m e = absurd (omega (arith, l))
 
-some_same : {A : Type 0} (a b : A) → (let x : Option A = Some a in x) ≡ Some b → a ≡ b
+pub some_same : {A : Type 0} (a b : A) → (let x : Option A = Some a in x) ≡ Some b → a ≡ b
 some_same a b h = cc
 
 -- neither stands for what ranges over `{}`, nor are both records that are written, or sets
-abbrev apart : Sort → Sort → Bool
+abbrev pub apart : Sort → Sort → Bool
 apart anything b = false
 apart (row xs) (row ys) = false
 apart (set x) (set y) = false
 apart a b = true
+
+pub apart-something : (a b : Sort) → apart a b ≡ true → is_anything a ≡ false
+apart-something anything b h = absurd (cc)
+apart-something a b h = refl
+
+pub apart-turned : (fields : ℕ → Sorts) (a b : Sort) → apart a b ≡ true → fits fields a b ≡ false → apart b a ≡ true
+apart-turned fields a anything k h = absurd (cc)
+apart-turned fields (row xs) (row ys) k h = absurd (cc)
+apart-turned fields a (row ys) k h = refl
+apart-turned fields (set x) (set y) k h = absurd (cc)
+apart-turned fields a (set y) k h = refl
+apart-turned fields a b k h = refl
 
 module _ (fields : ℕ → Sorts) (names : ℕ → ℕ) where
   abbrev Has : Sort → Value → Type 0
@@ -156,10 +168,6 @@ module _ (fields : ℕ → Sorts) (names : ℕ → ℕ) where
 
     -- ---- joining
 
-    apart-something : (a b : Sort) → apart a b ≡ true → is_anything a ≡ false
-    apart-something anything b h = absurd (cc)
-    apart-something a b h = refl
-
     apart-has : (want have : Sort) (v : Value) → apart want have ≡ true → fits fields want have ≡ true → Has have v → Has want v
     apart-has want _ _ k h (a_number n) = subst (λ (s : Sort). Has s (values.Int n)) (sym (int-fits want (apart-something want int k) h)) (a_number n)
     apart-has want _ _ k h (a_truth b) = subst (λ (s : Sort). Has s (values.Bool b)) (sym (bool-fits want (apart-something want bool k) h)) (a_truth b)
@@ -177,14 +185,6 @@ module _ (fields : ℕ → Sorts) (names : ℕ → ℕ) where
     apart-has anything _ _ k h no_elements = absurd (cc)
     apart-has want _ _ k h no_elements = absurd (cc)
 
-    apart-turned : (a b : Sort) → apart a b ≡ true → fits fields a b ≡ false → apart b a ≡ true
-    apart-turned a anything k h = absurd (cc)
-    apart-turned (row xs) (row ys) k h = absurd (cc)
-    apart-turned a (row ys) k h = refl
-    apart-turned (set x) (set y) k h = absurd (cc)
-    apart-turned a (set y) k h = refl
-    apart-turned a b k h = refl
-
     -- values of the first are of the second
     abbrev pub Takes : Sort → Sort → Type 0
     Takes a c = (v : Value) → Has a v → Has c v
@@ -196,7 +196,7 @@ module _ (fields : ℕ → Sorts) (names : ℕ → ℕ) where
     one-by a b c true q k h g e =
         let s = some_same a c e in ((λ v d. subst (λ (x : Sort). Has x v) s d), (λ v d. subst (λ (x : Sort). Has x v) s (apart-has a b v k h d)))
     one-by a b c false true k h g e =
-        let s = some_same b c e in ((λ v d. subst (λ (x : Sort). Has x v) s (apart-has b a v (apart-turned a b k h) g d)), (λ v d. subst (λ (x : Sort). Has x v) s d))
+        let s = some_same b c e in ((λ v d. subst (λ (x : Sort). Has x v) s (apart-has b a v (apart-turned fields a b k h) g d)), (λ v d. subst (λ (x : Sort). Has x v) s d))
     one-by a b c false false k h g e = absurd (cc)
 
     one-has : (a b c : Sort) → apart a b ≡ true → one_of fields a b ≡ Some c → Takes a c × Takes b c

@@ -1,5 +1,6 @@
-mod Fitting
-mod Outside
-mod Said
-mod Sound
-mod Terms
+pub mod Fitting
+pub mod Joining
+pub mod Outside
+pub mod Said
+pub mod Sound
+pub mod Terms

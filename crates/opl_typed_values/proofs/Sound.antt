@@ -139,20 +139,20 @@ module _ (names : ℕ → ℕ) (sc : Scope) (env : Environment) (visible : AreOf
   -- ---- all covered forms
 
   mutual
-    has : (f : Form) (t : Term) (a : Typed) (v : Value) → is_covered f ≡ true → Says f t → HasType sc f a → IsData a → is_storable a.sort ≡ true → eval t env ≡ Ok v → Has a.sort v
-    has (number at) t a v c is h given storable e = as_int a.sort v (ap (λ (x : Typed). x.sort) h) (is env v e)
+    pub has : (f : Form) (t : Term) (a : Typed) (v : Value) → is_covered f ≡ true → Says f t → HasType sc f a → IsData a → is_storable a.sort ≡ true → eval t env ≡ Ok v → Has a.sort v
+    has (number at) t a v c is h given storable e = as_int a.sort v (ap (λ (x : Typed). x.sort) h) (is.1 env v e)
     has (named name) t a v c is h given storable e = named-has name a t v h given storable is e
     has (bracket at f) t a v c is h given storable e =
         has f is.1 a v c is.3 h given storable (sym (ap (λ u. eval u env) is.2 ∙ ap (λ m. m.value env) (meaning-Bracket is.0 is.1)) ∙ e)
-    has (negative at f) t a v c is h given storable e = as_int a.sort v (ap (λ (x : Typed). x.sort) h.3) (is env v e)
-    has (arithmetic at fs) t a v c is h given storable e = as_int a.sort v (ap (λ (x : Typed). x.sort) h.3) (is env v e)
-    has (absolute at f) t a v c is h given storable e = as_int a.sort v (ap (λ (x : Typed). x.sort) h.3) (is env v e)
-    has (related at f relation g) t a v c is h given storable e = as_bool a.sort v (ap (λ (x : Typed). x.sort) h.5) (is env v e)
-    has (member at f over) t a v c is h given storable e = as_bool a.sort v (ap (λ (x : Typed). x.sort) h.7) (is env v e)
-    has (connected at fs) t a v c is h given storable e = as_bool a.sort v (ap (λ (x : Typed). x.sort) h.3) (is env v e)
-    has (aggregate at p f) t a v c is h given storable e = as_int a.sort v (ap (λ (x : Typed). x.sort) h.5) (is env v e)
-    has (cardinality at f) t a v c is h given storable e = as_int a.sort v (ap (λ (x : Typed). x.sort) h.3) (is env v e)
-    has (all_different at f) t a v c is h given storable e = as_bool a.sort v (ap (λ (x : Typed). x.sort) h.3) (is env v e)
+    has (negative at f) t a v c is h given storable e = as_int a.sort v (ap (λ (x : Typed). x.sort) h.3) (is.1 env v e)
+    has (arithmetic at fs) t a v c is h given storable e = as_int a.sort v (ap (λ (x : Typed). x.sort) h.3) (is.1 env v e)
+    has (absolute at f) t a v c is h given storable e = as_int a.sort v (ap (λ (x : Typed). x.sort) h.3) (is.1 env v e)
+    has (related at f relation g) t a v c is h given storable e = as_bool a.sort v (ap (λ (x : Typed). x.sort) h.5) (is.1 env v e)
+    has (member at f over) t a v c is h given storable e = as_bool a.sort v (ap (λ (x : Typed). x.sort) h.7) (is.1 env v e)
+    has (connected at fs) t a v c is h given storable e = as_bool a.sort v (ap (λ (x : Typed). x.sort) h.3) (is.1 env v e)
+    has (aggregate at p f) t a v c is h given storable e = as_int a.sort v (ap (λ (x : Typed). x.sort) h.5) (is.1 env v e)
+    has (cardinality at f) t a v c is h given storable e = as_int a.sort v (ap (λ (x : Typed). x.sort) h.3) (is.1 env v e)
+    has (all_different at f) t a v c is h given storable e = as_bool a.sort v (ap (λ (x : Typed). x.sort) h.3) (is.1 env v e)
     has (subscripted at f es) t a v c is h given storable e =
         element-has is.0 is.1 is.2 h.0 h.1 h.0.sort a v f c is.4 h.2 refl h.4 given storable (sym (ap (λ u. eval u env) is.3) ∙ e)
     has (field at f name) t a v c is h given storable e = absurd (cc)
