@@ -6,5 +6,5 @@ pub mod Items
 pub mod OfKind
 pub mod Quotients
 pub mod TypedValues
-mod Written
+pub mod Written
 pub mod WrittenCells
