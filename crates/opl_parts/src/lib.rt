@@ -14,6 +14,7 @@ ghost use Rattle.opl_form.specs.Parts.{Form};
 ghost use Rattle.opl_groups.specs.Met.{first, met_under};
 ghost use Rattle.opl_groups.specs.Met.Met.{stopped};
 ghost use Rattle.opl_groups.specs.Visits.{latest, sees};
+ghost use Rattle.opl_nodes.specs.declared.context.Context.{Context as contexts};
 ghost use Rattle.opl_nodes.specs.Contexts.{arrays, sets};
 ghost use Rattle.opl_nodes.specs.Pieces.{AreParts, IsPart, Makes, form, forms};
 ghost use Rattle.opl_numbers.specs.Numbers.{MakesParts};
@@ -93,6 +94,18 @@ pub fn product(
     opl_numbers::product(alloc, context, at, parts)
 }
 
+/// Two parts, where so many nodes were made before them.
+fn pair(alloc: Global, before: u64, first: Part, second: Part) -> Result<Parts, AllocError>
+    ensures items { IfOk result (λ parts. parts.items ≡ first ∷ second ∷ []) }
+    ensures before { IfOk result (λ parts. parts.before ≡ before) }
+    ensures kept { IfOk result (λ parts. (c : contexts) → IsPart c first → IsPart c second → AreParts c parts) }
+{
+    let mut parts = Parts::new(alloc, before);
+    parts.push(first)?;
+    parts.push(second)?;
+    Ok(parts)
+}
+
 /// `a[b,c]` of the array of this number, with the places of the two subscripts.
 pub fn cell(
     alloc: Global,
@@ -108,8 +121,6 @@ pub fn cell(
     requires second { IsPart context.now second }
     ensures { Makes context.now (nodes.indexed (sets context.now) (arrays context.now) context.now.item at before array (array_of (arrays context.now) array) places.now (form first ∷ form second ∷ [])) result }
 {
-    let mut parts = Parts::new(alloc, before);
-    parts.push(first)?;
-    parts.push(second)?;
+    let parts = pair(alloc, before, first, second)?;
     opl_elements::indexed(alloc, context, at, array, places, parts)
 }
