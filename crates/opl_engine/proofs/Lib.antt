@@ -4,5 +4,6 @@ mod Crowds
 pub mod Fitting
 pub mod Holding
 mod Lists
+mod OwnKinds
 mod Made
 pub mod Resting

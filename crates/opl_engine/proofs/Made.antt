@@ -25,9 +25,9 @@ use Rattle.opl_trace.specs.Objective.{Objective}
 use Rattle.opl_trace.proofs.Families.{below_self}
 use Rattle.opl_filter.specs.Mentions.{lists, term_mentions, AreVariables}
 use Rattle.opl_filter.proofs.Mentioned.{variables_there}
-use Rattle.opl_linear_filter.specs.declared.linear_filter.LinearFilter.{LinearFilter}
-use Rattle.opl_linear_filter.specs.LinearForms.{IsFilterIfAny}
 use Rattle.opl_closure.specs.Members.{Each}
+use Rattle.opl_engine.specs.declared.own_filter.OwnFilter.{OwnFilter}
+use Rattle.opl_engine.specs.OwnFilters.{IsOwnFilterIfAny}
 use Rattle.opl_engine.specs.declared.member.Member.{Member}
 use Rattle.opl_engine.specs.declared.member.Member.TheVariants as member
 use Rattle.opl_engine.specs.Members.{goal_in, bound_fact, fact_of, fact_at, wakes_on, AreVariablesOf, IsListed, IsConstraint, IsGoal, IsMember}
@@ -199,13 +199,13 @@ fact_is core k c l e = slice_get-map (fact core.tables core.resources) core.cons
 pub declared_sound : (core : Core) (k : ℕ) (c : Cons) → IsSoundCore core → k < length core.cons → c ≡ get_or core.cons k c → IsSoundFact core.sets (fact core.tables core.resources c)
 declared_sound core k c s l e = all_at (IsSoundFact core.sets) (facts core) k (fact core.tables core.resources c) s.constraints (fact_is core k c l e)
 
-pub declared_made : (core : Core) (k : ℕ) (c : Cons) (xs : List ℕ) (form : Option LinearFilter) → IsSoundCore core → k < length core.cons → c ≡ get_or core.cons k c → AreVariables xs (fact core.tables core.resources c) →
-    IsFilterIfAny core (fact core.tables core.resources c) form → IsMember core (member.Declared k xs form)
+pub declared_made : (core : Core) (k : ℕ) (c : Cons) (xs : List ℕ) (form : Option OwnFilter) → IsSoundCore core → k < length core.cons → c ≡ get_or core.cons k c → AreVariables xs (fact core.tables core.resources c) →
+    IsOwnFilterIfAny core (fact core.tables core.resources c) form → IsMember core (member.Declared k xs form)
 declared_made core k c xs form s l e a f =
     subst (λ o. (k < length core.cons) × IsConstraint core (fact_at core o) xs form) (sym (at_place core k c l e))
     (l, (record { sound = declared_sound core k c s l e; named = a }, f))
 
-pub declared_fact : (core : Core) (k : ℕ) (c : Cons) (xs : List ℕ) (form : Option LinearFilter) → k < length core.cons → c ≡ get_or core.cons k c → slice_get (facts core) k ≡ Some (fact_of core (member.Declared k xs form))
+pub declared_fact : (core : Core) (k : ℕ) (c : Cons) (xs : List ℕ) (form : Option OwnFilter) → k < length core.cons → c ≡ get_or core.cons k c → slice_get (facts core) k ≡ Some (fact_of core (member.Declared k xs form))
 declared_fact core k c xs form l e = fact_is core k c l e ∙ ap (λ o. Some (fact_at core o)) (sym (at_place core k c l e))
 
 only_one : (core : Core) (m : Member) → IsMember core m → Each (λ i a. IsMember core a) (m ∷ [])
@@ -261,6 +261,6 @@ pub posted_sound : (core now lent : Core) (c d : Cons) → core ≡ now → lent
 posted_sound core now lent c d e l i s =
     subst (λ (k : Cons). IsSoundFact lent.sets (fact lent.tables lent.resources k)) (sym i) (subst (λ (k : Core). IsSoundFact k.sets (fact k.tables k.resources c)) (sym (l ∙ e)) s)
 
-pub posted_form : (core lent : Core) (c d : Cons) (form : Option LinearFilter) → lent ≡ core → d ≡ c → IsFilterIfAny lent (fact lent.tables lent.resources d) form → IsFilterIfAny core (fact core.tables core.resources c) form
+pub posted_form : (core lent : Core) (c d : Cons) (form : Option OwnFilter) → lent ≡ core → d ≡ c → IsOwnFilterIfAny lent (fact lent.tables lent.resources d) form → IsOwnFilterIfAny core (fact core.tables core.resources c) form
 posted_form core lent c d form l i f =
-    subst (λ (k : Core). IsFilterIfAny k (fact k.tables k.resources c) form) l (subst (λ (k : Cons). IsFilterIfAny lent (fact lent.tables lent.resources k) form) i f)
+    subst (λ (k : Core). IsOwnFilterIfAny k (fact k.tables k.resources c) form) l (subst (λ (k : Cons). IsOwnFilterIfAny lent (fact lent.tables lent.resources k) form) i f)

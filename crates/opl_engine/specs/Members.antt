@@ -6,11 +6,11 @@ use Rattle.opl_expr.specs.declared.forms.Cons.{Cons}
 use Rattle.opl_expr.specs.Forms.{Term, Fact, term, fact}
 use Rattle.opl_expr.specs.Sound.{IsSoundTerm, IsSoundFact}
 use Rattle.opl_filter.specs.Mentions.{lists, term_mentions, AreVariables}
-use Rattle.opl_linear_filter.specs.declared.linear_filter.LinearFilter.{LinearFilter}
-use Rattle.opl_linear_filter.specs.LinearForms.{IsFilterIfAny}
 use Rattle.opl_trace.specs.Answers.{is_value}
 use Rattle.opl_trace.specs.Marks.{objective}
 use Rattle.opl_trace.specs.Objective.{Objective, better_than}
+use Rattle.opl_engine.specs.declared.own_filter.OwnFilter.{OwnFilter}
+use Rattle.opl_engine.specs.OwnFilters.{IsOwnFilterIfAny}
 use Rattle.opl_engine.specs.declared.member.Member.{Member}
 use Rattle.opl_engine.specs.declared.member.Member.TheVariants as member
 
@@ -52,9 +52,9 @@ pub record IsListed (core : Core) (c : Fact) (variables : List ℕ) : Type 0 whe
   pub sound : IsSoundFact core.sets c
   pub named : AreVariables variables c
 
--- the same, and if there is a filter by its linear form, it is that of the constraint
-abbrev pub IsConstraint : Core → Fact → List ℕ → Option LinearFilter → Type 0
-IsConstraint core c variables form = IsListed core c variables × IsFilterIfAny core c form
+-- the same, and if there is a filter of its own, it is that of the constraint
+abbrev pub IsConstraint : Core → Fact → List ℕ → Option OwnFilter → Type 0
+IsConstraint core c variables form = IsListed core c variables × IsOwnFilterIfAny core c form
 
 -- a sound objective, with its variables
 pub record IsGoal (core : Core) (g : Objective) (variables : List ℕ) : Type 0 where

@@ -9,10 +9,10 @@ ghost use Rattle.opl_engine.specs.Engines.{IsFirst, IsGrown, IsBase};
 
 use crate::member::Member;
 use crate::members::Members;
+use crate::own_filter::OwnFilter;
 use opl_domain::OutOfMemory;
 use opl_expr::{Cons, Core, Goal, Op};
 use opl_filter::variables_of;
-use opl_linear_filter::LinearFilter;
 use opl_list::{Boxed, Seq};
 use std::alloc::Global;
 use std::rc::Rc;
@@ -49,7 +49,7 @@ fn declared_member(alloc: Global, core: &Core, place: u32) -> Result<Member, Out
 {
     let c = &core.cons.as_slice()[place as usize];
     let variables = variables_of(alloc, core, c)?;
-    let form = LinearFilter::new(alloc, core, c)?;
+    let form = OwnFilter::new(alloc, core, c)?;
     Ok(Member::Declared(place, variables, form))
 }
 
@@ -99,7 +99,7 @@ fn add_definedness(alloc: Global, core: &Core, members: &mut Members) -> Result<
         Some(goal) => {
             let c = defined(alloc, core, goal)?;
             let variables = variables_of(alloc, core, c.as_ref())?;
-            let form = LinearFilter::new(alloc, core, c.as_ref())?;
+            let form = OwnFilter::new(alloc, core, c.as_ref())?;
             grow(core, members, Member::Posted(c, variables, form))?;
             Ok(())
         }

@@ -14,10 +14,10 @@ use crate::closed::Closed;
 use crate::member::Member;
 use crate::members::Members;
 use crate::opening::Opening;
+use crate::own_filter::OwnFilter;
 use opl_domain::{Narrow, OutOfMemory, Steps};
 use opl_expr::{Cons, Core};
 use opl_filter::{Outcome, variables_of};
-use opl_linear_filter::LinearFilter;
 use std::alloc::Global;
 use std::marker::Model;
 use std::rc::Rc;
@@ -114,7 +114,7 @@ impl Engine {
         ensures fits { (F : Family) (below : List Family) → Fits (seen self.old) F below → Fits (seen self.new) F below }
     {
         let variables = variables_of(alloc, self.core.as_ref(), c.as_ref())?;
-        let form = LinearFilter::new(alloc, self.core.as_ref(), c.as_ref())?;
+        let form = OwnFilter::new(alloc, self.core.as_ref(), c.as_ref())?;
         self.members.add(Member::Posted(c, variables, form))?;
         Ok(())
     }

@@ -9,6 +9,7 @@ pub mod laws;
 mod member;
 mod members;
 mod opening;
+mod own_filter;
 
 pub use closed::Closed;
 pub use engine::Engine;

@@ -7,15 +7,15 @@ ghost use Rattle.opl_filter.specs.Mentions.{lists};
 ghost use Rattle.opl_filter.specs.Filtering.{refutes, IsBetween, Filters};
 ghost use Rattle.opl_trace.specs.Marks.{objective};
 ghost use Rattle.opl_trace.specs.Objective.{Objective};
-ghost use Rattle.opl_linear_filter.specs.LinearForms.{IsFilterIfAny};
+ghost use Rattle.opl_engine.specs.OwnFilters.{IsOwnFilterIfAny};
 ghost use Rattle.opl_engine.specs.Members.{bound_fact, fact_of, wakes_on, AreThere, IsListed, IsGoal, IsMember};
 
 use crate::bound::keep_better;
+use crate::own_filter::OwnFilter;
 use opl_closure::{Propagator, keep_value};
 use opl_domain::Narrow;
 use opl_expr::{Cons, Core};
 use opl_filter::{Outcome, sweep};
-use opl_linear_filter::LinearFilter;
 use opl_list::Seq;
 use std::rc::Rc;
 
@@ -25,10 +25,10 @@ use std::rc::Rc;
 pub enum Member {
     /// To be better than a best value, with the variables of the objective. Without an objective, or a best value yet, it asks nothing.
     Bound(Option<i128>, Seq<u32>),
-    /// A constraint of the core, by its place, with its variables, and with its filter if its sides are linear.
-    Declared(u32, Seq<u32>, Option<LinearFilter>),
+    /// A constraint of the core, by its place, with its variables, and with the filter of its own that it may have.
+    Declared(u32, Seq<u32>, Option<OwnFilter>),
     /// A constraint that was posted, likewise.
-    Posted(Rc<Cons>, Seq<u32>, Option<LinearFilter>),
+    Posted(Rc<Cons>, Seq<u32>, Option<OwnFilter>),
     /// A variable has a value. After two cuts it is stable for good: it has no variables that wake it.
     Value(u32, i64),
 }
@@ -76,16 +76,16 @@ fn filter_bound<N: Narrow>(core: &Core, best: Option<i128>, variables: &[u32], n
     }
 }
 
-/// The filter of a constraint: that of its linear form, if there is one, and else value by value.
+/// The filter of a constraint: its own, if there is one, and else value by value.
 fn filter_constraint<N: Narrow>(
     core: &Core,
     c: &Cons,
     variables: &[u32],
-    form: &Option<LinearFilter>,
+    form: &Option<OwnFilter>,
     n: &mut N,
 ) -> Outcome
     requires listed { IsListed core.now (fact core.now.tables core.now.resources c.now) variables.now }
-    requires form { IsFilterIfAny core.now (fact core.now.tables core.now.resources c.now) form.now }
+    requires form { IsOwnFilterIfAny core.now (fact core.now.tables core.now.resources c.now) form.now }
     requires declared { Below (N.family n.old) (declared core.now) }
     ensures between { IsBetween (refutes (fact core.now.tables core.now.resources c.now)) (N.family n.old) (N.family n.new) }
     ensures outcome { Filters (refutes (fact core.now.tables core.now.resources c.now)) (N.family n.old) (N.family n.new) result }

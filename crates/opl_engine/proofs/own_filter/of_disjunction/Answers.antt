@@ -1,0 +1,5 @@
+use Rattle.opl_engine.proofs.OwnKinds.{none_of}
+use Rattle.opl_engine.proofs.own_filter.of_disjunction.Goals as goal
+
+pub returns-in-None-clause-kinds : goal.returns-in-None-clause-kinds
+returns-in-None-clause-kinds c = none_of c.args.core.now c.args.c.now c.in_ok-new.field-0 c.in_ok-new.ensures.kind c.in-None.is

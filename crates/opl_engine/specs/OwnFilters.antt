@@ -1,0 +1,34 @@
+-- Filters of their own that some kinds of constraints have.
+use Rattle.std.specs.Prelude.{Option, Some, None}
+use Rattle.opl_expr.specs.declared.model.Core.{Core}
+use Rattle.opl_expr.specs.declared.forms.Cons.{Cons}
+use Rattle.opl_expr.specs.Forms.{Fact}
+use Rattle.opl_linear_filter.specs.LinearForms.{IsMade, IsFilterOf, ComparesLinear}
+use Rattle.opl_reify.specs.Disjunctions.{IsMadeOfParts, IsDisjunctionFor, IsDisjunction}
+use Rattle.opl_engine.specs.declared.own_filter.OwnFilter.{OwnFilter}
+use Rattle.opl_engine.specs.declared.own_filter.OwnFilter.TheVariants as own
+
+-- a filter was made with a core
+abbrev pub IsMadeWith : Core → OwnFilter → Type 0
+IsMadeWith core (own.Linear f) = IsMade core f
+IsMadeWith core (own.Reify f) = IsMadeOfParts core f
+
+-- it is the filter of a constraint
+abbrev pub IsOwnFilter : Core → Fact → OwnFilter → Type 0
+IsOwnFilter core c (own.Linear f) = IsFilterOf core c f
+IsOwnFilter core c (own.Reify f) = IsDisjunctionFor core c f
+
+-- a filter, where there is one, is that of a constraint
+abbrev pub IsOwnFilterIfAny : Core → Fact → Option OwnFilter → Type 0
+IsOwnFilterIfAny core c None = Unit {0}
+IsOwnFilterIfAny core c (Some f) = IsOwnFilter core c f
+
+-- each disjunction whose parts compare linear sides has a filter
+abbrev pub IsThereForDisjunctions : Core → Cons → Option OwnFilter → Type 0
+IsThereForDisjunctions core c None = IsDisjunction core c → ⊥
+IsThereForDisjunctions core c (Some f) = Unit {0}
+
+-- so has each constraint of one of the kinds above
+abbrev pub IsThereForKinds : Core → Cons → Option OwnFilter → Type 0
+IsThereForKinds core c None = (ComparesLinear core c → ⊥) × (IsDisjunction core c → ⊥)
+IsThereForKinds core c (Some f) = Unit {0}

@@ -1,0 +1,66 @@
+//! Filters of their own that some kinds of constraints have.
+ghost use Rattle.std.specs.Prelude.{IfOk};
+ghost use Rattle.opl_domain.specs.Family.{Below};
+ghost use Rattle.opl_expr.specs.Forms.{Fact, fact};
+ghost use Rattle.opl_expr.specs.Solutions.{declared};
+ghost use Rattle.opl_expr.specs.Sound.{IsSoundFact};
+ghost use Rattle.opl_filter.specs.Filtering.{refutes, IsBetween, Filters};
+ghost use Rattle.opl_engine.specs.OwnFilters.{IsMadeWith, IsOwnFilter, IsOwnFilterIfAny, IsThereForDisjunctions, IsThereForKinds};
+
+use opl_domain::{Narrow, OutOfMemory};
+use opl_expr::{Cons, Core};
+use opl_filter::Outcome;
+use opl_linear_filter::LinearFilter;
+use opl_reify::ReifyFilter;
+use std::alloc::Global;
+
+/// The filter of its own that a constraint has. A kind of filter is one more variant, with its arms in `new` and `filter`, and in
+/// the definitions of what it is made with and of which constraint it is the filter.
+#[derive(Drop)]
+pub enum OwnFilter {
+    /// That of a comparison of linear sides.
+    Linear(LinearFilter),
+    /// That of a disjunction whose parts compare linear sides.
+    Reify(ReifyFilter),
+}
+
+/// The filter of a disjunction, if the constraint is one.
+fn of_disjunction(alloc: Global, core: &Core, c: &Cons) -> Result<Option<OwnFilter>, OutOfMemory>
+    requires { IsSoundFact core.now.sets (fact core.now.tables core.now.resources c.now) }
+    ensures filter { IfOk result (IsOwnFilterIfAny core.now (fact core.now.tables core.now.resources c.now)) }
+    ensures kinds { IfOk result (IsThereForDisjunctions core.now c.now) }
+{
+    match ReifyFilter::new(alloc, core, c)? {
+        None => Ok(None),
+        Some(filter) => Ok(Some(OwnFilter::Reify(filter))),
+    }
+}
+
+impl OwnFilter {
+    /// The filter of a constraint, if its kind has one.
+    pub fn new(alloc: Global, core: &Core, c: &Cons) -> Result<Option<OwnFilter>, OutOfMemory>
+        requires { IsSoundFact core.now.sets (fact core.now.tables core.now.resources c.now) }
+        ensures filter { IfOk result (IsOwnFilterIfAny core.now (fact core.now.tables core.now.resources c.now)) }
+        ensures kinds { IfOk result (IsThereForKinds core.now c.now) }
+    {
+        match LinearFilter::new(alloc, core, c)? {
+            None => of_disjunction(alloc, core, c),
+            Some(filter) => Ok(Some(OwnFilter::Linear(filter))),
+        }
+    }
+
+    /// Removes values that the constraint refutes alone at that moment, until the family is stable for it, or until none within
+    /// is. All values must be declared. It takes no memory.
+    pub fn filter<N: Narrow>(&self, core: &Core, n: &mut N) -> Outcome
+        requires made { IsMadeWith core.now self.now }
+        requires declared { Below (N.family n.old) (declared core.now) }
+        ensures between { (c : Fact) → IsOwnFilter core.now c self.now → IsBetween (refutes c) (N.family n.old) (N.family n.new) }
+        ensures outcome { (c : Fact) → IsOwnFilter core.now c self.now → Filters (refutes c) (N.family n.old) (N.family n.new) result }
+        ensures leads_to { N.leads_to n.old n.new }
+    {
+        match self {
+            OwnFilter::Linear(filter) => filter.filter(core, n),
+            OwnFilter::Reify(filter) => filter.filter(core, n),
+        }
+    }
+}

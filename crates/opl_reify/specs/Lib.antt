@@ -1,0 +1,4 @@
+pub mod Parts
+pub mod Literals
+pub mod Rounds
+pub mod Disjunctions

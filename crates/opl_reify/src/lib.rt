@@ -1,0 +1,11 @@
+//! Filters of disjunctions whose parts compare linear sides: by one part's own filter where all others are refuted.
+#![tactic(auto)]
+
+mod filtering;
+mod making;
+mod open;
+mod part;
+mod reify_filter;
+mod rounds;
+
+pub use reify_filter::ReifyFilter;
