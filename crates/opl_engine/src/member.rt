@@ -19,8 +19,7 @@ use opl_filter::{Outcome, sweep};
 use opl_list::Seq;
 use std::rc::Rc;
 
-/// A constraint that an engine filters, by its kind. A kind with a filter of its own is one more variant, with its arm in
-/// `filter_by` and in the definitions of what a member stands for.
+/// A constraint that an engine filters, by where it comes from. Where its kind has a filter of its own, that stands beside it.
 #[derive(Drop)]
 pub enum Member {
     /// To be better than a best value, with the variables of the objective. Without an objective, or a best value yet, it asks nothing.

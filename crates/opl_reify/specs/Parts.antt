@@ -4,7 +4,7 @@ use Rattle.opl_domain.specs.Family.{Family}
 use Rattle.opl_expr.specs.declared.model.Core.{Core}
 use Rattle.opl_expr.specs.declared.forms.Op.{Op}
 use Rattle.opl_expr.specs.declared.forms.Op.TheVariants.{Eq, Ne, Lt, Le, Gt, Ge}
-use Rattle.opl_expr.specs.Forms.{Fact, Facts, fact, facts_of}
+use Rattle.opl_expr.specs.Forms.{Fact, fact, facts_of}
 use Rattle.opl_expr.specs.Range.{fact_range}
 use Rattle.opl_expr.specs.Sound.{IsSoundFact}
 use Rattle.opl_filter.specs.Mentions.{AreVariables}

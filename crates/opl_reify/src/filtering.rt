@@ -1,5 +1,5 @@
 //! The filter of a disjunction, by which of its parts are open.
-ghost use Rattle.std.specs.Prelude.{◌≡◌, ◌≢◌, ◌<◌, ℕ, length};
+ghost use Rattle.std.specs.Prelude.{◌≢◌, ◌<◌, ℕ, length};
 ghost use Rattle.opl_domain.specs.Family.{Below};
 ghost use Rattle.opl_expr.specs.Solutions.{declared};
 ghost use Rattle.opl_filter.specs.Filtering.{refutes, IsBetween, Filters};

@@ -1,8 +1,7 @@
 //! Which parts of a disjunction are open: not refuted.
 ghost use Rattle.opl_domain.specs.Family.{Below};
 ghost use Rattle.opl_expr.specs.Solutions.{declared};
-ghost use Rattle.opl_filter.specs.Filtering.{refutes};
-ghost use Rattle.opl_reify.specs.Parts.{AreParts, any_of, NextOpen};
+ghost use Rattle.opl_reify.specs.Parts.{AreParts, NextOpen};
 
 use crate::part::Part;
 use opl_domain::View;

@@ -1,5 +1,5 @@
 //! The filter of a disjunction of comparisons of linear sides.
-ghost use Rattle.std.specs.Prelude.{◌≡◌, IfOk};
+ghost use Rattle.std.specs.Prelude.{IfOk};
 ghost use Rattle.opl_domain.specs.Family.{Below};
 ghost use Rattle.opl_expr.specs.Forms.{Fact, fact};
 ghost use Rattle.opl_expr.specs.Solutions.{declared};
