@@ -1,5 +1,5 @@
 -- What holds of one test holds of another that says the same of all families within a first one.
-use Rattle.std.proofs.Common.{◌≡◌, ◌∙◌, ℕ, Bool, refl, List, [], ◌∷◌, ℤ, sym, subst}
+use Rattle.std.proofs.Common.{◌≡◌, ◌∙◌, ℕ, Bool, List, [], ◌∷◌, ℤ, sym}
 use Rattle.opl_domain.specs.Family.{Family, IsFamily, Full, Below, only, cut_of}
 use Rattle.opl_trace.specs.Stable.{IsStable, IsStableWithin}
 use Rattle.opl_trace.proofs.Families.{only_full, only_below, below_self, below_join}

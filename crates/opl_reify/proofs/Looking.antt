@@ -1,12 +1,11 @@
 -- What is known after a look at the parts, and after many.
-use Rattle.std.proofs.Common.{◌≡◌, ◌∙◌, ◌≢◌, ℕ, suc, ◌<◌, ◌≤◌, Bool, true, false, refl, List, [], ◌∷◌, length, ℤ, ap, sym, subst, arith}
-use Rattle.std.specs.Prelude.{slice_get, Option, Some, None}
-use Rattle.opl_domain.specs.Family.{Family, IsFamily, Below, Full, has, only}
+use Rattle.std.proofs.Common.{◌≡◌, ◌∙◌, ◌≢◌, ℕ, ◌≤◌, Bool, true, false, refl, List, ℤ, sym, subst, arith}
+use Rattle.std.specs.Prelude.{slice_get, Some, None}
+use Rattle.opl_domain.specs.Family.{Family, IsFamily, Below, Full, only}
 use Rattle.opl_expr.specs.declared.model.Core.{Core}
-use Rattle.opl_trace.specs.Stable.{IsMonotone, IsStable, IsGreatestStable, HasFailed}
+use Rattle.opl_trace.specs.Stable.{IsMonotone, IsStable, HasFailed}
 use Rattle.opl_trace.specs.Closure.{closure}
 use Rattle.opl_trace.specs.ClosureLaws.{ClosesTo}
-use Rattle.opl_trace.specs.Sweeps.{size}
 use Rattle.opl_trace.proofs.Families.{below_self, below_join}
 use Rattle.opl_trace.proofs.Closures.{closure_is}
 use Rattle.opl_trace.proofs.Removals.{single_fails}
@@ -14,12 +13,12 @@ use Rattle.opl_filter.specs.declared.outcome.Outcome.{Outcome}
 use Rattle.opl_filter.specs.declared.outcome.Outcome.TheVariants as outcome
 use Rattle.opl_filter.specs.Mentions.{lists}
 use Rattle.opl_filter.specs.Filtering.{refutes, IsLeftOf, IsBetween, Filters}
-use Rattle.opl_filter.specs.Rounds.{IsStuck, HasShrunk}
+use Rattle.opl_filter.specs.Rounds.{IsStuck}
 use Rattle.opl_filter.proofs.Removals.{left_self, left_join, left_sets, left_below, left_kept}
 use Rattle.opl_filter.proofs.Mentioned.{refutes_looks}
 use Rattle.opl_filter.proofs.Refuting.{refutes_falls}
 use Rattle.opl_reify.specs.declared.part.Part.{Part}
-use Rattle.opl_reify.specs.Parts.{fact_in, IsPart, AreParts, any_of, IsRefutedAt, IsOpenAt}
+use Rattle.opl_reify.specs.Parts.{fact_in, AreParts, any_of, IsRefutedAt, IsOpenAt}
 use Rattle.opl_reify.specs.Rounds.{NoneDeadInBoth, TriesShared, Looks}
 use Rattle.opl_reify.proofs.Parts.{any_refuted, each_refuted, one_open, one_left, part_at, refuted_below}
 use Rattle.opl_reify.proofs.Carrying.{SaysTheSameWithin, between_carried, outcome_carried}

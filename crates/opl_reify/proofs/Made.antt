@@ -1,5 +1,5 @@
 -- The parts that are made for constraints.
-use Rattle.std.proofs.Common.{◌≡◌, ◌∙◌, ℕ, zero, suc, ◌+◌, ◌<◌, ◌≤◌, Bool, true, false, cond, not, refl, List, [], ◌∷◌, ◌++◌, map, length, get_or, take, ℤ, ap, sym, subst, arith, Ok, Err}
+use Rattle.std.proofs.Common.{◌≡◌, ◌∙◌, ℕ, zero, suc, ◌+◌, ◌<◌, ◌≤◌, Bool, true, false, cond, not, refl, List, [], ◌∷◌, ◌++◌, map, length, get_or, take, ap, sym, subst, arith, Ok, Err}
 use Rattle.std.specs.Prelude.{Option, Some, None, IfOk}
 use Rattle.std.specs.declared.result.Result.{Result}
 use Rattle.std.proofs.Math.Path.{fun_ext}
@@ -11,9 +11,9 @@ use Rattle.opl_expr.specs.declared.forms.Op.TheVariants.{Eq, Ne, Lt, Le, Gt, Ge}
 use Rattle.opl_expr.specs.declared.forms.Expr.{Expr}
 use Rattle.opl_expr.specs.declared.forms.Cons.{Cons}
 use Rattle.opl_expr.specs.declared.forms.Cons.TheVariants as C
-use Rattle.opl_expr.specs.Forms.{Term, Fact, Facts, term, fact, facts_of, compared}
-use Rattle.opl_expr.specs.Options.{lift, lift_all}
-use Rattle.opl_expr.specs.Range.{pure, is_possible, fact_range, fact_ranges}
+use Rattle.opl_expr.specs.Forms.{Term, Fact, fact, facts_of, compared}
+use Rattle.opl_expr.specs.Options.{lift}
+use Rattle.opl_expr.specs.Range.{pure, is_possible, fact_range}
 use Rattle.opl_expr.specs.Sound.{IsSoundFact, AreSoundFacts}
 use Rattle.opl_expr.proofs.Plain.{fact_Cmp, fact_Or, fact_Imp, fact_Not}
 use Rattle.opl_filter.specs.Mentions.{AreVariables}
@@ -23,7 +23,7 @@ use Rattle.opl_linear_filter.specs.declared.linear_filter.LinearFilter.{LinearFi
 use Rattle.opl_linear_filter.specs.LinearForms.{IsFilterOf, IsFilterIfAny, ComparesLinear, IsThereFor}
 use Rattle.opl_reify.specs.declared.part.Part.{Part}
 use Rattle.opl_reify.specs.declared.reify_filter.ReifyFilter.{ReifyFilter}
-use Rattle.opl_reify.specs.Parts.{opposite_of, signed, signed_op, fact_in, IsPart, AreParts, any_of, IsPartOf, IsPartIfAny, AddsPartIfAny, ArePartsOf, ArePartsIfAny}
+use Rattle.opl_reify.specs.Parts.{opposite_of, signed, signed_op, fact_in, AreParts, any_of, IsPartOf, IsPartIfAny, AddsPartIfAny, ArePartsOf, ArePartsIfAny}
 use Rattle.opl_reify.specs.Literals.{IsLiteral, AreLiterals, SidesIfAny, IsLiteralIf, IsLiteralIfAny, AreLiteralsIfAny}
 use Rattle.opl_reify.specs.Disjunctions.{IsDisjunction, IsDisjunctionFor}
 use Rattle.opl_reify.proofs.Negation.{opposite_range, signed_not}

@@ -8,7 +8,7 @@ use Rattle.opl_domain.specs.Arithmetic.{span_add}
 use Rattle.opl_domain.specs.Family.{Family}
 use Rattle.opl_expr.specs.declared.forms.Op.{Op}
 use Rattle.opl_expr.specs.declared.forms.Op.TheVariants.{Eq, Ne, Lt, Le, Gt, Ge}
-use Rattle.opl_expr.specs.Forms.{Term, Fact, Relation, compared}
+use Rattle.opl_expr.specs.Forms.{Term, Fact, compared}
 use Rattle.opl_expr.specs.Forms.Relation.{equal, at_most, below}
 use Rattle.opl_expr.specs.Options.{lift1}
 use Rattle.opl_expr.specs.Range.{verdict, flip, with_variables, weighted, compare, coef, pure, fact_range}

@@ -1,6 +1,6 @@
 -- Which parts are open, as they are read one after another.
 use Rattle.std.proofs.Common.{◌≡◌, ◌∙◌, ◌≢◌, ℕ, zero, suc, ◌+◌, ◌<◌, ◌≤◌, Bool, true, false, refl, List, [], ◌∷◌, length, get_or, ap, sym, subst, arith, inl, inr}
-use Rattle.std.specs.Prelude.{slice_get, Option, Some, None}
+use Rattle.std.specs.Prelude.{slice_get, Some}
 use Rattle.std.proofs.lemmas.Bool.{cases_eq}
 use Rattle.std.proofs.lemmas.Bool.Decides.{leb_tells}
 use Rattle.std.proofs.lemmas.Option.{slice_get-get_or}
@@ -15,7 +15,7 @@ use Rattle.opl_filter.specs.Rounds.{AreThere}
 use Rattle.opl_filter.proofs.Mentioned.{variables_there}
 use Rattle.opl_linear_filter.specs.LinearForms.{IsMade, IsFilterOf}
 use Rattle.opl_reify.specs.declared.part.Part.{Part}
-use Rattle.opl_reify.specs.Parts.{fact_in, IsPart, AreParts, any_of, IsRefutedAt, IsOpenAt, IsNextOpen}
+use Rattle.opl_reify.specs.Parts.{fact_in, AreParts, any_of, IsRefutedAt, IsNextOpen}
 use Rattle.opl_reify.proofs.Parts.{any_refuted, each_refuted, one_open, part_at, the_one}
 
 -- ---- a part as it is read

@@ -1,6 +1,6 @@
 -- When a family refutes the disjunction of parts: where it refutes each.
-use Rattle.std.proofs.Common.{◌≡◌, ◌∙◌, ◌≢◌, ℕ, zero, suc, ◌<◌, ◌≤◌, Bool, true, false, cond, ◌&&◌, refl, List, [], ◌∷◌, length, ℤ, pos, ◌≤ℤ◌, ap, sym, subst, arith}
-use Rattle.std.specs.Prelude.{slice_get, Option, Some, None}
+use Rattle.std.proofs.Common.{◌≡◌, ◌∙◌, ◌≢◌, ℕ, zero, suc, Bool, true, false, cond, ◌&&◌, refl, List, [], ◌∷◌, length, ℤ, pos, ◌≤ℤ◌, ap, sym, subst, arith}
+use Rattle.std.specs.Prelude.{slice_get, Some}
 use Rattle.std.specs.List.{list_all}
 use Rattle.std.specs.Ordering.{int_eq}
 use Rattle.std.proofs.lemmas.Int.{ints}
@@ -13,14 +13,14 @@ use Rattle.opl_expr.specs.declared.forms.Op.TheVariants.{Eq, Ne, Lt, Le, Gt, Ge}
 use Rattle.opl_expr.specs.Forms.{Term, Fact, compared}
 use Rattle.opl_expr.specs.Forms.Relation.{equal, at_most, below}
 use Rattle.opl_expr.specs.Options.{lift, lift1}
-use Rattle.opl_expr.specs.Range.{flip, is_possible, compare, pure, fact_range, fact_ranges}
+use Rattle.opl_expr.specs.Range.{flip, is_possible, compare, pure, fact_range}
 use Rattle.opl_range.specs.Magnitudes.{IsTruth}
 use Rattle.opl_range.proofs.Weights.{fact_truth}
 use Rattle.opl_filter.specs.Filtering.{refutes}
 use Rattle.opl_filter.proofs.Refuting.{refutes_falls}
 use Rattle.opl_linear.proofs.Normal.{difference, difference_fixed, normal_range}
 use Rattle.opl_reify.specs.declared.part.Part.{Part}
-use Rattle.opl_reify.specs.Parts.{fact_in, IsPart, AreParts, any_of, IsRefutedAt, IsOpenAt}
+use Rattle.opl_reify.specs.Parts.{fact_in, IsPart, AreParts, any_of, IsRefutedAt}
 
 -- ---- a comparison of linear sides is never undefined
 

@@ -1,8 +1,7 @@
-use Rattle.std.proofs.Common.{rules, not, refl, sym, ap}
+use Rattle.std.proofs.Common.{rules, not, refl}
 use Rattle.std.proofs.lemmas.Result.{IfOk-weaker}
 use Rattle.opl_expr.specs.declared.forms.Cons.TheFolds.{the_lemmas}
 use Rattle.opl_reify.proofs.Made.{ok_both, sides_sound, comparison_literal, comparison_kind, negated_sound, negated_literal, negated_kind}
-use Rattle.opl_reify.proofs.Shapes.{no_literal}
 use Rattle.opl_reify.proofs.making.+literal.Goals as goal
 
 pub part_of-requires : goal.part_of-requires

@@ -1,4 +1,4 @@
-use Rattle.std.proofs.Common.{true, false, length, arith}
+use Rattle.std.proofs.Common.{true, false, arith}
 use Rattle.opl_reify.proofs.Opening.{read_sound, told, open_first, open_next, open_none}
 use Rattle.opl_reify.proofs.open.next_open.Goals as goal
 

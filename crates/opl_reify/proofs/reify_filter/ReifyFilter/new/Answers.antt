@@ -1,4 +1,3 @@
-use Rattle.std.proofs.Common.{refl}
 use Rattle.opl_reify.proofs.Made.{or_sound, imp_sound, or_made, imp_made, or_kind, imp_kind}
 use Rattle.opl_reify.proofs.reify_filter.ReifyFilter.new.Goals as goal
 
