@@ -1,11 +1,11 @@
 -- A filter of its own is made with the core of its constraint.
-use Rattle.std.proofs.Common.{◌≡◌, sym, subst}
+use Rattle.std.proofs.Common.{◌≡◌, subst}
 use Rattle.std.specs.Prelude.{Option, Some, None}
 use Rattle.opl_expr.specs.declared.model.Core.{Core}
 use Rattle.opl_expr.specs.declared.forms.Cons.{Cons}
 use Rattle.opl_expr.specs.Forms.{Fact}
 use Rattle.opl_linear_filter.specs.declared.linear_filter.LinearFilter.{LinearFilter}
-use Rattle.opl_linear_filter.specs.LinearForms.{ComparesLinear, IsThereFor as IsComparisonThere}
+use Rattle.opl_linear_filter.specs.LinearForms.{IsThereFor as IsComparisonThere}
 use Rattle.opl_reify.specs.declared.reify_filter.ReifyFilter.{ReifyFilter}
 use Rattle.opl_reify.specs.Disjunctions.{IsDisjunction, IsDisjunctionFor, IsThereFor as IsDisjunctionThere}
 use Rattle.opl_engine.specs.declared.own_filter.OwnFilter.{OwnFilter}
