@@ -7,3 +7,4 @@ mod Lists
 mod OwnKinds
 mod Made
 pub mod Resting
+mod SameMembers

@@ -6,19 +6,26 @@ use Rattle.opl_expr.specs.declared.forms.Cons.{Cons}
 use Rattle.opl_expr.specs.Forms.{Fact}
 use Rattle.opl_linear_filter.specs.declared.linear_filter.LinearFilter.{LinearFilter}
 use Rattle.opl_linear_filter.specs.LinearForms.{IsThereFor as IsComparisonThere}
+use Rattle.opl_all_different.specs.declared.different_filter.DifferentFilter.{DifferentFilter}
+use Rattle.opl_all_different.specs.DifferentForms.{IsThereFor as IsDifferenceThere}
 use Rattle.opl_reify.specs.declared.reify_filter.ReifyFilter.{ReifyFilter}
 use Rattle.opl_reify.specs.Disjunctions.{IsDisjunction, IsDisjunctionFor, IsThereFor as IsDisjunctionThere}
 use Rattle.opl_engine.specs.declared.own_filter.OwnFilter.{OwnFilter}
 use Rattle.opl_engine.specs.declared.own_filter.OwnFilter.TheVariants as own
-use Rattle.opl_engine.specs.OwnFilters.{IsMadeWith, IsOwnFilter, IsOwnFilterIfAny, IsThereForDisjunctions, IsThereForKinds}
+use Rattle.opl_engine.specs.OwnFilters.{IsMadeWith, IsOwnFilter, IsOwnFilterIfAny, KeepsConstraints, IsThereForDisjunctions, IsThereForDifferences, IsThereForKinds}
 
 pub made_with : (core : Core) (c : Fact) (f : OwnFilter) → IsOwnFilter core c f → IsMadeWith core f
 made_with core c (own.Linear f) i = i.comparison.difference.made
+made_with core c (own.Different f) i = i.made
 made_with core c (own.Reify f) i = i.made
 
 -- the filter that there is
 pub own_is : (core : Core) (c : Fact) (form : Option OwnFilter) (f : OwnFilter) → IsOwnFilterIfAny core c form → form ≡ Some f → IsOwnFilter core c f
 own_is core c form f i e = subst (IsOwnFilterIfAny core c) e i
+
+-- it stays the filter of the same constraints
+pub keeps : (form : Option OwnFilter) (old new : OwnFilter) → form ≡ Some old → ((core : Core) (c : Fact) → IsOwnFilter core c old → IsOwnFilter core c new) → KeepsConstraints form (Some new)
+keeps form old new e k core c i = k core c (own_is core c form old i e)
 
 pub reify_is : (core : Core) (c : Fact) (s : OwnFilter) (f : ReifyFilter) → s ≡ own.Reify f → IsOwnFilter core c s → IsDisjunctionFor core c f
 reify_is core c s f e i = subst (IsOwnFilter core c) e i
@@ -26,6 +33,10 @@ reify_is core c s f e i = subst (IsOwnFilter core c) e i
 pub none_of : (core : Core) (c : Cons) (x : Option ReifyFilter) → IsDisjunctionThere core c x → x ≡ None → IsDisjunction core c → ⊥
 none_of core c x t e = subst (IsDisjunctionThere core c) e t
 
-pub none_of_both : (core : Core) (c : Cons) (x : Option LinearFilter) → IsComparisonThere core c x → x ≡ None → (o : Option OwnFilter) → IsThereForDisjunctions core c o → IsThereForKinds core c o
-none_of_both core c x t e None h = (subst (IsComparisonThere core c) e t, h)
-none_of_both core c x t e (Some f) h = tt
+pub none_of_two : (core : Core) (c : Cons) (x : Option DifferentFilter) → IsDifferenceThere core c x → x ≡ None → (o : Option OwnFilter) → IsThereForDisjunctions core c o → IsThereForDifferences core c o
+none_of_two core c x t e None h = (subst (IsDifferenceThere core c) e t, h)
+none_of_two core c x t e (Some f) h = tt
+
+pub none_of_all : (core : Core) (c : Cons) (x : Option LinearFilter) → IsComparisonThere core c x → x ≡ None → (o : Option OwnFilter) → IsThereForDifferences core c o → IsThereForKinds core c o
+none_of_all core c x t e None h = (subst (IsComparisonThere core c) e t, h.0, h.1)
+none_of_all core c x t e (Some f) h = tt

@@ -1,7 +1,8 @@
 -- Crowds: members over some variables, some of whom wait.
-use Rattle.std.specs.Prelude.{◌≡◌, ℕ, ◌<◌, ◌^◌, Bool, true, List, map, length}
+use Rattle.std.specs.Prelude.{◌≡◌, ℕ, ◌<◌, ◌^◌, Bool, List, map, length}
+use Rattle.opl_expr.specs.declared.model.Core.{Core}
 use Rattle.opl_closure.specs.Members.{AreWatched}
-use Rattle.opl_engine.specs.Members.{wakes_on}
+use Rattle.opl_engine.specs.Members.{fact_of, wakes_on, IsMember}
 use Rattle.opl_engine.specs.declared.member.Member.{Member}
 use Rattle.opl_engine.specs.declared.member.Member.TheVariants as member
 
@@ -23,3 +24,10 @@ kind_of (member.Bound best variables) = 0
 kind_of (member.Declared k variables form) = 1
 kind_of (member.Posted c variables form) = 2
 kind_of (member.Value x v) = 3
+
+-- the same member, whatever its own filter notes: one of the same cores and kind, for the same constraint, woken by the same variables
+pub record IsSameMember (old new : Member) : Type 0 where
+  pub constraint : (core : Core) → fact_of core new ≡ fact_of core old
+  pub made : (core : Core) → IsMember core old → IsMember core new
+  pub woken : (x : ℕ) → wakes_on new x ≡ wakes_on old x
+  pub kind : kind_of new ≡ kind_of old

@@ -4,6 +4,7 @@ use Rattle.opl_expr.specs.declared.model.Core.{Core}
 use Rattle.opl_expr.specs.declared.forms.Cons.{Cons}
 use Rattle.opl_expr.specs.Forms.{Fact}
 use Rattle.opl_linear_filter.specs.LinearForms.{IsMade, IsFilterOf, ComparesLinear}
+use Rattle.opl_all_different.specs.DifferentForms.{IsMade as IsMadeOfSingles, IsFilterOf as IsDifferenceFor, SeparatesVariables}
 use Rattle.opl_reify.specs.Disjunctions.{IsMadeOfParts, IsDisjunctionFor, IsDisjunction}
 use Rattle.opl_engine.specs.declared.own_filter.OwnFilter.{OwnFilter}
 use Rattle.opl_engine.specs.declared.own_filter.OwnFilter.TheVariants as own
@@ -11,11 +12,13 @@ use Rattle.opl_engine.specs.declared.own_filter.OwnFilter.TheVariants as own
 -- a filter was made with a core
 abbrev pub IsMadeWith : Core → OwnFilter → Type 0
 IsMadeWith core (own.Linear f) = IsMade core f
+IsMadeWith core (own.Different f) = IsMadeOfSingles core f
 IsMadeWith core (own.Reify f) = IsMadeOfParts core f
 
 -- it is the filter of a constraint
 abbrev pub IsOwnFilter : Core → Fact → OwnFilter → Type 0
 IsOwnFilter core c (own.Linear f) = IsFilterOf core c f
+IsOwnFilter core c (own.Different f) = IsDifferenceFor core c f
 IsOwnFilter core c (own.Reify f) = IsDisjunctionFor core c f
 
 -- a filter, where there is one, is that of a constraint
@@ -23,12 +26,21 @@ abbrev pub IsOwnFilterIfAny : Core → Fact → Option OwnFilter → Type 0
 IsOwnFilterIfAny core c None = Unit {0}
 IsOwnFilterIfAny core c (Some f) = IsOwnFilter core c f
 
+-- of whichever constraint the old filter is, the new one is too
+abbrev pub KeepsConstraints : Option OwnFilter → Option OwnFilter → Type 0
+KeepsConstraints old new = (core : Core) (c : Fact) → IsOwnFilterIfAny core c old → IsOwnFilterIfAny core c new
+
 -- each disjunction whose parts compare linear sides has a filter
 abbrev pub IsThereForDisjunctions : Core → Cons → Option OwnFilter → Type 0
 IsThereForDisjunctions core c None = IsDisjunction core c → ⊥
 IsThereForDisjunctions core c (Some f) = Unit {0}
 
--- so has each constraint of one of the kinds above
+-- so has each alldifferent of linear parts with at most one variable each, no two of them the same
+abbrev pub IsThereForDifferences : Core → Cons → Option OwnFilter → Type 0
+IsThereForDifferences core c None = (SeparatesVariables core c → ⊥) × (IsDisjunction core c → ⊥)
+IsThereForDifferences core c (Some f) = Unit {0}
+
+-- and so has each comparison of linear sides
 abbrev pub IsThereForKinds : Core → Cons → Option OwnFilter → Type 0
-IsThereForKinds core c None = (ComparesLinear core c → ⊥) × (IsDisjunction core c → ⊥)
+IsThereForKinds core c None = (ComparesLinear core c → ⊥) × (SeparatesVariables core c → ⊥) × (IsDisjunction core c → ⊥)
 IsThereForKinds core c (Some f) = Unit {0}

@@ -7,8 +7,9 @@ ghost use Rattle.opl_filter.specs.Mentions.{lists};
 ghost use Rattle.opl_filter.specs.Filtering.{refutes, IsBetween, Filters};
 ghost use Rattle.opl_trace.specs.Marks.{objective};
 ghost use Rattle.opl_trace.specs.Objective.{Objective};
-ghost use Rattle.opl_engine.specs.OwnFilters.{IsOwnFilterIfAny};
+ghost use Rattle.opl_engine.specs.OwnFilters.{IsOwnFilterIfAny, KeepsConstraints};
 ghost use Rattle.opl_engine.specs.Members.{bound_fact, fact_of, wakes_on, AreThere, IsListed, IsGoal, IsMember};
+ghost use Rattle.opl_engine.specs.Crowds.{IsSameMember};
 
 use crate::bound::keep_better;
 use crate::own_filter::OwnFilter;
@@ -80,15 +81,16 @@ fn filter_constraint<N: Narrow>(
     core: &Core,
     c: &Cons,
     variables: &[u32],
-    form: &Option<OwnFilter>,
+    form: &mut Option<OwnFilter>,
     n: &mut N,
 ) -> Outcome
     requires listed { IsListed core.now (fact core.now.tables core.now.resources c.now) variables.now }
-    requires form { IsOwnFilterIfAny core.now (fact core.now.tables core.now.resources c.now) form.now }
+    requires form { IsOwnFilterIfAny core.now (fact core.now.tables core.now.resources c.now) form.old }
     requires declared { Below (N.family n.old) (declared core.now) }
     ensures between { IsBetween (refutes (fact core.now.tables core.now.resources c.now)) (N.family n.old) (N.family n.new) }
     ensures outcome { Filters (refutes (fact core.now.tables core.now.resources c.now)) (N.family n.old) (N.family n.new) result }
     ensures leads_to { N.leads_to n.old n.new }
+    ensures form { KeepsConstraints form.old form.new }
 {
     match form {
         None => sweep(core, c, variables, n),
@@ -97,12 +99,13 @@ fn filter_constraint<N: Narrow>(
 }
 
 /// What a member's filter does.
-fn filter_by<N: Narrow>(member: &Member, core: &Core, n: &mut N) -> Outcome
-    requires made { IsMember core.now member.now }
+fn filter_by<N: Narrow>(member: &mut Member, core: &Core, n: &mut N) -> Outcome
+    requires made { IsMember core.now member.old }
     requires declared { Below (N.family n.old) (declared core.now) }
-    ensures between { IsBetween (refutes (fact_of core.now member.now)) (N.family n.old) (N.family n.new) }
-    ensures outcome { Filters (refutes (fact_of core.now member.now)) (N.family n.old) (N.family n.new) result }
+    ensures between { IsBetween (refutes (fact_of core.now member.old)) (N.family n.old) (N.family n.new) }
+    ensures outcome { Filters (refutes (fact_of core.now member.old)) (N.family n.old) (N.family n.new) result }
     ensures leads_to { N.leads_to n.old n.new }
+    ensures same { IsSameMember member.old member.new }
 {
     match member {
         Member::Bound(best, variables) => filter_bound(core, *best, variables.as_slice(), n),
@@ -111,9 +114,9 @@ fn filter_by<N: Narrow>(member: &Member, core: &Core, n: &mut N) -> Outcome
             Some(c) => filter_constraint(core, c, variables.as_slice(), form, n),
         },
         Member::Posted(c, variables, form) => {
-            filter_constraint(core, c.as_ref(), variables.as_slice(), form, n)
+            filter_constraint(core, c, variables.as_slice(), form, n)
         }
-        Member::Value(x, v) => keep_value(n, *x, *v),
+        &mut Member::Value(x, v) => keep_value(n, x, v),
     }
 }
 
@@ -133,7 +136,7 @@ impl Propagator for Member {
     ghost kind = { kind_of };
 
     fn filter<N: Narrow>(&mut self, core: &Core, n: &mut N) -> Outcome {
-        filter_by(&*self, core, n)
+        filter_by(self, core, n)
     }
 
     fn refresh(&mut self, _core: &Core) {}

@@ -1,12 +1,14 @@
 //! Filters of their own that some kinds of constraints have.
 ghost use Rattle.std.specs.Prelude.{IfOk};
 ghost use Rattle.opl_domain.specs.Family.{Below};
+ghost use Rattle.opl_expr.specs.declared.model.Core.{Core};
 ghost use Rattle.opl_expr.specs.Forms.{Fact, fact};
 ghost use Rattle.opl_expr.specs.Solutions.{declared};
 ghost use Rattle.opl_expr.specs.Sound.{IsSoundFact};
 ghost use Rattle.opl_filter.specs.Filtering.{refutes, IsBetween, Filters};
-ghost use Rattle.opl_engine.specs.OwnFilters.{IsMadeWith, IsOwnFilter, IsOwnFilterIfAny, IsThereForDisjunctions, IsThereForKinds};
+ghost use Rattle.opl_engine.specs.OwnFilters.{IsMadeWith, IsOwnFilter, IsOwnFilterIfAny, IsThereForDisjunctions, IsThereForDifferences, IsThereForKinds};
 
+use opl_all_different::DifferentFilter;
 use opl_domain::{Narrow, OutOfMemory};
 use opl_expr::{Cons, Core};
 use opl_filter::Outcome;
@@ -20,6 +22,8 @@ use std::alloc::Global;
 pub enum OwnFilter {
     /// That of a comparison of linear sides.
     Linear(LinearFilter),
+    /// That of `alldifferent` over linear parts with at most one variable each, no two of them the same.
+    Different(DifferentFilter),
     /// That of a disjunction whose parts compare linear sides.
     Reify(ReifyFilter),
 }
@@ -36,6 +40,18 @@ fn of_disjunction(alloc: Global, core: &Core, c: &Cons) -> Result<Option<OwnFilt
     }
 }
 
+/// The filter of `alldifferent` over parts of one variable each, or that of a disjunction, if the constraint is one of these.
+fn of_difference(alloc: Global, core: &Core, c: &Cons) -> Result<Option<OwnFilter>, OutOfMemory>
+    requires { IsSoundFact core.now.sets (fact core.now.tables core.now.resources c.now) }
+    ensures filter { IfOk result (IsOwnFilterIfAny core.now (fact core.now.tables core.now.resources c.now)) }
+    ensures kinds { IfOk result (IsThereForDifferences core.now c.now) }
+{
+    match DifferentFilter::new(alloc, core, c)? {
+        None => of_disjunction(alloc, core, c),
+        Some(filter) => Ok(Some(OwnFilter::Different(filter))),
+    }
+}
+
 impl OwnFilter {
     /// The filter of a constraint, if its kind has one.
     pub fn new(alloc: Global, core: &Core, c: &Cons) -> Result<Option<OwnFilter>, OutOfMemory>
@@ -44,22 +60,25 @@ impl OwnFilter {
         ensures kinds { IfOk result (IsThereForKinds core.now c.now) }
     {
         match LinearFilter::new(alloc, core, c)? {
-            None => of_disjunction(alloc, core, c),
+            None => of_difference(alloc, core, c),
             Some(filter) => Ok(Some(OwnFilter::Linear(filter))),
         }
     }
 
     /// Removes values that the constraint refutes alone at that moment, until the family is stable for it, or until none within
-    /// is. All values must be declared. It takes no memory.
-    pub fn filter<N: Narrow>(&self, core: &Core, n: &mut N) -> Outcome
-        requires made { IsMadeWith core.now self.now }
+    /// is. All values must be declared. It takes no memory. The filter stays that of the same constraints.
+    pub fn filter<N: Narrow>(&mut self, core: &Core, n: &mut N) -> Outcome
+        requires made { IsMadeWith core.now self.old }
         requires declared { Below (N.family n.old) (declared core.now) }
-        ensures between { (c : Fact) → IsOwnFilter core.now c self.now → IsBetween (refutes c) (N.family n.old) (N.family n.new) }
-        ensures outcome { (c : Fact) → IsOwnFilter core.now c self.now → Filters (refutes c) (N.family n.old) (N.family n.new) result }
+        ensures between { (c : Fact) → IsOwnFilter core.now c self.old → IsBetween (refutes c) (N.family n.old) (N.family n.new) }
+        ensures outcome { (c : Fact) → IsOwnFilter core.now c self.old → Filters (refutes c) (N.family n.old) (N.family n.new) result }
         ensures leads_to { N.leads_to n.old n.new }
+        ensures made { (d : Core) → IsMadeWith d self.old → IsMadeWith d self.new }
+        ensures constraint { (d : Core) (c : Fact) → IsOwnFilter d c self.old → IsOwnFilter d c self.new }
     {
         match self {
             OwnFilter::Linear(filter) => filter.filter(core, n),
+            OwnFilter::Different(filter) => filter.filter(core, n),
             OwnFilter::Reify(filter) => filter.filter(core, n),
         }
     }

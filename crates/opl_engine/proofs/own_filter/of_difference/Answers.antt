@@ -1,0 +1,6 @@
+use Rattle.std.proofs.lemmas.Result.{IfOk-weaker}
+use Rattle.opl_engine.proofs.OwnKinds.{none_of_two}
+use Rattle.opl_engine.proofs.own_filter.of_difference.Goals as goal
+
+pub returns-in-None-clause-kinds : goal.returns-in-None-clause-kinds
+returns-in-None-clause-kinds c = IfOk-weaker c.of_disjunction.result _ _ (none_of_two c.args.core.now c.args.c.now c.in_ok-new.field-0 c.in_ok-new.ensures.kind c.in-None.is) c.of_disjunction.ensures.kinds
