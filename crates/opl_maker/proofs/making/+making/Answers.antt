@@ -419,7 +419,7 @@ element-returns-in-Ok t c =
     (sym (own-places (sets c.args.site.context.now) (arrays c.args.site.context.now) c.args.site.context.now.item Form c.args.before [] ds c.in_ok-places.places.items (F c.args.before k) (c.in_ok-places.ensures (sees c.args.scope))))
     (parts-made c.args.site.context.now c.args.before (onto (maker c.args.site) c.args.before [] ds) (λ n gs. F n k c.in_ok-places.places.items gs) c.in-Ok.parts c.indexed.result c.in-Ok.ensures
     (subst (λ (j : Option ℕ). Makes c.args.site.context.now (F c.in-Ok.parts.before j c.in_ok-places.places.items (forms c.in-Ok.parts.items)) c.indexed.result) c.in_ok-array.ensures
-    (subst (λ (ps : List ℕ). Makes c.args.site.context.now (F c.in-Ok.parts.before c.in_ok-array.array ps (forms c.in-Ok.parts.items)) c.indexed.result) c.as_slice.ensures.value c.indexed.ensures)))
+    (subst (λ (ps : List ℕ). Makes c.args.site.context.now (F c.in-Ok.parts.before c.in_ok-array.array ps (forms c.in-Ok.parts.items)) c.indexed.result) c.as_slice.ensures c.indexed.ensures)))
 
 -- ---- whole expressions
 
