@@ -7,7 +7,7 @@ use Rattle.std.proofs.Math.Seq.{map-set_same}
 use Rattle.std.proofs.lemmas.Option.{slice_get-map, slice_get-get_or}
 use Rattle.std.specs.Option.{option_map}
 use Rattle.std.proofs.lemmas.List.{get_or-set_same, get_or-set_other, length-set}
-use Rattle.opl_domain.specs.Family.{Family, set_of, only, Below, Full, IsFamily}
+use Rattle.opl_domain.specs.Family.{Family, set_of, hull, only, Below, Full, IsFamily}
 use Rattle.opl_domain.proofs.Sets.{only_here, only_there, length-only}
 use Rattle.opl_expr.specs.Forms.{Fact}
 use Rattle.opl_expr.specs.Range.{is_possible}
@@ -121,8 +121,8 @@ plus_one_times : (a b : ℕ) → (a + 1) * b ≡ a * b + b
 plus_one_times a b = grind arith
 
 -- the measure falls in a turn: F before, G afterwards; w before, u once member i was taken, v once it has run, and then it is done
-pub turn_ends : (F G : Family) (w u v : List Bool) (i : ℕ) (s : ℕ → ℕ → Bool) → i < length w → waits w i ≡ true → u ≡ set w i false → Wakes s u F v G → size G * suc (length (set v i false)) + count_waits (set v i false) < size F * suc (length w) + count_waits w
-turn_ends F G w u v i s l h e k =
+pub turn_ends : (F G : Family) (w u v : List Bool) (i : ℕ) (s d : ℕ → ℕ → Bool) → i < length w → waits w i ≡ true → u ≡ set w i false → Wakes s d u F v G → size G * suc (length (set v i false)) + count_waits (set v i false) < size F * suc (length w) + count_waits w
+turn_ends F G w u v i s d l h e k =
     let n : length v ≡ length w = k.same ∙ ap length e ∙ length-set w i false in
     let m = length-set v i false in
     let long : length (set v i false) ≡ length w = m ∙ n in
@@ -138,36 +138,36 @@ turn_ends F G w u v i s l h e k =
 
 -- ---- a turn
 
--- a member whose watched sets stay is stable still
-abbrev pub Settles : List (List ℕ) → List Fact → Type 0
-Settles watchers ms = Each (λ i c. (F G : Family) → IsStable (refutes c) F → Full G → Below G F → ((x : ℕ) → watches watchers i x ≡ true → set_of G x ≡ set_of F x) → IsStable (refutes c) G) ms
+-- a member of n variables whose watched sets stay, and whose watched ends do, is stable still
+abbrev pub Settles : ℕ → List (List ℕ) → List (List ℕ) → List Fact → Type 0
+Settles n watchers end_watchers ms = Each (λ i c. (F G : Family) → length F ≡ n → IsStable (refutes c) F → Full G → Below G F → ((x : ℕ) → watches watchers i x ≡ true → set_of G x ≡ set_of F x) → ((x : ℕ) → watches end_watchers i x ≡ true → hull G x ≡ hull F x) → IsStable (refutes c) G) ms
 
 inside : {A : Type 0} (xs : List A) (i : ℕ) (a : A) → slice_get xs i ≡ Some a → i < length xs
 inside [] i a h = cc
 inside (x ∷ xs) zero a h = omega arith
 inside (x ∷ xs) (suc i) a h = let r = inside xs i a h in omega (arith, r)
 
-pub wait_next : (watchers : List (List ℕ)) (ms : List Fact) (c : Fact) (w u v : List Bool) (F G : Family) (i : ℕ) → length w ≡ length ms → Settles watchers ms → Full G → slice_get ms i ≡ Some c → u ≡ set w i false → WaitOrAreStable ms w F → Wakes (watches watchers) u F v G → IsStable (refutes c) G → WaitOrAreStable ms (set v i false) G
-wait_next watchers ms c w u v F G i many look full here e fits k s j d h q =
+pub wait_next : (n : ℕ) (watchers end_watchers : List (List ℕ)) (ms : List Fact) (c : Fact) (w u v : List Bool) (F G : Family) (i : ℕ) → length w ≡ length ms → length F ≡ n → Settles n watchers end_watchers ms → Full G → slice_get ms i ≡ Some c → u ≡ set w i false → WaitOrAreStable ms w F → Wakes (watches watchers) (watches end_watchers) u F v G → IsStable (refutes c) G → WaitOrAreStable ms (set v i false) G
+wait_next long watchers end_watchers ms c w u v F G i many wide look full here e fits k s j d h q =
     elim (cases_eq j i) [
       | inl a ↦ let b : Some c ≡ Some d = sym here ∙ ap (slice_get ms) (sym a) ∙ h in subst (λ f. IsStable (refutes f) G) (the_same c d b) s
       | inr n ↦
           let p : waits v j ≡ false = sym (get_or-set_other v i j false false n) ∙ q in
           let r = k.woken j (omega (arith, inside ms j d h, many, ap length e, length-set w i false)) p in
           let o : waits w j ≡ false = sym (get_or-set_other w i j false false n) ∙ sym (ap (λ z. waits z j) e) ∙ r.0 in
-          look j d h F G (fits j d h o) full k.below r.1
+          look j d h F G wide (fits j d h o) full k.below r.1 r.2
     ]
 
 -- a member that fails waits again
-pub wait_failed : (watchers : List (List ℕ)) (ms : List Fact) (w u v : List Bool) (F G : Family) (i : ℕ) → length w ≡ length ms → Settles watchers ms → Full G → i < length v → u ≡ set w i false → WaitOrAreStable ms w F → Wakes (watches watchers) u F v G → WaitOrAreStable ms (set v i true) G
-wait_failed watchers ms w u v F G i many look full l e fits k j d h q =
+pub wait_failed : (n : ℕ) (watchers end_watchers : List (List ℕ)) (ms : List Fact) (w u v : List Bool) (F G : Family) (i : ℕ) → length w ≡ length ms → length F ≡ n → Settles n watchers end_watchers ms → Full G → i < length v → u ≡ set w i false → WaitOrAreStable ms w F → Wakes (watches watchers) (watches end_watchers) u F v G → WaitOrAreStable ms (set v i true) G
+wait_failed long watchers end_watchers ms w u v F G i many wide look full l e fits k j d h q =
     elim (cases_eq j i) [
       | inl a ↦ absurd (let p : waits (set v i true) i ≡ true = get_or-set_same v i true false l in let r = subst (λ z. waits (set v i true) z ≡ false) a q in cc)
       | inr n ↦
           let p : waits v j ≡ false = sym (get_or-set_other v i j true false n) ∙ q in
           let r = k.woken j (omega (arith, inside ms j d h, many, ap length e, length-set w i false)) p in
           let o : waits w j ≡ false = sym (get_or-set_other w i j false false n) ∙ sym (ap (λ z. waits z j) e) ∙ r.0 in
-          look j d h F G (fits j d h o) full k.below r.1
+          look j d h F G wide (fits j d h o) full k.below r.1 r.2
     ]
 
 pub left_next : (ms : List Fact) (c : Fact) (D F G : Family) (i : ℕ) → slice_get ms i ≡ Some c → IsLeftOf (refutes_one ms) D F → IsBetween (refutes c) F G → IsLeftOf (refutes_one ms) D G
@@ -218,10 +218,10 @@ pub to_map : {A B : Type 0} (f : A → B) (xs : List A) (i : ℕ) (a : A) → sl
 to_map f xs i a h = slice_get-map f xs i ∙ ap (option_map f) h
 
 -- what the law of each member tells of its constraint and those who wake it
-pub settled : {A : Type 0} (watchers : List (List ℕ)) (xs : List A) (constraint : A → Fact) (woken_by : A → ℕ → Bool) (made : A → Type 0) →
-    ((a : A) (F G : Family) → made a → IsStable (refutes (constraint a)) F → Full G → Below G F → ((x : ℕ) → woken_by a x ≡ true → set_of G x ≡ set_of F x) → IsStable (refutes (constraint a)) G) →
-    Each (λ i a. made a) xs → AreWatched watchers (map woken_by xs) → Settles watchers (map constraint xs)
-settled watchers xs constraint woken_by made law m w i c h F G s g b same =
+pub settled : {A : Type 0} (n : ℕ) (watchers end_watchers : List (List ℕ)) (xs : List A) (constraint : A → Fact) (woken_by woken_by_ends : A → ℕ → Bool) (made : A → Type 0) →
+    ((a : A) (F G : Family) → made a → length F ≡ n → IsStable (refutes (constraint a)) F → Full G → Below G F → ((x : ℕ) → woken_by a x ≡ true → set_of G x ≡ set_of F x) → ((x : ℕ) → woken_by_ends a x ≡ true → hull G x ≡ hull F x) → IsStable (refutes (constraint a)) G) →
+    Each (λ i a. made a) xs → AreWatched watchers (map woken_by xs) → AreWatched end_watchers (map woken_by_ends xs) → Settles n watchers end_watchers (map constraint xs)
+settled n watchers end_watchers xs constraint woken_by woken_by_ends made law m w v i c h F G wide s g b same ends =
     let r = from_map constraint xs i c h in
     subst (λ d. IsStable (refutes d) G) (sym r.2)
-    (law r.0 F G (m i r.0 r.1) (subst (λ d. IsStable (refutes d) F) r.2 s) g b (λ x k. same x (w i (woken_by r.0) (to_map woken_by xs i r.0 r.1) x k)))
+    (law r.0 F G (m i r.0 r.1) wide (subst (λ d. IsStable (refutes d) F) r.2 s) g b (λ x k. same x (w i (woken_by r.0) (to_map woken_by xs i r.0 r.1) x k)) (λ x k. ends x (v i (woken_by_ends r.0) (to_map woken_by_ends xs i r.0 r.1) x k)))

@@ -1,20 +1,21 @@
 -- Who is woken.
 use Rattle.std.proofs.Common.{append-nil, add-one, map, replicate, ◌≡◌, ◌∙◌, ℕ, zero, suc, ◌+◌, ◌<◌, ◌≤◌, ◌⊎◌, Bool, true, false, ◌||◌, cond, refl, List, [], ◌∷◌, ◌++◌, length, get_or, set, take, ℤ, ◌≤ℤ◌, ◌<ℤ◌, ap, sym, subst, arith, inl, inr}
-use Rattle.std.specs.Prelude.{◌-◌, nat_eq, int_lt, int_le, slice_get, Option, Some, None}
+use Rattle.std.specs.Prelude.{◌-◌, ◌≢◌, nat_eq, int_lt, int_le, slice_get, Option, Some, None}
 use Rattle.std.specs.Option.{option_to_list}
 use Rattle.std.specs.List.{filter}
 use Rattle.std.proofs.lemmas.Int.{ints}
 use Rattle.std.proofs.lemmas.Bool.{cases_eq, cases_lt}
 use Rattle.std.proofs.lemmas.Bool.Decides.{nat_tests}
 use Rattle.std.proofs.lemmas.List.{get_or-set_same, get_or-set_other, length-append, length-map, map-set, take_more}
-use Rattle.opl_domain.specs.Family.{Family, member, is_outside, outside, set_of, cut_of, IsLeastAbove}
-use Rattle.opl_domain.proofs.Members.{member_cases, member_first, member_later}
+use Rattle.opl_domain.specs.Span.{Span, hull_of, hull_some}
+use Rattle.opl_domain.specs.Family.{Family, member, is_outside, outside, set_of, hull, cut_of, IsLeast, IsGreatest, IsLeastAbove}
+use Rattle.opl_domain.proofs.Members.{member_cases, member_first, member_later, member_filter, from_filter, hull_is}
 use Rattle.opl_domain.proofs.Sets.{cut_here, cut_there}
 use Rattle.opl_trace.specs.Sweeps.{size}
 use Rattle.opl_trace.proofs.Removals.{lt_or_eq}
 use Rattle.opl_filter.specs.Mentions.{lists}
 use Rattle.opl_filter.proofs.Removals.{cut_below}
-use Rattle.opl_closure.specs.Waits.{waits, watches, Between, Wakes}
+use Rattle.opl_closure.specs.Waits.{waits, watches, Between, Wakes, WakesFor}
 
 pub listed_at : (js : List ℕ) (k : ℕ) → k < length js → lists js (get_or js k 0) ≡ true
 listed_at [] k l = absurd (omega arith)
@@ -130,35 +131,91 @@ all_pass : (p : ℤ → Bool) (vs : List ℤ) → ((u : ℤ) → member u vs ≡
 all_pass p [] h = refl
 all_pass p (v ∷ vs) h = rw (h v (member_first v vs), all_pass p vs (λ u m. h u (member_later u v vs m))) refl
 
--- a set loses a value, and who watches it is woken
-pub wakes_cut : (watchers : List (List ℕ)) (old new : List Bool) (F : Family) (x : ℕ) (lo hi : ℤ) → x < length F → Between (set_of F x) lo hi true → length new ≡ length old → ((i : ℕ) → i < length old → waits new i ≡ (waits old i || watches watchers i x)) → Wakes (watches watchers) old F new (cut_of F x lo hi)
+-- one list alone was woken, and the ends stay
+pub woken_once : (watchers end_watchers : List (List ℕ)) (old new : List Bool) (F : Family) (x : ℕ) (G : Family) → hull G x ≡ hull F x → length new ≡ length old → ((i : ℕ) → i < length old → waits new i ≡ (waits old i || watches watchers i x)) → WakesFor watchers end_watchers old new F x G
+woken_once watchers end_watchers old new F x G stay s w = record {
+  same = s;
+  woken = λ i l h. let p = or_parts (waits old i) (watches watchers i x) (sym (w i l) ∙ h) in (p.0, p.1, inr stay);
+}
+
+-- both lists were woken
+pub woken_twice : (watchers end_watchers : List (List ℕ)) (old middle new : List Bool) (F : Family) (x : ℕ) (G : Family) → length middle ≡ length old → ((i : ℕ) → i < length old → waits middle i ≡ (waits old i || watches watchers i x)) →
+    length new ≡ length middle → ((i : ℕ) → i < length middle → waits new i ≡ (waits middle i || watches end_watchers i x)) → WakesFor watchers end_watchers old new F x G
+woken_twice watchers end_watchers old middle new F x G s w t v = record {
+  same = t ∙ s;
+  woken = λ i l h.
+      let p = or_parts (waits middle i) (watches end_watchers i x) (sym (v i (omega (arith, l, s))) ∙ h) in
+      let q = or_parts (waits old i) (watches watchers i x) (sym (w i l) ∙ p.0) in
+      (q.0, q.1, inl p.1);
+}
+
+hull_there : (F : Family) (x y : ℕ) (lo hi : ℤ) → y ≢ x → hull (cut_of F x lo hi) y ≡ hull F y
+unfolding hull
+hull_there F x y lo hi n = ap hull_of (cut_there F x y lo hi n)
+
+-- a set loses a value; who watches it is woken, and so is who watches its ends, or these stay
+pub wakes_cut : (watchers end_watchers : List (List ℕ)) (old new : List Bool) (F : Family) (x : ℕ) (lo hi : ℤ) → x < length F → Between (set_of F x) lo hi true → WakesFor watchers end_watchers old new F x (cut_of F x lo hi) → Wakes (watches watchers) (watches end_watchers) old F new (cut_of F x lo hi)
 unfolding cut_of
-wakes_cut watchers old new F x lo hi l b s w =
+wakes_cut watchers end_watchers old new F x lo hi l b w =
     let k = size_set F x (outside lo hi (set_of F x)) l in
     let m = strictly (is_outside lo hi) (set_of F x) b.0 b.1 b.2 in
     record {
-      same = s;
+      same = w.same;
       below = cut_below F x lo hi;
       smaller = omega (arith, k, m);
-      woken = λ i n h. let e : (waits old i || watches watchers i x) ≡ false = sym (w i n) ∙ h in let p = or_parts (waits old i) (watches watchers i x) e in
-          (p.0, λ y q. elim (cases_eq y x) [ inl j ↦ absurd (let r = subst (λ z. watches watchers i z ≡ true) j q in cc) | inr d ↦ cut_there F x y lo hi d ]);
+      woken = λ i n h. let p = w.woken i n h in (
+        p.0,
+        λ y q. elim (cases_eq y x) [ inl j ↦ absurd (let r = subst (λ z. watches watchers i z ≡ true) j q in let f = p.1 in cc) | inr d ↦ cut_there F x y lo hi d ],
+        λ y q. elim (cases_eq y x) [
+          | inl j ↦ elim p.2 [
+            | inl f ↦ absurd (let r = subst (λ z. watches end_watchers i z ≡ true) j q in cc)
+            | inr e ↦ subst (λ z. hull (cut_of F x lo hi) z ≡ hull F z) (sym j) e
+          ]
+          | inr d ↦ hull_there F x y lo hi d
+        ],
+      );
       ends = inl (omega (arith, k, m));
     }
 
+hull_same : (G F : Family) (y : ℕ) → set_of G y ≡ set_of F y → hull G y ≡ hull F y
+unfolding hull
+hull_same G F y e = ap hull_of e
+
 -- no set loses a value
-pub wakes_none : (watchers : List (List ℕ)) (w : List Bool) (F : Family) (x : ℕ) (lo hi : ℤ) → x < length F → Between (set_of F x) lo hi false → Wakes (watches watchers) w F w (cut_of F x lo hi)
+pub wakes_none : (watchers end_watchers : List (List ℕ)) (w : List Bool) (F : Family) (x : ℕ) (lo hi : ℤ) → x < length F → Between (set_of F x) lo hi false → Wakes (watches watchers) (watches end_watchers) w F w (cut_of F x lo hi)
 unfolding cut_of
-wakes_none watchers w F x lo hi l b =
+wakes_none watchers end_watchers w F x lo hi l b =
     let e : outside lo hi (set_of F x) ≡ set_of F x = all_pass (is_outside lo hi) (set_of F x) b in
     let k = size_set F x (outside lo hi (set_of F x)) l in
     let n = ap length e in
+    let same : (y : ℕ) → set_of (cut_of F x lo hi) y ≡ set_of F y = λ y.
+        elim (cases_eq y x) [ inl j ↦ subst (λ z. set_of (cut_of F x lo hi) z ≡ set_of F z) (sym j) (cut_here F x lo hi l ∙ e) | inr n ↦ cut_there F x y lo hi n ] in
     record {
       same = refl;
       below = cut_below F x lo hi;
       smaller = omega (arith, k, n);
-      woken = λ i m h. (h, λ y q. elim (cases_eq y x) [ inl j ↦ subst (λ z. set_of (cut_of F x lo hi) z ≡ set_of F z) (sym j) (cut_here F x lo hi l ∙ e) | inr n ↦ cut_there F x y lo hi n ]);
+      woken = λ i m h. (h, λ y q. same y, λ y q. hull_same (cut_of F x lo hi) F y (same y));
       ends = inr refl;
     }
+
+the_span : (a b : Span) → Some a ≡ Some b → a ≡ b
+the_span a b h = cc
+
+hull_by_ends : (vs : List ℤ) (l h : ℤ) → member l vs ≡ true → hull_some vs ≡ Some (record { low = l; high = h }) → hull_of vs ≡ record { low = l; high = h }
+hull_by_ends [] l h m e = cc
+hull_by_ends (v ∷ vs) l h m e = the_span (hull_of (v ∷ vs)) (record { low = l; high = h }) e
+
+-- what goes lies between the ends of a set: they stay
+pub ends_stay : (F : Family) (x : ℕ) (lo hi l h : ℤ) → x < length F → IsLeast (set_of F x) l → IsGreatest (set_of F x) h → l <ℤ lo → hi <ℤ h → hull (cut_of F x lo hi) x ≡ hull F x
+unfolding hull
+ends_stay F x lo hi l h k a b c d =
+    let vs = set_of F x in
+    let inside : member l (outside lo hi vs) ≡ true = member_filter (is_outside lo hi) vs l a.among (outside_cases lo hi l (inl c)) in
+    let upper : member h (outside lo hi vs) ≡ true = member_filter (is_outside lo hi) vs h b.among (outside_cases lo hi h (inr d)) in
+    let all : hull_some vs ≡ Some (record { low = l; high = h }) = hull_is vs l h a.among b.among (λ u m. (a.least u m, b.most u m)) in
+    let rest : hull_some (outside lo hi vs) ≡ Some (record { low = l; high = h }) =
+        hull_is (outside lo hi vs) l h inside upper (λ u m. let r = from_filter (is_outside lo hi) vs u m in (a.least u r.0, b.most u r.0)) in
+    ap hull_of (cut_here F x lo hi k) ∙ hull_by_ends (outside lo hi vs) l h inside rest ∙ sym (hull_by_ends vs l h a.among all)
 
 -- ---- lists that grow and shrink at their ends
 

@@ -21,6 +21,7 @@ fn run<F: Propagator, N: Narrow>(
     core: &Core,
     filter: &mut F,
     watchers: &Watchers,
+    end_watchers: &Watchers,
     waiting: &mut Waiting,
     n: &mut N,
 ) -> Outcome
@@ -34,20 +35,22 @@ fn run<F: Propagator, N: Narrow>(
     ensures constraint { (d : Core) → F.constraint filter.new d ≡ F.constraint filter.old d }
     ensures core { (d : Core) → F.is_made_with filter.old d → F.is_made_with filter.new d }
     ensures woken_by { (x : ℕ) → F.woken_by filter.new x ≡ F.woken_by filter.old x }
+    ensures woken_by_ends { (x : ℕ) → F.woken_by_ends filter.new x ≡ F.woken_by_ends filter.old x }
     ensures kind { F.kind filter.new ≡ F.kind filter.old }
-    ensures wakes { Wakes (watches watchers.now) waiting.old (N.family n.old) waiting.new (N.family n.new) }
+    ensures wakes { Wakes (watches watchers.now) (watches end_watchers.now) waiting.old (N.family n.old) waiting.new (N.family n.new) }
 {
-    let mut watched = Watched::new(n, waiting, watchers);
+    let mut watched = Watched::new(n, waiting, watchers, end_watchers);
     filter.filter(core, &mut watched)
 }
 
 /// Removes values that a member refutes alone, until no member can, or until one fails. `watchers` lists for each variable the
-/// members that it wakes. A member that doesn't wait is one for which the family is stable, before and afterwards; at `Stable`
+/// members that each of its values wakes as it goes, `end_watchers` those that its least and greatest value alone do. A member that doesn't wait is one for which the family is stable, before and afterwards; at `Stable`
 /// nobody waits. So the sets that narrowing began with are closed at `Stable`, and have no closure at `Failed`. It takes no memory.
 pub fn propagate<F: Propagator, N: Narrow>(
     core: &Core,
     filters: &mut [F],
     watchers: &Watchers,
+    end_watchers: &Watchers,
     waiting: &mut Waiting,
     n: &mut N,
 ) -> Outcome
@@ -56,6 +59,7 @@ pub fn propagate<F: Propagator, N: Narrow>(
     requires fresh { Each (λ i f. WasFresh (F.fresh f) (length (N.family n.old))) filters.old }
     requires declared { Below (N.family n.old) (declared core.now) }
     requires watched { AreWatched watchers.now (map F.woken_by filters.old) }
+    requires watched_ends { AreWatched end_watchers.now (map F.woken_by_ends filters.old) }
     requires wait { WaitOrAreStable (map (λ f. F.constraint f core.now) filters.old) waiting.old (N.family n.old) }
     ensures between { IsBetween (refutes_one (map (λ f. F.constraint f core.now) filters.old)) (N.family n.old) (N.family n.new) }
     ensures outcome { Filters (refutes_one (map (λ f. F.constraint f core.now) filters.old)) (N.family n.old) (N.family n.new) result }
@@ -64,6 +68,7 @@ pub fn propagate<F: Propagator, N: Narrow>(
     ensures leads_to { N.leads_to n.old n.new }
     ensures same { map (λ f. F.constraint f core.now) filters.new ≡ map (λ f. F.constraint f core.now) filters.old }
     ensures woken_by { map F.woken_by filters.new ≡ map F.woken_by filters.old }
+    ensures woken_by_ends { map F.woken_by_ends filters.new ≡ map F.woken_by_ends filters.old }
     ensures kinds { map F.kind filters.new ≡ map F.kind filters.old }
     ensures made { Each (λ i f. F.is_made_with f core.now) filters.new }
     ensures fresh { Each (λ i f. WasFresh (F.fresh f) (length (N.family n.new))) filters.new }
@@ -79,7 +84,7 @@ pub fn propagate<F: Propagator, N: Narrow>(
             Some(i) => {
                 let filter = &mut filters[i as usize];
                 filter.refresh(core);
-                match run(core, filter, watchers, waiting, n) {
+                match run(core, filter, watchers, end_watchers, waiting, n) {
                     Outcome::Failed => {
                         waiting.wake(i);
                         return Outcome::Failed;

@@ -1,6 +1,6 @@
 //! Propagators: filters of constraints, each of which tells which variables wake it.
 ghost use Rattle.std.specs.Prelude.{◌≡◌, ℕ, Bool, true, length};
-ghost use Rattle.opl_domain.specs.Family.{Family, Full, Below, set_of};
+ghost use Rattle.opl_domain.specs.Family.{Family, Full, Below, set_of, hull};
 ghost use Rattle.opl_expr.specs.declared.model.Core.{Core};
 ghost use Rattle.opl_expr.specs.Forms.{Fact};
 ghost use Rattle.opl_expr.specs.Solutions.{declared};
@@ -11,8 +11,8 @@ use opl_domain::Narrow;
 use opl_expr::Core;
 use opl_filter::Outcome;
 
-/// A filter of one constraint, which has to run again only after a set of a variable that wakes it has lost a value. Contracts
-/// see the constraint as it reads in a core, and whether a core is the one with which the propagator was made.
+/// A filter of one constraint, which has to run again only after the set of a variable that wakes it has lost a value, or that of a
+/// variable whose ends wake it its least or greatest value. Contracts see the constraint as it reads in a core, and whether a core is the one with which the propagator was made.
 pub trait Propagator {
     ghost constraint: { Self → Core → Fact };
 
@@ -20,8 +20,11 @@ pub trait Propagator {
 
     ghost fresh: { Self → Family → Type 0 };
 
-    /// The variables that wake it.
+    /// The variables that wake it by each value that they lose.
     ghost woken_by: { Self → ℕ → Bool };
+
+    /// The variables that wake it by their least and greatest value alone.
+    ghost woken_by_ends: { Self → ℕ → Bool };
 
     /// A number that its work leaves as it is, as that of its kind.
     ghost kind: { Self → ℕ };
@@ -39,6 +42,7 @@ pub trait Propagator {
         ensures constraint { (d : Core) → constraint self.new d ≡ constraint self.old d }
         ensures core { (d : Core) → is_made_with self.old d → is_made_with self.new d }
         ensures woken_by { (x : ℕ) → woken_by self.new x ≡ woken_by self.old x }
+        ensures woken_by_ends { (x : ℕ) → woken_by_ends self.new x ≡ woken_by_ends self.old x }
         ensures kind { kind self.new ≡ kind self.old };
 
     /// Tells that the sets of all its variables may have changed. It takes no memory.
@@ -48,7 +52,8 @@ pub trait Propagator {
         ensures constraint { (d : Core) → constraint self.new d ≡ constraint self.old d }
         ensures core { (d : Core) → is_made_with self.old d → is_made_with self.new d }
         ensures woken_by { (x : ℕ) → woken_by self.new x ≡ woken_by self.old x }
+        ensures woken_by_ends { (x : ℕ) → woken_by_ends self.new x ≡ woken_by_ends self.old x }
         ensures kind { kind self.new ≡ kind self.old };
 
-    ghost rests: { (s : Self) (d : Core) (F G : Family) → is_made_with s d → IsStable (refutes (constraint s d)) F → Full G → Below G F → ((x : ℕ) → woken_by s x ≡ true → set_of G x ≡ set_of F x) → IsStable (refutes (constraint s d)) G };
+    ghost rests: { (s : Self) (d : Core) (F G : Family) → is_made_with s d → length F ≡ length (declared d) → IsStable (refutes (constraint s d)) F → Full G → Below G F → ((x : ℕ) → woken_by s x ≡ true → set_of G x ≡ set_of F x) → ((x : ℕ) → woken_by_ends s x ≡ true → hull G x ≡ hull F x) → IsStable (refutes (constraint s d)) G };
 }

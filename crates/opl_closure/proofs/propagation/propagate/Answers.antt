@@ -78,6 +78,10 @@ pub returns-in-Failed-clause-woken_by : goal.returns-in-Failed-clause-woken_by
 returns-in-Failed-clause-woken_by g c =
     same_after g.F.Propagator.woken_by c.loop-i.filters c.in-Some.i c.index-filters-i.result c.run.new.filter (same_test _ _ (λ x. c.run.ensures.woken_by x ∙ c.refresh.ensures.woken_by x)) ∙ c.loop-i.invariant.woken_by
 
+pub returns-in-Failed-clause-woken_by_ends : goal.returns-in-Failed-clause-woken_by_ends
+returns-in-Failed-clause-woken_by_ends g c =
+    same_after g.F.Propagator.woken_by_ends c.loop-i.filters c.in-Some.i c.index-filters-i.result c.run.new.filter (same_test _ _ (λ x. c.run.ensures.woken_by_ends x ∙ c.refresh.ensures.woken_by_ends x)) ∙ c.loop-i.invariant.woken_by_ends
+
 pub returns-in-Failed-clause-kinds : goal.returns-in-Failed-clause-kinds
 returns-in-Failed-clause-kinds g c =
     same_after g.F.Propagator.kind c.loop-i.filters c.in-Some.i c.index-filters-i.result c.run.new.filter (c.run.ensures.kind ∙ c.refresh.ensures.kind) ∙ c.loop-i.invariant.kinds
@@ -109,7 +113,7 @@ returns-in-Failed-clause-wait g c =
     let h = first ∙ ap (λ d. Some d) (sym (c.refresh.ensures.constraint c.args.core.now)) in
     let sets = left_sets (refutes_one ms) _ _ c.vars-vars.ensures.sets (left_next ms _ _ _ _ i h c.loop-i.invariant.left c.run.ensures.between) in
     let long = c.run.ensures.wakes.same ∙ ap length c.in-Some.ensures.2 ∙ length-set c.loop-i.waiting i false in
-    rw c.wake.ensures (wait_failed c.args.watchers.now ms c.loop-i.waiting c.take.new.self c.run.new.waiting (g.N.View.family c.loop-i.n) (g.N.View.family c.run.new.n) i (c.loop-i.invariant.waits ∙ c.requires.many.0 ∙ sym (length-map c.args.filters.now (λ f. g.F.Propagator.constraint f c.args.core.now))) (settled c.args.watchers.now c.args.filters.now (λ f. g.F.Propagator.constraint f c.args.core.now) g.F.Propagator.woken_by (λ f. g.F.Propagator.is_made_with f c.args.core.now) (λ f F G. g.met.F.Propagator.rests f c.args.core.now F G) c.requires.made c.requires.watched) sets.full (omega (arith, long, c.in-Some.ensures.0)) c.in-Some.ensures.2 c.loop-i.invariant.wait c.run.ensures.wakes)
+    rw c.wake.ensures (wait_failed (length (g.N.View.family c.loop-i.n)) c.args.watchers.now c.args.end_watchers.now ms c.loop-i.waiting c.take.new.self c.run.new.waiting (g.N.View.family c.loop-i.n) (g.N.View.family c.run.new.n) i (c.loop-i.invariant.waits ∙ c.requires.many.0 ∙ sym (length-map c.args.filters.now (λ f. g.F.Propagator.constraint f c.args.core.now))) refl (settled (length (g.N.View.family c.loop-i.n)) c.args.watchers.now c.args.end_watchers.now c.args.filters.now (λ f. g.F.Propagator.constraint f c.args.core.now) g.F.Propagator.woken_by g.F.Propagator.woken_by_ends (λ f. g.F.Propagator.is_made_with f c.args.core.now) (λ f F G made wide. g.met.F.Propagator.rests f c.args.core.now F G made (wide ∙ (left_below (refutes_one ms) _ _ c.loop-i.invariant.left).same ∙ c.requires.declared.same)) c.requires.made c.requires.watched c.requires.watched_ends) sets.full (omega (arith, long, c.in-Some.ensures.0)) c.in-Some.ensures.2 c.loop-i.invariant.wait c.run.ensures.wakes)
 
 pub returns-in-None-clause-closes : goal.returns-in-None-clause-closes
 returns-in-None-clause-closes g c =
@@ -142,7 +146,7 @@ returns-in-Failed-clause-kept g c =
 
 pub loop-i-smaller : goal.loop-i-smaller
 loop-i-smaller g c =
-    rw c.done.ensures (turn_ends (g.N.View.family c.loop-i.n) (g.N.View.family c.run.new.n) c.loop-i.waiting c.take.new.self c.run.new.waiting c.in-Some.i (watches c.args.watchers.now) c.in-Some.ensures.0 c.in-Some.ensures.1 c.in-Some.ensures.2 c.run.ensures.wakes)
+    rw c.done.ensures (turn_ends (g.N.View.family c.loop-i.n) (g.N.View.family c.run.new.n) c.loop-i.waiting c.take.new.self c.run.new.waiting c.in-Some.i (watches c.args.watchers.now) (watches c.args.end_watchers.now) c.in-Some.ensures.0 c.in-Some.ensures.1 c.in-Some.ensures.2 c.run.ensures.wakes)
 
 pub loop-i-preserved : goal.loop-i-preserved
 loop-i-preserved g c =
@@ -159,9 +163,10 @@ loop-i-preserved g c =
       made = each_set (λ j f. g.F.Propagator.is_made_with f c.args.core.now) c.loop-i.filters c.in-Some.i c.run.new.filter (c.run.ensures.core c.args.core.now (c.refresh.ensures.core c.args.core.now (each_at (λ j f. g.F.Propagator.is_made_with f c.args.core.now) c.loop-i.filters c.in-Some.i c.index-filters-i.result c.loop-i.invariant.made l))) (λ j a n e. c.loop-i.invariant.made j a e);
       fresh = each_set (λ j f. WasFresh (g.F.Propagator.fresh f) (length (g.N.View.family c.run.new.n))) c.loop-i.filters c.in-Some.i c.run.new.filter (record { family = g.N.View.family c.run.new.n; full = sets.full; same = refl; fresh = c.run.ensures.fresh }) (λ j a n e. subst (λ m. WasFresh (g.F.Propagator.fresh a) m) (sym c.run.ensures.wakes.below.same) (c.loop-i.invariant.fresh j a e));
       woken_by = same_after g.F.Propagator.woken_by c.loop-i.filters c.in-Some.i c.index-filters-i.result c.run.new.filter (same_test _ _ (λ x. c.run.ensures.woken_by x ∙ c.refresh.ensures.woken_by x)) ∙ c.loop-i.invariant.woken_by;
+      woken_by_ends = same_after g.F.Propagator.woken_by_ends c.loop-i.filters c.in-Some.i c.index-filters-i.result c.run.new.filter (same_test _ _ (λ x. c.run.ensures.woken_by_ends x ∙ c.refresh.ensures.woken_by_ends x)) ∙ c.loop-i.invariant.woken_by_ends;
       kinds = same_after g.F.Propagator.kind c.loop-i.filters c.in-Some.i c.index-filters-i.result c.run.new.filter (c.run.ensures.kind ∙ c.refresh.ensures.kind) ∙ c.loop-i.invariant.kinds;
       long = length-set c.loop-i.filters i c.run.new.filter ∙ c.loop-i.invariant.long;
       waits = ap length c.done.ensures ∙ length-set c.run.new.waiting i false ∙ c.run.ensures.wakes.same ∙ ap length c.in-Some.ensures.2 ∙ length-set c.loop-i.waiting i false ∙ c.loop-i.invariant.waits;
-      wait = rw c.done.ensures (wait_next c.args.watchers.now ms _ c.loop-i.waiting c.take.new.self c.run.new.waiting (g.N.View.family c.loop-i.n) (g.N.View.family c.run.new.n) i (c.loop-i.invariant.waits ∙ c.requires.many.0 ∙ sym (length-map c.args.filters.now (λ f. g.F.Propagator.constraint f c.args.core.now))) (settled c.args.watchers.now c.args.filters.now (λ f. g.F.Propagator.constraint f c.args.core.now) g.F.Propagator.woken_by (λ f. g.F.Propagator.is_made_with f c.args.core.now) (λ f F G. g.met.F.Propagator.rests f c.args.core.now F G) c.requires.made c.requires.watched) sets.full h c.in-Some.ensures.2 c.loop-i.invariant.wait c.run.ensures.wakes c.in-Stable.ensures.outcome.is_stable.stable);
+      wait = rw c.done.ensures (wait_next (length (g.N.View.family c.loop-i.n)) c.args.watchers.now c.args.end_watchers.now ms _ c.loop-i.waiting c.take.new.self c.run.new.waiting (g.N.View.family c.loop-i.n) (g.N.View.family c.run.new.n) i (c.loop-i.invariant.waits ∙ c.requires.many.0 ∙ sym (length-map c.args.filters.now (λ f. g.F.Propagator.constraint f c.args.core.now))) refl (settled (length (g.N.View.family c.loop-i.n)) c.args.watchers.now c.args.end_watchers.now c.args.filters.now (λ f. g.F.Propagator.constraint f c.args.core.now) g.F.Propagator.woken_by g.F.Propagator.woken_by_ends (λ f. g.F.Propagator.is_made_with f c.args.core.now) (λ f F G made wide. g.met.F.Propagator.rests f c.args.core.now F G made (wide ∙ (left_below (refutes_one ms) _ _ c.loop-i.invariant.left).same ∙ c.requires.declared.same)) c.requires.made c.requires.watched c.requires.watched_ends) sets.full h c.in-Some.ensures.2 c.loop-i.invariant.wait c.run.ensures.wakes c.in-Stable.ensures.outcome.is_stable.stable);
       leads = g.met.N.Narrow.leads_on _ _ _ c.loop-i.invariant.leads c.run.ensures.leads_to;
     }

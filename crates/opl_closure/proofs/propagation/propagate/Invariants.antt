@@ -10,6 +10,7 @@ invariant-loop-i g l = record {
   left : IsLeftOf (refutes_one (map (λ f. g.F.Propagator.constraint f l.fn.core) l.fn.filters)) (g.N.View.family l.fn.n) (g.N.View.family l.n);
   same : map (λ f. g.F.Propagator.constraint f l.fn.core) l.filters ≡ map (λ f. g.F.Propagator.constraint f l.fn.core) l.fn.filters;
   woken_by : map g.F.Propagator.woken_by l.filters ≡ map g.F.Propagator.woken_by l.fn.filters;
+  woken_by_ends : map g.F.Propagator.woken_by_ends l.filters ≡ map g.F.Propagator.woken_by_ends l.fn.filters;
   kinds : map g.F.Propagator.kind l.filters ≡ map g.F.Propagator.kind l.fn.filters;
   made : Each (λ i f. g.F.Propagator.is_made_with f l.fn.core) l.filters;
   fresh : Each (λ i f. WasFresh (g.F.Propagator.fresh f) (length (g.N.View.family l.n))) l.filters;
