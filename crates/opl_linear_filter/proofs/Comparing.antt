@@ -55,9 +55,9 @@ short_form core f m s = record { short = s; falling = m.falling; among = m.among
 not_both : (b : Bool) → b ≡ true → b ≡ false → ⊥
 not_both b h k = cc
 
--- what filters the form filters the constraint
-module _ (core : Core) (c : Fact) (f : LinearFilter) (is : IsFilterOf core c f) (D F : Family) (o : Outcome) (sets : IsFamily D) (b : Below D (declared core)) where
-  long_as : (n : ℕ) → n ≡ length core.sets → is.op ≡ Eq → is_short f.parts ≡ false → is_one_or_two (factors_of is.left is.right) n ≡ false
+-- a form that is not short has not one variable, nor two with opposite units
+module _ (core : Core) (c : Fact) (f : LinearFilter) (is : IsFilterOf core c f) where
+  pub long_as : (n : ℕ) → n ≡ length core.sets → is.op ≡ Eq → is_short f.parts ≡ false → is_one_or_two (factors_of is.left is.right) n ≡ false
   long_as n l e h =
       let d = is.comparison.difference in
       let left : left_of is.op is.left is.right ≡ is.left = ap (λ z. left_of z is.left is.right) e in
@@ -65,6 +65,8 @@ module _ (core : Core) (c : Fact) (f : LinearFilter) (is : IsFilterOf core c f) 
       let same : (x : ℕ) → factor_in f.parts x ≡ factors_of is.left is.right x = λ x. d.factors x ∙ ap (λ z. factors_of z (right_of is.op is.left is.right) x) left ∙ ap (λ z. factors_of is.left z x) right in
       ap (is_one_or_two (factors_of is.left is.right)) l ∙ short_is (factors_of is.left is.right) f.parts (length core.sets) same d.made.once d.made.among d.made.factors ∙ h
 
+-- what filters the form filters the constraint
+module _ (core : Core) (c : Fact) (f : LinearFilter) (is : IsFilterOf core c f) (D F : Family) (o : Outcome) (sets : IsFamily D) (b : Below D (declared core)) where
   pub form_filters : (f.kind ≡ kinds.Zero → is_short f.parts ≡ false) → IsBetween (rejects f.kind (factor_in f.parts) f.constant) D F → Filters (rejects f.kind (factor_in f.parts) f.constant) D F o → IsBetween (refutes c) D F × Filters (refutes c) D F o
   form_filters long i g =
       let m = is.comparison in
@@ -72,7 +74,7 @@ module _ (core : Core) (c : Fact) (f : LinearFilter) (is : IsFilterOf core c f) 
       let k = constant_of (left_of is.op is.left is.right) (right_of is.op is.left is.right) in
       let same : rejects f.kind (factor_in f.parts) f.constant ≡ rejects (kind_of is.op) (factor_in f.parts) k = ap (λ z. rejects z (factor_in f.parts) f.constant) d.kind ∙ ap (rejects (kind_of is.op) (factor_in f.parts)) d.constant in
       subst (λ z. IsBetween (refutes z) D F × Filters (refutes z) D F o) (sym is.is)
-      (comparisons_filter is.op is.left is.right f.parts D F o sets m.first m.second (λ e. long_as (length D) (below_length core D b) e (long (d.kind ∙ ap kind_of e))) d.factors
+      (comparisons_filter is.op is.left is.right f.parts D F o sets m.first m.second (λ e. long_as core c f is (length D) (below_length core D b) e (long (d.kind ∙ ap kind_of e))) d.factors
       (subst (λ t. IsBetween t D F) same i) (subst (λ t. Filters t D F o) same g))
 
   -- what filters the equation of a short form filters the constraint

@@ -6,5 +6,6 @@ mod Counts
 mod Equations
 mod Values
 mod Comparing
+mod Ends
 mod Which
 mod Normal

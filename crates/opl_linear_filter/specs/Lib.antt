@@ -2,3 +2,4 @@ pub mod Parts
 pub mod ShortForms
 pub mod LinearForms
 pub mod NormalForms
+pub mod Ends

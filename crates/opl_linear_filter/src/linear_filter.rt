@@ -7,6 +7,7 @@ ghost use Rattle.opl_expr.specs.Solutions.{declared};
 ghost use Rattle.opl_expr.specs.Sound.{IsSoundFact};
 ghost use Rattle.opl_filter.specs.Filtering.{refutes, IsBetween, Filters};
 ghost use Rattle.opl_range.specs.Between.{term_of, CanCompare};
+ghost use Rattle.opl_linear_filter.specs.Ends.{sees_ends};
 ghost use Rattle.opl_linear_filter.specs.LinearForms.{IsMade, IsDifference, IsFilterOf, IsMadeForSides, IsFilterIfAny, IsThereFor, DecidesByValues};
 
 use crate::constant::constant_part;
@@ -109,6 +110,18 @@ impl LinearFilter {
             Kind::Below => false,
             Kind::Zero => is_short(self.parts.as_slice()),
             Kind::Different => false,
+        }
+    }
+
+    /// Whether it has anything to remove only after a set has lost its least or greatest value.
+    pub fn sees_ends(&self) -> bool
+        ensures { result ≡ sees_ends self.now }
+    {
+        match self.kind {
+            Kind::AtMost => true,
+            Kind::Below => true,
+            Kind::Zero => !is_short(self.parts.as_slice()),
+            Kind::Different => true,
         }
     }
 
