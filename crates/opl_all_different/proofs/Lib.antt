@@ -7,3 +7,4 @@ mod Settled
 mod Fits
 mod Readings
 mod Made
+mod Ends

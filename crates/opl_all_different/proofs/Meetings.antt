@@ -111,7 +111,7 @@ any_at F p [] j h m = absurd (omega (arith, h))
 any_at F p (q ∷ qs) zero h m = or_left (meets F p q) (meets_any F p qs) m
 any_at F p (q ∷ qs) (suc j) h m = or_right (meets F p q) (meets_any F p qs) (any_at F p qs j (omega (arith, h)) m)
 
-clash_at : (F : Family) (ps : List Part) (i j : ℕ) → i < j → j < length ps → meets F (get_or ps i nothing) (get_or ps j nothing) ≡ true → clashes ps F ≡ true
+pub clash_at : (F : Family) (ps : List Part) (i j : ℕ) → i < j → j < length ps → meets F (get_or ps i nothing) (get_or ps j nothing) ≡ true → clashes ps F ≡ true
 clash_at F [] i j l h m = absurd (omega (arith, h))
 clash_at F (p ∷ ps) i zero l h m = absurd (omega (arith, l))
 clash_at F (p ∷ ps) zero (suc j) l h m = or_left (meets_any F p ps) (clashes ps F) (any_at F p ps j (omega (arith, h)) m)

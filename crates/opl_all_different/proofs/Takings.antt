@@ -31,7 +31,7 @@ times_plus : (k u v : ℤ) → k *ℤ (u +ℤ v) ≡ (k *ℤ u) +ℤ (k *ℤ v)
 times_plus k u v = *ℤ_comm k (u +ℤ v) ∙ plus_times u v k ∙ ap (λ w. w +ℤ (v *ℤ k)) (*ℤ_comm u k) ∙ ap (λ w. (k *ℤ u) +ℤ w) (*ℤ_comm v k)
 
 -- other numbers make other values
-values_apart : (p : Part) (u v : ℤ) → p.factor ≢ pos 0 → u <ℤ v → value_with p u ≢ value_with p v
+pub values_apart : (p : Part) (u v : ℤ) → p.factor ≢ pos 0 → u <ℤ v → value_with p u ≢ value_with p v
 values_apart p u v n h e =
     let f : v ≡ u +ℤ (v +ℤ neg_ℤ u) = omega (arith, ints) in
     let g = ap (λ w. p.factor *ℤ w) f ∙ times_plus p.factor u (v +ℤ neg_ℤ u) in
