@@ -7,4 +7,4 @@ mod Settled
 mod Fits
 mod Readings
 mod Made
-mod Ends
+pub mod Ends

@@ -6,6 +6,6 @@ mod Counts
 mod Equations
 mod Values
 mod Comparing
-mod Ends
+pub mod Ends
 mod Which
 mod Normal

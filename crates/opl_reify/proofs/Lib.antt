@@ -6,3 +6,4 @@ mod Opening
 mod Looking
 mod Shapes
 mod Made
+pub mod Ends

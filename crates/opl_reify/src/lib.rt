@@ -2,6 +2,7 @@
 #![tactic(auto)]
 
 mod filtering;
+pub mod laws;
 mod making;
 mod open;
 mod part;

@@ -1,11 +1,12 @@
 //! The filter of a disjunction of comparisons of linear sides.
-ghost use Rattle.std.specs.Prelude.{IfOk};
+ghost use Rattle.std.specs.Prelude.{◌≡◌, IfOk};
 ghost use Rattle.opl_domain.specs.Family.{Below};
 ghost use Rattle.opl_expr.specs.Forms.{Fact, fact};
 ghost use Rattle.opl_expr.specs.Solutions.{declared};
 ghost use Rattle.opl_expr.specs.Sound.{IsSoundFact};
 ghost use Rattle.opl_filter.specs.Filtering.{refutes, IsBetween, Filters};
 ghost use Rattle.opl_reify.specs.Disjunctions.{IsMadeOfParts, IsDisjunctionFor, IsDisjunctionIfAny, IsThereFor};
+ghost use Rattle.opl_reify.specs.Ends.{sees_ends};
 
 use crate::filtering::filter_any;
 use crate::making::{implied, literals};
@@ -48,6 +49,13 @@ impl ReifyFilter {
             Cons::Capacity(_resource, _time) => Ok(None),
             Cons::Bound(_x) => Ok(None),
         }
+    }
+
+    /// Whether it has anything to remove only after a set has lost its least or greatest value.
+    pub fn sees_ends(&self) -> bool
+        ensures { result ≡ sees_ends self.now }
+    {
+        self.parts.as_slice().iter().all(|part| part.sees_ends())
     }
 
     /// Removes values that the constraint refutes alone at that moment, until the family is stable for it, or until none within
