@@ -30,7 +30,7 @@ use Rattle.opl_engine.specs.declared.own_filter.OwnFilter.{OwnFilter}
 use Rattle.opl_engine.specs.OwnFilters.{IsOwnFilterIfAny}
 use Rattle.opl_engine.specs.declared.member.Member.{Member}
 use Rattle.opl_engine.specs.declared.member.Member.TheVariants as member
-use Rattle.opl_engine.specs.Members.{goal_in, bound_fact, fact_of, fact_at, wakes_on, AreVariablesOf, IsListed, IsConstraint, IsGoal, IsMember}
+use Rattle.opl_engine.specs.Members.{goal_in, bound_fact, fact_of, fact_at, names, AreVariablesOf, IsListed, IsConstraint, IsGoal, IsMember}
 use Rattle.opl_engine.specs.Crowds.{Crowd, kind_of}
 use Rattle.opl_engine.specs.Engines.{IsBounded, IsFirst, IsGrown}
 use Rattle.opl_engine.proofs.Lists.{the_one, length_map, map_added, drop_added, there, get_first}
@@ -167,7 +167,7 @@ pub made_added : (core : Core) (ms : List Member) (m : Member) → Each (λ i a.
 made_added core ms m = each_added (IsMember core) ms m
 
 -- a member's variables are there
-pub member_there : (core : Core) (m : Member) (x : ℕ) → IsMember core m → wakes_on m x ≡ true → x < length core.sets
+pub member_there : (core : Core) (m : Member) (x : ℕ) → IsMember core m → names m x ≡ true → x < length core.sets
 member_there core (member.Bound best xs) x s h = s.0 x h
 member_there core (member.Declared k xs form) x s h = listed_there core (fact_at core (slice_get core.cons k)) xs x s.1.0 h
 member_there core (member.Posted c xs form) x s h = listed_there core (fact core.tables core.resources c.value) xs x s.0 h

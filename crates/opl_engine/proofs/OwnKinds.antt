@@ -1,5 +1,5 @@
 -- A filter of its own is made with the core of its constraint.
-use Rattle.std.proofs.Common.{◌≡◌, subst}
+use Rattle.std.proofs.Common.{◌≡◌, ◌∙◌, ap, subst, sym}
 use Rattle.std.specs.Prelude.{Option, Some, None}
 use Rattle.opl_expr.specs.declared.model.Core.{Core}
 use Rattle.opl_expr.specs.declared.forms.Cons.{Cons}
@@ -12,7 +12,7 @@ use Rattle.opl_reify.specs.declared.reify_filter.ReifyFilter.{ReifyFilter}
 use Rattle.opl_reify.specs.Disjunctions.{IsDisjunction, IsDisjunctionFor, IsThereFor as IsDisjunctionThere}
 use Rattle.opl_engine.specs.declared.own_filter.OwnFilter.{OwnFilter}
 use Rattle.opl_engine.specs.declared.own_filter.OwnFilter.TheVariants as own
-use Rattle.opl_engine.specs.OwnFilters.{IsMadeWith, IsOwnFilter, IsOwnFilterIfAny, KeepsConstraints, IsThereForDisjunctions, IsThereForDifferences, IsThereForKinds}
+use Rattle.opl_engine.specs.OwnFilters.{IsMadeWith, IsOwnFilter, IsOwnFilterIfAny, KeepsConstraints, IsThereForDisjunctions, IsThereForDifferences, IsThereForKinds, sees_ends, sees_ends_if_any}
 
 pub made_with : (core : Core) (c : Fact) (f : OwnFilter) → IsOwnFilter core c f → IsMadeWith core f
 made_with core c (own.Linear f) i = i.comparison.difference.made
@@ -24,8 +24,8 @@ pub own_is : (core : Core) (c : Fact) (form : Option OwnFilter) (f : OwnFilter) 
 own_is core c form f i e = subst (IsOwnFilterIfAny core c) e i
 
 -- it stays the filter of the same constraints
-pub keeps : (form : Option OwnFilter) (old new : OwnFilter) → form ≡ Some old → ((core : Core) (c : Fact) → IsOwnFilter core c old → IsOwnFilter core c new) → KeepsConstraints form (Some new)
-keeps form old new e k core c i = k core c (own_is core c form old i e)
+pub keeps : (form : Option OwnFilter) (old new : OwnFilter) → form ≡ Some old → ((core : Core) (c : Fact) → IsOwnFilter core c old → IsOwnFilter core c new) → sees_ends new ≡ sees_ends old → KeepsConstraints form (Some new)
+keeps form old new e k s = record { constraint = λ core c i. k core c (own_is core c form old i e); ends = s ∙ sym (ap sees_ends_if_any e) }
 
 pub reify_is : (core : Core) (c : Fact) (s : OwnFilter) (f : ReifyFilter) → s ≡ own.Reify f → IsOwnFilter core c s → IsDisjunctionFor core c f
 reify_is core c s f e i = subst (IsOwnFilter core c) e i

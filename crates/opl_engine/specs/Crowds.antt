@@ -2,7 +2,7 @@
 use Rattle.std.specs.Prelude.{◌≡◌, ℕ, ◌<◌, ◌^◌, Bool, List, map, length}
 use Rattle.opl_expr.specs.declared.model.Core.{Core}
 use Rattle.opl_closure.specs.Members.{AreWatched}
-use Rattle.opl_engine.specs.Members.{fact_of, wakes_on, IsMember}
+use Rattle.opl_engine.specs.Members.{fact_of, wakes_on, wakes_by_ends, IsMember}
 use Rattle.opl_engine.specs.declared.member.Member.{Member}
 use Rattle.opl_engine.specs.declared.member.Member.TheVariants as member
 
@@ -13,10 +13,12 @@ pub record Crowd : Type 0 where
   pub waits : List Bool
 
 -- each member watches the variables that wake it
-pub record IsCrowd (members : List Member) (watchers : List (List ℕ)) (waits : List Bool) : Type 0 where
+pub record IsCrowd (members : List Member) (watchers end_watchers : List (List ℕ)) (waits : List Bool) : Type 0 where
   pub few : length members < 2 ^ 32
   pub same : length waits ≡ length members
   pub watched : AreWatched watchers (map wakes_on members)
+  pub watched_ends : AreWatched end_watchers (map wakes_by_ends members)
+  pub alike : length end_watchers ≡ length watchers
 
 -- the kinds of members
 abbrev pub kind_of : Member → ℕ
@@ -30,4 +32,5 @@ pub record IsSameMember (old new : Member) : Type 0 where
   pub constraint : (core : Core) → fact_of core new ≡ fact_of core old
   pub made : (core : Core) → IsMember core old → IsMember core new
   pub woken : (x : ℕ) → wakes_on new x ≡ wakes_on old x
+  pub woken_by_ends : (x : ℕ) → wakes_by_ends new x ≡ wakes_by_ends old x
   pub kind : kind_of new ≡ kind_of old

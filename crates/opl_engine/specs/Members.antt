@@ -1,5 +1,5 @@
 -- Members: the constraints that an engine filters, and the variables that wake them.
-use Rattle.std.specs.Prelude.{◌≡◌, ℕ, ◌<◌, Bool, true, false, List, length, slice_get, ℤ, Option, Some, None}
+use Rattle.std.specs.Prelude.{◌≡◌, ℕ, ◌<◌, Bool, true, false, cond, List, length, slice_get, ℤ, Option, Some, None}
 use Rattle.opl_expr.specs.declared.model.Core.{Core}
 use Rattle.opl_expr.specs.declared.model.Goal.{Goal}
 use Rattle.opl_expr.specs.declared.forms.Cons.{Cons}
@@ -10,7 +10,7 @@ use Rattle.opl_trace.specs.Answers.{is_value}
 use Rattle.opl_trace.specs.Marks.{objective}
 use Rattle.opl_trace.specs.Objective.{Objective, better_than}
 use Rattle.opl_engine.specs.declared.own_filter.OwnFilter.{OwnFilter}
-use Rattle.opl_engine.specs.OwnFilters.{IsOwnFilterIfAny}
+use Rattle.opl_engine.specs.OwnFilters.{IsOwnFilterIfAny, sees_ends_if_any}
 use Rattle.opl_engine.specs.declared.member.Member.{Member}
 use Rattle.opl_engine.specs.declared.member.Member.TheVariants as member
 
@@ -36,12 +36,27 @@ fact_of core (member.Declared k variables form) = fact_at core (slice_get core.c
 fact_of core (member.Posted c variables form) = fact core.tables core.resources c.value
 fact_of core (member.Value x v) = is_value x v
 
--- the variables that wake a member: those that its constraint mentions. The value of a variable, once it is there, stays.
+-- the variables that can wake a member: those that its constraint mentions. The value of a variable, once it is there, stays.
+abbrev pub names : Member → ℕ → Bool
+names (member.Bound best variables) x = lists variables x
+names (member.Declared k variables form) x = lists variables x
+names (member.Posted c variables form) x = lists variables x
+names (member.Value y v) x = false
+
+-- whether these wake it by the ends of their sets alone
+abbrev pub sees_ends : Member → Bool
+sees_ends (member.Bound best variables) = false
+sees_ends (member.Declared k variables form) = sees_ends_if_any form
+sees_ends (member.Posted c variables form) = sees_ends_if_any form
+sees_ends (member.Value y v) = false
+
+-- the variables that wake a member by each value that they lose
 abbrev pub wakes_on : Member → ℕ → Bool
-wakes_on (member.Bound best variables) x = lists variables x
-wakes_on (member.Declared k variables form) x = lists variables x
-wakes_on (member.Posted c variables form) x = lists variables x
-wakes_on (member.Value y v) x = false
+wakes_on m x = cond (sees_ends m) false (names m x)
+
+-- the variables that wake a member by the ends of their sets alone
+abbrev pub wakes_by_ends : Member → ℕ → Bool
+wakes_by_ends m x = cond (sees_ends m) (names m x) false
 
 -- the list has the variables of an expression, and no others
 abbrev pub AreVariablesOf : List ℕ → Term → Type 0

@@ -1,10 +1,12 @@
 -- Filters of their own that some kinds of constraints have.
-use Rattle.std.specs.Prelude.{Option, Some, None}
+use Rattle.std.specs.Prelude.{◌≡◌, Bool, true, false, Option, Some, None}
 use Rattle.opl_expr.specs.declared.model.Core.{Core}
 use Rattle.opl_expr.specs.declared.forms.Cons.{Cons}
 use Rattle.opl_expr.specs.Forms.{Fact}
+use Rattle.opl_linear_filter.specs.Ends as linear
 use Rattle.opl_linear_filter.specs.LinearForms.{IsMade, IsFilterOf, ComparesLinear}
 use Rattle.opl_all_different.specs.DifferentForms.{IsMade as IsMadeOfSingles, IsFilterOf as IsDifferenceFor, SeparatesVariables}
+use Rattle.opl_reify.specs.Ends as disjunction
 use Rattle.opl_reify.specs.Disjunctions.{IsMadeOfParts, IsDisjunctionFor, IsDisjunction}
 use Rattle.opl_engine.specs.declared.own_filter.OwnFilter.{OwnFilter}
 use Rattle.opl_engine.specs.declared.own_filter.OwnFilter.TheVariants as own
@@ -26,9 +28,21 @@ abbrev pub IsOwnFilterIfAny : Core → Fact → Option OwnFilter → Type 0
 IsOwnFilterIfAny core c None = Unit {0}
 IsOwnFilterIfAny core c (Some f) = IsOwnFilter core c f
 
--- of whichever constraint the old filter is, the new one is too
-abbrev pub KeepsConstraints : Option OwnFilter → Option OwnFilter → Type 0
-KeepsConstraints old new = (core : Core) (c : Fact) → IsOwnFilterIfAny core c old → IsOwnFilterIfAny core c new
+-- whether the ends of the sets alone decide what a filter removes
+abbrev pub sees_ends : OwnFilter → Bool
+sees_ends (own.Linear f) = linear.sees_ends f
+sees_ends (own.Different f) = true
+sees_ends (own.Reify f) = disjunction.sees_ends f
+
+-- so it is of a filter, where there is one; without one all values count
+abbrev pub sees_ends_if_any : Option OwnFilter → Bool
+sees_ends_if_any None = false
+sees_ends_if_any (Some f) = sees_ends f
+
+-- of whichever constraint the old filter is, the new one is too, and the ends of the sets decide it if they decided the old one
+pub record KeepsConstraints (old new : Option OwnFilter) : Type 0 where
+  pub constraint : (core : Core) (c : Fact) → IsOwnFilterIfAny core c old → IsOwnFilterIfAny core c new
+  pub ends : sees_ends_if_any new ≡ sees_ends_if_any old
 
 -- each disjunction whose parts compare linear sides has a filter
 abbrev pub IsThereForDisjunctions : Core → Cons → Option OwnFilter → Type 0

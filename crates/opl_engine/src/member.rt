@@ -7,8 +7,8 @@ ghost use Rattle.opl_filter.specs.Mentions.{lists};
 ghost use Rattle.opl_filter.specs.Filtering.{refutes, IsBetween, Filters};
 ghost use Rattle.opl_trace.specs.Marks.{objective};
 ghost use Rattle.opl_trace.specs.Objective.{Objective};
-ghost use Rattle.opl_engine.specs.OwnFilters.{IsOwnFilterIfAny, KeepsConstraints};
-ghost use Rattle.opl_engine.specs.Members.{bound_fact, fact_of, wakes_on, AreThere, IsListed, IsGoal, IsMember};
+ghost use Rattle.opl_engine.specs.OwnFilters.{IsOwnFilterIfAny, KeepsConstraints, sees_ends_if_any};
+ghost use Rattle.opl_engine.specs.Members.{bound_fact, fact_of, names, sees_ends, wakes_on, wakes_by_ends, AreThere, IsListed, IsGoal, IsMember};
 ghost use Rattle.opl_engine.specs.Crowds.{IsSameMember};
 
 use crate::bound::keep_better;
@@ -34,9 +34,9 @@ pub enum Member {
 }
 
 impl Member {
-    /// The variables that wake it.
-    pub fn variables(&self) -> &[u32]
-        ensures { (x : ℕ) → lists result.now x ≡ wakes_on self.now x }
+    /// The variables that can wake it.
+    fn variables(&self) -> &[u32]
+        ensures { (x : ℕ) → lists result.now x ≡ names self.now x }
     {
         match self {
             Member::Bound(_best, variables) => variables.as_slice(),
@@ -44,6 +44,48 @@ impl Member {
             Member::Posted(_constraint, variables, _form) => variables.as_slice(),
             Member::Value(_x, _v) => &[],
         }
+    }
+
+    /// Whether these wake it by the ends of their sets alone.
+    fn sees_ends(&self) -> bool
+        ensures { result ≡ sees_ends self.now }
+    {
+        match self {
+            Member::Bound(_best, _variables) => false,
+            Member::Declared(_place, _variables, form) => filter_sees_ends(form),
+            Member::Posted(_constraint, _variables, form) => filter_sees_ends(form),
+            Member::Value(_x, _v) => false,
+        }
+    }
+
+    /// The variables that wake it by each value that they lose.
+    pub fn wakers(&self) -> &[u32]
+        ensures { (x : ℕ) → lists result.now x ≡ wakes_on self.now x }
+    {
+        if self.sees_ends() {
+            return &[];
+        }
+        self.variables()
+    }
+
+    /// The variables that wake it by the ends of their sets alone.
+    pub fn end_wakers(&self) -> &[u32]
+        ensures { (x : ℕ) → lists result.now x ≡ wakes_by_ends self.now x }
+    {
+        if self.sees_ends() {
+            return self.variables();
+        }
+        &[]
+    }
+}
+
+/// Whether the ends of sets alone decide what a filter removes, if there is one.
+fn filter_sees_ends(form: &Option<OwnFilter>) -> bool
+    ensures { result ≡ sees_ends_if_any form.now }
+{
+    match form {
+        None => false,
+        Some(filter) => filter.sees_ends(),
     }
 }
 
@@ -121,7 +163,7 @@ fn filter_by<N: Narrow>(member: &mut Member, core: &Core, n: &mut N) -> Outcome
 }
 
 impl Propagator for Member {
-    ghost use Rattle.opl_engine.specs.Members.{fact_of, wakes_on, IsMember};
+    ghost use Rattle.opl_engine.specs.Members.{fact_of, wakes_on, wakes_by_ends, IsMember};
     ghost use Rattle.opl_engine.specs.Crowds.{kind_of};
     ghost use Rattle.opl_engine.specs.Resting.{member_rests};
 
@@ -133,6 +175,8 @@ impl Propagator for Member {
 
     ghost woken_by = { wakes_on };
 
+    ghost woken_by_ends = { wakes_by_ends };
+
     ghost kind = { kind_of };
 
     fn filter<N: Narrow>(&mut self, core: &Core, n: &mut N) -> Outcome {
@@ -141,5 +185,5 @@ impl Propagator for Member {
 
     fn refresh(&mut self, _core: &Core) {}
 
-    ghost rests = { λ s d F G made. member_rests d s F G made };
+    ghost rests = { λ s d F G made wide. member_rests d s F G made wide };
 }

@@ -6,7 +6,7 @@ ghost use Rattle.opl_trace.specs.Removals.{Kept};
 ghost use Rattle.opl_closure.specs.Members.{refutes_one, Each, WaitOrAreStable, Rest, Closes};
 ghost use Rattle.opl_closure.specs.Waits.{waits};
 ghost use Rattle.opl_engine.specs.Crowds.{kind_of};
-ghost use Rattle.opl_engine.specs.Members.{fact_of, wakes_on, IsMember};
+ghost use Rattle.opl_engine.specs.Members.{fact_of, names, sees_ends, IsMember};
 ghost use Rattle.opl_engine.specs.declared.member.Member.TheVariants as variant;
 
 use crate::member::Member;
@@ -22,6 +22,8 @@ use std::marker::Model;
 pub struct Members {
     members: Vec<Member>,
     watchers: Watchers,
+    /// Those whom the ends of sets alone wake.
+    end_watchers: Watchers,
     waiting: Waiting,
 }
 
@@ -39,7 +41,7 @@ impl Model for Members {
 
     ghost view = { λ m. record { variables = length m.watchers; members = m.members.items; waits = m.waiting } };
 
-    ghost invariant = { λ m. IsCrowd m.members.items m.watchers m.waiting };
+    ghost invariant = { λ m. IsCrowd m.members.items m.watchers m.end_watchers m.waiting };
 }
 
 impl Members {
@@ -50,6 +52,7 @@ impl Members {
         Ok(Members {
             members: Vec::new(alloc),
             watchers: Watchers::new(alloc, variables)?,
+            end_watchers: Watchers::new(alloc, variables)?,
             waiting: Waiting::new(alloc),
         })
     }
@@ -63,7 +66,7 @@ impl Members {
 
     /// One more member, who waits. Where memory is wanting, all stays as it was.
     pub fn add(&mut self, member: Member) -> Result<(), OutOfMemory>
-        requires { (x : ℕ) → wakes_on member x ≡ true → x < self.old.variables }
+        requires { (x : ℕ) → names member x ≡ true → x < self.old.variables }
         ensures ok { OnOk result (self.new ≡ record self.old { members = self.old.members ++ member ∷ []; waits = self.old.waits ++ true ∷ [] }) }
         ensures err { OnErr result (self.new ≡ self.old) }
         ensures long { length self.old.waits ≡ length self.old.members }
@@ -73,7 +76,8 @@ impl Members {
             return Err(OutOfMemory);
         }
         self.members.reserve(1)?;
-        self.watchers.add(member.variables(), place as u32)?;
+        self.watchers.add(member.wakers(), place as u32)?;
+        self.end_watchers.add(member.end_wakers(), place as u32)?;
         self.waiting.push()?;
         self.members.push_reserved(member);
         Ok(())
@@ -157,6 +161,7 @@ impl Members {
             core,
             self.members.as_mut_slice(),
             &self.watchers,
+            &self.end_watchers,
             &mut self.waiting,
             n,
         )
@@ -166,7 +171,8 @@ impl Members {
 /// Gives a bound another best value.
 fn set_bound(member: &mut Member, best: Option<i128>)
     ensures bound { (b : Option ℤ) (xs : List ℕ) → member.old ≡ variant.Bound b xs → member.new ≡ variant.Bound best xs }
-    ensures woken { (x : ℕ) → wakes_on member.new x ≡ wakes_on member.old x }
+    ensures woken { (x : ℕ) → names member.new x ≡ names member.old x }
+    ensures ends { sees_ends member.new ≡ sees_ends member.old }
 {
     if let Member::Bound(old, _variables) = member {
         *old = best;

@@ -1,12 +1,12 @@
 //! Filters of their own that some kinds of constraints have.
-ghost use Rattle.std.specs.Prelude.{IfOk};
+ghost use Rattle.std.specs.Prelude.{◌≡◌, IfOk};
 ghost use Rattle.opl_domain.specs.Family.{Below};
 ghost use Rattle.opl_expr.specs.declared.model.Core.{Core};
 ghost use Rattle.opl_expr.specs.Forms.{Fact, fact};
 ghost use Rattle.opl_expr.specs.Solutions.{declared};
 ghost use Rattle.opl_expr.specs.Sound.{IsSoundFact};
 ghost use Rattle.opl_filter.specs.Filtering.{refutes, IsBetween, Filters};
-ghost use Rattle.opl_engine.specs.OwnFilters.{IsMadeWith, IsOwnFilter, IsOwnFilterIfAny, IsThereForDisjunctions, IsThereForDifferences, IsThereForKinds};
+ghost use Rattle.opl_engine.specs.OwnFilters.{IsMadeWith, IsOwnFilter, IsOwnFilterIfAny, IsThereForDisjunctions, IsThereForDifferences, IsThereForKinds, sees_ends};
 
 use opl_all_different::DifferentFilter;
 use opl_domain::{Narrow, OutOfMemory};
@@ -16,8 +16,8 @@ use opl_linear_filter::LinearFilter;
 use opl_reify::ReifyFilter;
 use std::alloc::Global;
 
-/// The filter of its own that a constraint has. A kind of filter is one more variant, with its arms in `new` and `filter`, and in
-/// the definitions of what it is made with and of which constraint it is the filter.
+/// The filter of its own that a constraint has. A kind of filter is one more variant, with its arms in `new`, `sees_ends` and `filter`,
+/// and in the definitions of what it is made with, of which constraint it is the filter, and whether ends decide it.
 #[derive(Drop)]
 pub enum OwnFilter {
     /// That of a comparison of linear sides.
@@ -65,6 +65,17 @@ impl OwnFilter {
         }
     }
 
+    /// Whether it has anything to remove only after a set has lost its least or greatest value.
+    pub fn sees_ends(&self) -> bool
+        ensures { result ≡ sees_ends self.now }
+    {
+        match self {
+            OwnFilter::Linear(filter) => filter.sees_ends(),
+            OwnFilter::Different(_filter) => true,
+            OwnFilter::Reify(filter) => filter.sees_ends(),
+        }
+    }
+
     /// Removes values that the constraint refutes alone at that moment, until the family is stable for it, or until none within
     /// is. All values must be declared. It takes no memory. The filter stays that of the same constraints.
     pub fn filter<N: Narrow>(&mut self, core: &Core, n: &mut N) -> Outcome
@@ -75,6 +86,7 @@ impl OwnFilter {
         ensures leads_to { N.leads_to n.old n.new }
         ensures made { (d : Core) → IsMadeWith d self.old → IsMadeWith d self.new }
         ensures constraint { (d : Core) (c : Fact) → IsOwnFilter d c self.old → IsOwnFilter d c self.new }
+        ensures ends { sees_ends self.new ≡ sees_ends self.old }
     {
         match self {
             OwnFilter::Linear(filter) => filter.filter(core, n),

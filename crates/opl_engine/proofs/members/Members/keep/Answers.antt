@@ -13,4 +13,4 @@ invariant_of-self c =
     let s = c.self.inside in
     let v = ap (λ (k : Crowd). length k.members) c.self.view_is in
     let l : c.args.members ≤ length s.members.items = omega (arith, c.requires, v) in
-    rw c.truncate.ensures.items (crowd_taken s.members.items s.watchers s.waiting c.rest.new.self c.args.members c.self.invariant l c.rest.ensures.long)
+    rw c.truncate.ensures.items (crowd_taken s.members.items s.watchers s.end_watchers s.waiting c.rest.new.self c.args.members c.self.invariant l c.rest.ensures.long)

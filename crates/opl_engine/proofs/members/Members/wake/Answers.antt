@@ -13,7 +13,7 @@ wake-requires c =
 pub invariant_of-self : goal.invariant_of-self
 invariant_of-self c =
     let s = c.self.inside in
-    rw c.wake.ensures (crowd_waits s.members.items s.watchers s.waiting _ c.self.invariant (length-set s.waiting c.args.i true))
+    rw c.wake.ensures (crowd_waits s.members.items s.watchers s.end_watchers s.waiting _ c.self.invariant (length-set s.waiting c.args.i true))
 
 pub returns-clause-woken : goal.returns-clause-woken
 returns-clause-woken c =

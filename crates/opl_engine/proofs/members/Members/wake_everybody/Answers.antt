@@ -9,4 +9,4 @@ wake_everybody-requires c = omega (arith, c.self.invariant.few, c.self.invariant
 pub invariant_of-self : goal.invariant_of-self
 invariant_of-self c =
     let s = c.self.inside in
-    crowd_waits s.members.items s.watchers s.waiting c.wake_everybody.new.self c.self.invariant c.wake_everybody.ensures.long
+    crowd_waits s.members.items s.watchers s.end_watchers s.waiting c.wake_everybody.new.self c.self.invariant c.wake_everybody.ensures.long
