@@ -11,7 +11,7 @@ use Rattle.opl_reader_laws.proofs.Forms.{maybe, maybe_shape, Passes, maybe_good,
 use Rattle.opl_reader_laws.proofs.Many.{pair_same, maybe_same}
 use Rattle.opl_reader_laws.proofs.Outcomes.{and_then_pure}
 use Rattle.opl_reader_laws.proofs.Phrases.{Shape, Sound, Good, Fails, AllFail, More, Law, more_bind, more_test, pair, pair_shape, pair_good, pair_fails_at}
-use Rattle.opl_reader_laws.proofs.Takes.{Takes, Begins, takes_begins, begins_split, next_left, begins_left, begins_less}
+use Rattle.opl_reader_laws.proofs.Takes.{Begins, takes_begins, begins_split, next_left, begins_left, begins_less}
 use Rattle.opl_reader_laws.proofs.Tokens.{is_sign_same, sign_shape, sign_law}
 
 abbrev pub Tail : Type 0 → Type 0

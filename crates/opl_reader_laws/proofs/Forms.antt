@@ -1,5 +1,5 @@
 -- Phrases with their place, phrases by the next token, and phrases made into another value.
-use Rattle.std.proofs.Common.{◌≡◌, ℕ, ◌≤◌, Bool, true, false, cond, ◌⊎◌, inl, inr, List, [], ◌∷◌, Option, Some, None, Ok, Err, refl, sym, ap, ◌∙◌, subst, arith}
+use Rattle.std.proofs.Common.{◌≡◌, ℕ, Bool, true, false, cond, ◌⊎◌, inl, inr, List, [], ◌∷◌, Option, Some, None, Ok, Err, refl, sym, ap, ◌∙◌, subst}
 use Rattle.opl_reader_laws.specs.Marks.{Mark, place}
 use Rattle.opl_token.specs.declared.token.Kind.{Kind}
 use Rattle.opl_grammar.specs.Input.{Input, Stop, Outcome, Parser, kind, place as place_at, ◌>>=◌, pure, here}
@@ -49,7 +49,6 @@ module _ {A : Type 0} (n : ℕ) (p : Parser A) (s : Shape A) (P : Good n p s) wh
     closing = P.closing;
     sample = λ tail h. let a = P.sample tail h in record { whole = a.whole; value = (place_at a.whole, a.value); takes = (refl, a.takes); starts = a.starts };
   }
-
 
   placed_fail : (i : Input) (e : Stop) → Fails n p s i e → Fails n (placed p) (placed_shape s) i e
   placed_fail i e f = record {
@@ -180,7 +179,6 @@ module _ {A : Type 0} (n : ℕ) (test : Option Kind → Bool) (p : Parser A) (s 
     closing = maybe_closing;
     sample = λ tail h. record { whole = tail; value = None; takes = refl; starts = λ F k. inr k };
   }
-
 
   maybe_fail : (i : Input) (e : Stop) → test (kind i) ≡ true → Fails n p s i e → Fails n (maybe test p) (maybe_shape test s) i e
   maybe_fail i e t f = record {
@@ -328,8 +326,6 @@ module _ {A B : Type 0} (n : ℕ) (test : Option Kind → Bool) (p : Parser A) (
     sample = λ tail h. let a = Q.sample tail h.1 in record { whole = a.whole; value = inr a.value; takes = a.takes; starts = λ F k. inr (a.starts F k) };
   }
 
-
-
   left_fail : (i : Input) (e : Stop) → test (kind i) ≡ true → Fails n p s i e → Fails n (either test p q) (either_shape s t) i e
   left_fail i e b f = record {
     front = f.front;
@@ -462,7 +458,6 @@ module _ {A C : Type 0} (n : ℕ) (p : Parser A) (s : Shape A) (P : Good n p s) 
         let a = P.sample tail (rule.closes (kind tail) h) in
         record { whole = a.whole; value = to a.value; takes = subst (λ ms. Takes ms a.whole tail) (sym (rule.marks a.value)) a.takes; starts = λ F k. rule.begins F (kind a.whole) (a.starts F k) };
   }
-
 
   rule_fail : (i : Input) (e : Stop) → Fails n p s i e → Fails n read u i e
   rule_fail i e f = record {

@@ -1,5 +1,5 @@
 -- A phrase of one of two kinds: the one is all, behind the other more may stand.
-use Rattle.std.proofs.Common.{◌≡◌, ℕ, max, ◌≤◌, Bool, true, false, ◌⊎◌, inl, inr, List, [], ◌++◌, Option, Some, None, Ok, Err, refl, sym, ap, ◌∙◌, subst, append-nil}
+use Rattle.std.proofs.Common.{◌≡◌, ℕ, Bool, true, false, ◌⊎◌, inl, inr, List, [], ◌++◌, Option, Some, None, Ok, Err, refl, sym, ap, ◌∙◌, subst, append-nil}
 use Rattle.opl_token.specs.declared.token.Kind.{Kind}
 use Rattle.opl_reader_laws.specs.Marks.{Mark}
 use Rattle.opl_grammar.specs.Input.{Input, Stop, Parser, kind, ◌>>=◌, pure}

@@ -7,8 +7,7 @@ use Rattle.opl_grammar.specs.Input.{Input, Stop, syntax, Outcome, Parser, kind, 
 use Rattle.opl_grammar.specs.Input.{place as place_at}
 use Rattle.opl_reader_laws.proofs.Outcomes.{err_one, ok_not_err}
 use Rattle.opl_reader_laws.proofs.Phrases.{Shape, Accepts, Sound, Sample, Good, Viable, Fails, AllFail, Law, more_test, Any}
-use Rattle.opl_grammar.specs.Input.{too_deep}
-use Rattle.opl_reader_laws.proofs.Takes.{IsUnbraced, Takes, Begins, takes_begins, Written, writes_kind, stop_front}
+use Rattle.opl_reader_laws.proofs.Takes.{IsUnbraced, Begins, takes_begins, Written, writes_kind, stop_front}
 
 -- the phrase, unless a `{` comes
 abbrev pub guarded : {A : Type 0} → Parser A → Parser A
@@ -49,7 +48,6 @@ token_or_none (mk.unbraced ∷ ms) = by_rest (token_or_none ms) where
   by_rest : Written ms ⊎ NoToken ms → Written (mk.unbraced ∷ ms) ⊎ NoToken (mk.unbraced ∷ ms)
   by_rest (inl w) = inl (record { first = w.first; is = w.is })
   by_rest (inr h) = inr h
-
 token_or_none (mk.opens k ∷ ms) = by_rest (token_or_none ms) where
   by_rest : Written ms ⊎ NoToken ms → Written (mk.opens k ∷ ms) ⊎ NoToken (mk.opens k ∷ ms)
   by_rest (inl w) = inl (record { first = w.first; is = w.is })

@@ -1,5 +1,5 @@
 -- The laws of trees and stops, for any grammar.
-use Rattle.std.proofs.Common.{◌≡◌, ℕ, max, ◌<◌, ◌≤◌, ◌⊎◌, inl, inr, List, [], ◌∷◌, ◌++◌, Option, Result, Ok, Err, refl, sym, ap, ◌∙◌, subst, arith, append_assoc, append-nil}
+use Rattle.std.proofs.Common.{◌≡◌, ℕ, max, ◌≤◌, ◌⊎◌, inl, inr, List, [], ◌∷◌, ◌++◌, Option, Result, Ok, Err, refl, sym, ap, ◌∙◌, subst, arith, append_assoc, append-nil}
 use Rattle.std.proofs.Math.Nat.{lt_of_not-le}
 use Rattle.opl_token.specs.declared.token.Kind.{Kind}
 use Rattle.opl_token.specs.declared.token.Token.{Token}

@@ -1,10 +1,9 @@
 -- Levels of nesting: what opens no level too many, and the first token that does.
-use Rattle.std.proofs.Common.{◌≡◌, ℕ, zero, suc, max, ◌<◌, ◌≤◌, ◌⊎◌, inl, inr, List, [], ◌∷◌, ◌++◌, refl, sym, ap, ◌∙◌, subst, arith}
-use Rattle.opl_token.specs.declared.token.Kind.{Kind}
+use Rattle.std.proofs.Common.{◌≡◌, ℕ, zero, suc, max, ◌<◌, ◌≤◌, ◌⊎◌, inl, inr, [], ◌∷◌, ◌++◌, refl, sym, ap, subst, arith}
 use Rattle.opl_grammar.specs.Input.{Input, next, place as place_at}
 use Rattle.opl_tree.specs.Marks.{Part}
 use Rattle.opl_tree.specs.Spelling.{kind_of}
-use Rattle.opl_reader_laws.specs.Marks.{Mark, place, token, unbraced, opens, Marks, raised, nested, kinds_of, depth_of}
+use Rattle.opl_reader_laws.specs.Marks.{place, token, unbraced, opens, Marks, raised, nested, kinds_of, depth_of}
 use Rattle.opl_reader_laws.proofs.Takes.{Takes, Begins}
 
 -- they open no level beyond the n-th

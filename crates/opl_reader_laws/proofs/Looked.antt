@@ -1,5 +1,5 @@
 -- A phrase that is looked at once it is read: where a certain token comes next, it must be of a narrower kind.
-use Rattle.std.proofs.Common.{◌≡◌, ℕ, max, ◌≤◌, Bool, true, false, cond, ◌⊎◌, inl, inr, List, ◌++◌, Option, Some, None, Ok, Err, refl, sym, ap, ◌∙◌, subst}
+use Rattle.std.proofs.Common.{◌≡◌, ℕ, Bool, true, false, cond, ◌⊎◌, inl, inr, List, ◌++◌, Option, Some, None, Ok, Err, refl, sym, ap, ◌∙◌, subst}
 use Rattle.std.specs.Prelude.{is_some}
 use Rattle.opl_token.specs.declared.token.Kind.{Kind}
 use Rattle.opl_reader_laws.specs.Marks.{Mark}

@@ -2,11 +2,9 @@
 use Rattle.std.proofs.Common.{◌≡◌, ℕ, zero, suc, max, ◌<◌, ◌≤◌, Bool, true, false, cond, ◌⊎◌, inl, inr, List, [], ◌∷◌, ◌++◌, map, Option, Some, None, Ok, Err, refl, sym, ap, ◌∙◌, subst, arith, append_assoc, append-nil}
 use Rattle.opl_token.specs.declared.token.Kind.{Kind}
 use Rattle.opl_reader_laws.specs.Marks.{joined}
-use Rattle.opl_grammar.specs.Input.{too_deep}
-use Rattle.opl_reader_laws.proofs.Levels.{Fits, Beyond}
 use Rattle.opl_grammar.specs.Input.{Input, Stop, Outcome, Parser, kind, left, and_then, ◌>>=◌, pure, refuse, many, many_from}
 use Rattle.opl_reader_laws.proofs.Outcomes.{and_then_pure}
-use Rattle.opl_reader_laws.proofs.Takes.{Takes, takes_split, Begins, takes_begins, begins_split, begins_less, Written}
+use Rattle.opl_reader_laws.proofs.Takes.{Begins, takes_begins, begins_split, begins_less, Written}
 use Rattle.opl_reader_laws.proofs.Phrases.{Shape, Accepts, Sound, Good, Fails, AllFail, More, Law, Any, more_bind, more_test, pair, pair_shape, pair_good, pair_fails_at}
 use Rattle.opl_reader_laws.proofs.Forms.{maybe, maybe_shape, maybe_fits, maybe_good, maybe_fails_at, mapped, Made, Rule, rule_good, rule_fails_at, Passes}
 

@@ -1,5 +1,5 @@
 -- One of two phrases, of which the second may write nothing.
-use Rattle.std.proofs.Common.{◌≡◌, ℕ, ◌≤◌, Bool, true, false, cond, ◌⊎◌, inl, inr, Option, Ok, Err, refl, ap, ◌∙◌, subst}
+use Rattle.std.proofs.Common.{◌≡◌, ℕ, Bool, true, false, cond, ◌⊎◌, inl, inr, Option, Ok, Err, refl, ap, ◌∙◌, subst}
 use Rattle.opl_token.specs.declared.token.Kind.{Kind}
 use Rattle.opl_grammar.specs.Input.{Input, Stop, Outcome, Parser, kind, ◌>>=◌, pure}
 use Rattle.opl_reader_laws.proofs.Forms.{Passes, either, by_side, either_more}

@@ -1,6 +1,6 @@
 -- Readers with what they read: the shape of a phrase, the laws of a reader over so many levels of nesting, and how the
 -- laws carry over from parts to the whole. Each rule of the grammar is put together from these.
-use Rattle.std.proofs.Common.{◌≡◌, ℕ, ◌<◌, ◌≤◌, Bool, true, false, cond, ◌⊎◌, inl, inr, List, [], ◌∷◌, ◌++◌, Option, Some, None, Ok, Err, refl, sym, ap, ◌∙◌, subst, arith}
+use Rattle.std.proofs.Common.{◌≡◌, ℕ, Bool, true, false, cond, ◌⊎◌, inl, inr, List, [], ◌∷◌, ◌++◌, Option, Some, None, Ok, Err, refl, ap, ◌∙◌, subst}
 use Rattle.opl_tree.specs.Marks.{Part}
 use Rattle.opl_tree.specs.Spelling.{kind_of, IsProper}
 use Rattle.opl_token.specs.declared.token.Kind.{Kind}

@@ -1,5 +1,5 @@
 -- Marks behind some places: the levels are the same.
-use Rattle.std.proofs.Common.{◌≡◌, ℕ, List, [], ◌∷◌, refl, sym, subst}
+use Rattle.std.proofs.Common.{◌≡◌, ℕ, List, [], ◌∷◌, sym, subst}
 use Rattle.opl_grammar.specs.Input.{Input}
 use Rattle.opl_reader_laws.specs.Marks.{Mark}
 use Rattle.opl_reader_laws.specs.Marks as mk

@@ -1,6 +1,6 @@
 -- The tree of tokens and the reader of the whole: each is the other. For any grammar, by the type of its trees, their marks and
 -- the laws of its reader.
-use Rattle.std.proofs.Common.{◌≡◌, ℕ, zero, suc, ◌+◌, max, ◌<◌, ◌≤◌, Bool, true, false, ◌⊎◌, inl, inr, List, [], ◌∷◌, ◌++◌, length, map, Option, Some, None, Result, Ok, Err, refl, sym, ap, ◌∙◌, subst, arith, append_assoc, append-nil}
+use Rattle.std.proofs.Common.{◌≡◌, ℕ, suc, ◌+◌, max, ◌<◌, ◌≤◌, Bool, true, false, ◌⊎◌, inl, inr, List, [], ◌∷◌, ◌++◌, length, Option, Some, None, Ok, Err, refl, sym, ap, ◌∙◌, subst, arith, append_assoc, append-nil}
 use Rattle.std.specs.Option.{option_map}
 use Rattle.opl_token.specs.declared.sign.Sign.TheVariants.{OpenBrace}
 use Rattle.opl_token.specs.declared.token.Kind.{Kind}
@@ -10,7 +10,7 @@ use Rattle.opl_tree.specs.Keywords.{keyword_text}
 use Rattle.opl_tree.specs.Marks.{Part}
 use Rattle.opl_tree.specs.Marks as pt
 use Rattle.opl_tree.specs.Reading.{kinds, place_of}
-use Rattle.opl_tree.specs.Spelling.{kind_of, IsProper}
+use Rattle.opl_tree.specs.Spelling.{kind_of}
 use Rattle.opl_grammar.specs.Input.{Input, Stop, syntax, too_deep, Outcome, Parser, kind, next, look, is_sign, first_kind}
 use Rattle.opl_grammar.specs.Input.{place as place_at}
 use Rattle.opl_reader_laws.specs.Marks.{Mark, Marks, kinds_of, first_part, AllProper, depth_of}
@@ -19,7 +19,7 @@ use Rattle.opl_reader_laws.specs.Reading as rd
 use Rattle.opl_reader_laws.specs.Reading.{AtPlaces}
 use Rattle.opl_reader_laws.proofs.Forms.{plain}
 use Rattle.opl_reader_laws.proofs.Levels.{Fits, fits_of, depth_fits, fits_or_beyond, Beyond, beyond_at, beyond_found}
-use Rattle.opl_reader_laws.proofs.Outcomes.{ok_one, err_one, ok_not_err}
+use Rattle.opl_reader_laws.proofs.Outcomes.{ok_not_err}
 use Rattle.opl_reader_laws.proofs.Phrases.{Shape, Accepts, Faults, Fails, nests_too_deep, Law}
 use Rattle.opl_reader_laws.proofs.Takes.{IsUnbraced, Takes, Begins, begins_split, begins_join, is_deep, Last, Position}
 use Rattle.opl_reader_laws.proofs.Tokens.{look_sign, sees_sign_true}
@@ -416,7 +416,7 @@ module _ {T : Type 0} (marks : T → Marks) (begins : (Option Kind → Type 0) �
       let s = same_cut c.front mid.tokens a.before (a.opener ∷ a.back) (sym c.is ∙ a.is) (sym first ∙ (a.placed ∙ second)) in
       let fronts : kinds a.before ≡ kinds o.front = ap kinds (sym s.fronts) ∙ (c.same ∙ o.same) in
       let spelling : (kinds a.before ++ a.opener.kind ∷ kinds a.back) ≡ kinds o.front ++ (o.opener.kind ∷ o.rest) =
-          sym (kinds-append a.before (a.opener ∷ a.back)) ∙ (ap kinds (sym a.is) ∙ (numbered_kinds 0 ks ∙ (ap kinds_of o.opened ∙ (kinds_of-split o.before (mk.opens o.number ∷ o.behind) ∙ (ap (λ xs. xs ++ kinds_of o.behind) o.same ∙ ap (λ xs. kinds o.front ++ xs) o.next))))) in
+      sym (kinds-append a.before (a.opener ∷ a.back)) ∙ (ap kinds (sym a.is) ∙ (numbered_kinds 0 ks ∙ (ap kinds_of o.opened ∙ (kinds_of-split o.before (mk.opens o.number ∷ o.behind) ∙ (ap (λ xs. xs ++ kinds_of o.behind) o.same ∙ ap (λ xs. kinds o.front ++ xs) o.next))))) in
       let openers : a.opener.kind ≡ o.opener.kind = same_head (kinds o.front) a.opener.kind o.opener.kind (kinds a.back) o.rest (ap (λ xs. xs ++ a.opener.kind ∷ kinds a.back) (sym fronts) ∙ spelling) in
       let whole : kinds_of f.front ≡ kinds o.front ++ o.opener.kind ∷ [] = a.same ∙ (ap (λ xs. xs ++ a.opener.kind ∷ []) fronts ∙ ap (λ x. kinds o.front ++ x ∷ []) openers) in
       let all : kinds tokens ≡ kinds_of f.front ++ kinds o.back = ap kinds o.parts ∙ (kinds-append o.front (o.opener ∷ o.back) ∙ (sym (append_assoc (kinds o.front) (o.opener.kind ∷ []) (kinds o.back)) ∙ ap (λ xs. xs ++ kinds o.back) (sym whole))) in
@@ -458,7 +458,7 @@ module _ {T : Type 0} (marks : T → Marks) (begins : (Option Kind → Type 0) �
         let l = last_kinds (kinds b.before) (kinds a.before) b.opener.kind a.opener.kind (sym b.same ∙ a.same) in
         let fronts : kinds_of u.before ≡ kinds b.before = sym c.same ∙ (ap kinds s.fronts ∙ sym l.0) in
         let spelling : kinds b.before ++ kinds_of u.behind ≡ kinds b.before ++ (b.opener.kind ∷ kinds a.back) =
-            ap (λ xs. xs ++ kinds_of u.behind) (sym fronts) ∙ (sym (kinds_of-split u.before (mk.opens u.number ∷ u.behind)) ∙ (ap kinds_of (sym u.is) ∙ (sym (numbered_kinds 0 ks) ∙ (ap kinds a.is ∙ (kinds-append a.before (a.opener ∷ a.back) ∙ (ap (λ xs. xs ++ a.opener.kind ∷ kinds a.back) (sym l.0) ∙ ap (λ k. kinds b.before ++ k ∷ kinds a.back) (sym l.1))))))) in
+        ap (λ xs. xs ++ kinds_of u.behind) (sym fronts) ∙ (sym (kinds_of-split u.before (mk.opens u.number ∷ u.behind)) ∙ (ap kinds_of (sym u.is) ∙ (sym (numbered_kinds 0 ks) ∙ (ap kinds a.is ∙ (kinds-append a.before (a.opener ∷ a.back) ∙ (ap (λ xs. xs ++ a.opener.kind ∷ kinds a.back) (sym l.0) ∙ ap (λ k. kinds b.before ++ k ∷ kinds a.back) (sym l.1))))))) in
         record {
           front = b.before;
           opener = b.opener;
@@ -549,7 +549,7 @@ module _ {T : Type 0} (marks : T → Marks) (begins : (Option Kind → Type 0) �
       let c = numbered_cut 0 front k others in
       let parts : numbered 0 ks ≡ c.before ++ c.at ∷ c.back = ap (numbered 0) e ∙ c.is in
       let begins : kinds c.before ++ kinds_of o.behind ≡ kinds c.before ++ (k ∷ rest) =
-          ap (λ xs. xs ++ kinds_of o.behind) (c.same ∙ sym o.same) ∙ (sym (kinds_of-split o.before (mk.opens o.number ∷ o.behind)) ∙ (ap kinds_of (sym o.opened) ∙ (h ∙ ap (λ xs. xs ++ k ∷ rest) (sym c.same)))) in
+      ap (λ xs. xs ++ kinds_of o.behind) (c.same ∙ sym o.same) ∙ (sym (kinds_of-split o.before (mk.opens o.number ∷ o.behind)) ∙ (ap kinds_of (sym o.opened) ∙ (h ∙ ap (λ xs. xs ++ k ∷ rest) (sym c.same)))) in
       let there_too : rd.OpensAt marks n (numbered 0 ks) c.at.at = record {
         front = c.before;
         opener = c.at;

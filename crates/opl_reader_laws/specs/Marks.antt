@@ -1,6 +1,6 @@
 -- The marks of a tree: what it writes, token by token, with the place of each node before the node's first token, and with
 -- the levels of nesting that its tokens open.
-use Rattle.std.specs.Prelude.{◌≡◌, ◌≢◌, ℕ, suc, max, Bool, true, false, List, [], ◌∷◌, ◌++◌, Option, None, Some}
+use Rattle.std.specs.Prelude.{◌≢◌, ℕ, suc, max, Bool, true, false, List, [], ◌∷◌, ◌++◌, Option, None, Some}
 use Rattle.opl_token.specs.declared.sign.Sign.{Sign}
 use Rattle.opl_token.specs.declared.sign.Sign.TheVariants.{OpenBrace}
 use Rattle.opl_token.specs.declared.token.Kind.{Kind}

@@ -1,12 +1,12 @@
 -- The tree of a list of tokens, where a list of tokens stops being the beginning of a text of the grammar, and where it nests
 -- too deep: for any grammar, by the type of its trees and their marks.
-use Rattle.std.specs.Prelude.{◌≡◌, ◌<◌, ◌≤◌, ◌⊎◌, ℕ, List, [], ◌∷◌, ◌++◌, map, Result, Ok, Err}
+use Rattle.std.specs.Prelude.{◌≡◌, ◌<◌, ◌≤◌, ◌⊎◌, ℕ, List, [], ◌∷◌, ◌++◌, Result, Ok, Err}
 use Rattle.opl_token.specs.declared.token.Kind.{Kind}
 use Rattle.opl_token.specs.declared.token.Token.{Token}
 use Rattle.opl_tree.specs.declared.fault.SyntaxFault.{SyntaxFault}
 use Rattle.opl_tree.specs.declared.fault.SyntaxFault.TheVariants.{Syntax, TooDeep, OutOfMemory}
 use Rattle.opl_tree.specs.Reading.{kinds, place_of}
-use Rattle.opl_reader_laws.specs.Marks.{Mark, place, token, unbraced, opens, Marks, kinds_of, AllProper, depth_of}
+use Rattle.opl_reader_laws.specs.Marks.{place, token, unbraced, opens, Marks, kinds_of, AllProper, depth_of}
 
 -- each node's place is that of the token that comes next
 abbrev pub AtPlaces : Marks → List Token → ℕ → Type 0
