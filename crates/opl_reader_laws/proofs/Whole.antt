@@ -320,6 +320,13 @@ last_at front ts end stop at b l =
             placed = p ∙ ap (λ xs. place_of xs mid.end) e;
           }
 
+-- it is the token that stands behind the same kinds
+placed_at : (front : List Mark) (ts : List Token) (at : ℕ) (e : LastAt front ts at) (xs ys : List Token) (t : Token) → ts ≡ xs ++ t ∷ ys → kinds_of front ≡ kinds xs ++ t.kind ∷ [] → at ≡ t.at
+placed_at front ts at e xs ys t is same =
+    let ends = last_kinds (kinds e.before) (kinds xs) e.opener.kind t.kind (sym e.same ∙ same) in
+    let z = same_cut e.before (e.opener ∷ e.back) xs (t ∷ ys) (sym e.is ∙ is) (same_length e.before xs ends.0) in
+    e.placed ∙ ap (λ (x : Token). x.at) (first_same z.backs)
+
 -- tokens that begin with the kinds of a front begin with it
 record Beginning (front : List Mark) (ts : List Token) (end : ℕ) : Type 0 where
   stop : Input
@@ -405,34 +412,33 @@ module _ {T : Type 0} (marks : T → Marks) (begins : (Option Kind → Type 0) �
   before_place t front mid b c =
       subst (λ x. place_of mid.tokens x ≡ length c.front) (sym (begins_end front (spelt t) mid b)) (place_in (kinds_of (marks t)) c.front mid.tokens c.is)
 
-  opens_reads_at : (n : ℕ) (tokens : List Token) (end at : ℕ) (o : rd.OpensAt marks n tokens at) (mid : Input) → Begins o.before (spelt o.tree) mid → read n (spelt o.tree) ≡ Err (too_deep (place_at mid)) → read n (start tokens end) ≡ Err (too_deep at)
-  opens_reads_at n tokens end at o mid b h =
+  -- the stop over the tree's own tokens, and the last token of its front, tell the stop over these
+  opens_reads_at : (n : ℕ) (tokens : List Token) (end at : ℕ) (o : rd.OpensAt marks n tokens at) (mid : Input) → Begins o.before (spelt o.tree) mid → (f : Fails n (read n) (whole_shape marks begins) (spelt o.tree) (too_deep (place_at mid))) →
+      LastAt f.front (numbered 0 (kinds_of (marks o.tree))) (place_at mid) → read n (start tokens end) ≡ Err (too_deep at)
+  opens_reads_at n tokens end at o mid b f a =
       let ks = kinds_of (marks o.tree) in
-      let f = (own n).fails (spelt o.tree) (too_deep (place_at mid)) h in
-      let a = last_at f.front (numbered 0 ks) (length ks) f.stop (place_at mid) f.begins f.position in
       let c = begins_cut o.before (numbered 0 ks) (length ks) mid b in
       let first : place_at mid ≡ length c.front = before_place o.tree o.before mid b c in
       let second : a.opener.at ≡ length a.before = place_in ks a.before (a.opener ∷ a.back) a.is in
       let s = same_cut c.front mid.tokens a.before (a.opener ∷ a.back) (sym c.is ∙ a.is) (sym first ∙ (a.placed ∙ second)) in
       let fronts : kinds a.before ≡ kinds o.front = ap kinds (sym s.fronts) ∙ (c.same ∙ o.same) in
       let spelling : (kinds a.before ++ a.opener.kind ∷ kinds a.back) ≡ kinds o.front ++ (o.opener.kind ∷ o.rest) =
-      sym (kinds-append a.before (a.opener ∷ a.back)) ∙ (ap kinds (sym a.is) ∙ (numbered_kinds 0 ks ∙ (ap kinds_of o.opened ∙ (kinds_of-split o.before (mk.opens o.number ∷ o.behind) ∙ (ap (λ xs. xs ++ kinds_of o.behind) o.same ∙ ap (λ xs. kinds o.front ++ xs) o.next))))) in
+          sym (kinds-append a.before (a.opener ∷ a.back)) ∙ (ap kinds (sym a.is) ∙ (numbered_kinds 0 ks ∙ (ap kinds_of o.opened ∙ (kinds_of-split o.before (mk.opens o.number ∷ o.behind) ∙ (ap (λ xs. xs ++ kinds_of o.behind) o.same ∙ ap (λ xs. kinds o.front ++ xs) o.next))))) in
       let openers : a.opener.kind ≡ o.opener.kind = same_head (kinds o.front) a.opener.kind o.opener.kind (kinds a.back) o.rest (ap (λ xs. xs ++ a.opener.kind ∷ kinds a.back) (sym fronts) ∙ spelling) in
       let whole : kinds_of f.front ≡ kinds o.front ++ o.opener.kind ∷ [] = a.same ∙ (ap (λ xs. xs ++ a.opener.kind ∷ []) fronts ∙ ap (λ x. kinds o.front ++ x ∷ []) openers) in
       let all : kinds tokens ≡ kinds_of f.front ++ kinds o.back = ap kinds o.parts ∙ (kinds-append o.front (o.opener ∷ o.back) ∙ (sym (append_assoc (kinds o.front) (o.opener.kind ∷ []) (kinds o.back)) ∙ ap (λ xs. xs ++ kinds o.back) (sym whole))) in
       let g = last_again f.front (spelt o.tree) f.stop (place_at mid) f.begins f.position tokens end (kinds o.back) all in
       let d = deep_of (place_at mid) f.front (start tokens end) g.stop (read n (start tokens end)) (f.again (start tokens end) g.stop g.begins tt) in
       let e = last_at f.front tokens end g.stop d.at g.begins d.last in
-      let ends = last_kinds (kinds e.before) (kinds o.front) e.opener.kind o.opener.kind (sym e.same ∙ whole) in
-      let z = same_cut e.before (e.opener ∷ e.back) o.front (o.opener ∷ o.back) (sym e.is ∙ o.parts) (same_length e.before o.front ends.0) in
-      d.is ∙ ap (λ x. Err (too_deep x)) (e.placed ∙ (ap (λ (x : Token). x.at) (first_same z.backs) ∙ sym o.placed))
+      d.is ∙ ap (λ x. Err (too_deep x)) (placed_at f.front tokens d.at e o.front o.back o.opener o.parts whole ∙ sym o.placed)
 
   -- where the first token opens a level too many, the reader stops
   pub opens_reads : (n : ℕ) (tokens : List Token) (end at : ℕ) → rd.OpensAt marks n tokens at → read n (start tokens end) ≡ Err (too_deep at)
   opens_reads n tokens end at o =
       let w = begins_split o.before (mk.opens o.number ∷ o.behind) (spelt o.tree) (start [] (length (kinds_of (marks o.tree)))) (subst (λ ms. Begins ms (spelt o.tree) (start [] (length (kinds_of (marks o.tree))))) o.opened (spelt_begins o.tree o.formed)) in
       let g = subst (λ ms. Beyond n ms (spelt o.tree) (place_at w.mid)) (sym o.opened) (beyond_at n o.number o.before o.behind (spelt o.tree) w.mid (fits_of n o.before o.first) o.too_many w.front) in
-      opens_reads_at n tokens end at o w.mid w.front (deep_there n o.tree (place_at w.mid) o.formed g)
+      let f = (own n).fails (spelt o.tree) (too_deep (place_at w.mid)) (deep_there n o.tree (place_at w.mid) o.formed g) in
+      opens_reads_at n tokens end at o w.mid w.front f (last_at f.front (numbered 0 (kinds_of (marks o.tree))) (length (kinds_of (marks o.tree))) f.stop (place_at w.mid) f.begins f.position)
 
   -- ---- where it stops so, the token opens a level too many
 
