@@ -14,7 +14,8 @@ use Rattle.opl_reader_laws.specs.Marks as mk
 use Rattle.opl_reader_laws.specs.Reading as rd
 use Rattle.opl_reader_laws.proofs.Levels.{fits_of, depth_fits}
 use Rattle.opl_reader_laws.proofs.Outcomes.{ok_one, ok_not_err}
-use Rattle.opl_reader_laws.proofs.Whole.{start, first_same, rest_same, kinds-append, kinds_of-split, deep_one, Grammar, whole_reads, whole_ok, opens_reads, whole_opens, whole_stops}
+use Rattle.opl_reader_laws.proofs.Spelt.{kinds_of-append}
+use Rattle.opl_reader_laws.proofs.Whole.{start, first_same, rest_same, kinds-append, deep_one, Grammar, whole_reads, whole_ok, opens_reads, whole_opens, whole_stops}
 
 -- one beginning goes on with what stands behind another
 pub record GoesOn (front back other : List Token) : Type 0 where
@@ -129,7 +130,7 @@ module _ {T : Type 0} (marks : T → Marks) (begins : (Option Kind → Type 0) �
     tree = o.tree;
     formed = o.formed;
     rest = o.rest;
-    begins = ap kinds_of o.opened ∙ (kinds_of-split o.before (mk.opens o.number ∷ o.behind) ∙ (ap (λ ks. ks ++ kinds_of o.behind) o.same ∙ (ap (λ ks. kinds o.front ++ ks) o.next ∙ sym (append_assoc (kinds o.front) (o.opener.kind ∷ []) o.rest))));
+    begins = ap kinds_of o.opened ∙ (kinds_of-append o.before (mk.opens o.number ∷ o.behind) ∙ (ap (λ ks. ks ++ kinds_of o.behind) o.same ∙ (ap (λ ks. kinds o.front ++ ks) o.next ∙ sym (append_assoc (kinds o.front) (o.opener.kind ∷ []) o.rest))));
   }
 
   -- so they stop behind that token, if they stop

@@ -1,9 +1,7 @@
 -- Levels of nesting: what opens no level too many, and the first token that does.
-use Rattle.std.proofs.Common.{◌≡◌, ℕ, zero, suc, max, ◌<◌, ◌≤◌, ◌⊎◌, inl, inr, [], ◌∷◌, ◌++◌, refl, sym, ap, subst, arith}
+use Rattle.std.proofs.Common.{◌≡◌, ℕ, zero, suc, ◌<◌, ◌≤◌, ◌⊎◌, inl, inr, [], ◌∷◌, ◌++◌, refl, sym, ap, subst, arith}
 use Rattle.opl_grammar.specs.Input.{Input, next, place as place_at}
-use Rattle.opl_tree.specs.Marks.{Part}
-use Rattle.opl_tree.specs.Spelling.{kind_of}
-use Rattle.opl_reader_laws.specs.Marks.{place, token, unbraced, opens, Marks, raised, nested, kinds_of, depth_of}
+use Rattle.opl_reader_laws.specs.Marks.{place, token, unbraced, opens, Marks, raised, depth_of}
 use Rattle.opl_reader_laws.proofs.Takes.{Takes, Begins}
 
 -- they open no level beyond the n-th
@@ -102,20 +100,6 @@ begins_lowered (token p ∷ ms) i j t = (t.0, begins_lowered ms (next i) j t.1)
 begins_lowered (unbraced ∷ ms) i j t = (t.0, begins_lowered ms i j t.1)
 begins_lowered (opens k ∷ ms) i j t = begins_lowered ms i j t
 
-pub raised-append : (ms ns : Marks) → raised (ms ++ ns) ≡ raised ms ++ raised ns
-raised-append [] ns = refl
-raised-append (place at ∷ ms) ns = ap (λ xs. place at ∷ xs) (raised-append ms ns)
-raised-append (token p ∷ ms) ns = ap (λ xs. token p ∷ xs) (raised-append ms ns)
-raised-append (unbraced ∷ ms) ns = ap (λ xs. unbraced ∷ xs) (raised-append ms ns)
-raised-append (opens k ∷ ms) ns = ap (λ xs. opens (suc k) ∷ xs) (raised-append ms ns)
-
-pub kinds_of-raised : (ms : Marks) → kinds_of (raised ms) ≡ kinds_of ms
-kinds_of-raised [] = refl
-kinds_of-raised (place at ∷ ms) = kinds_of-raised ms
-kinds_of-raised (token p ∷ ms) = ap (λ ks. kind_of p ∷ ks) (kinds_of-raised ms)
-kinds_of-raised (unbraced ∷ ms) = kinds_of-raised ms
-kinds_of-raised (opens k ∷ ms) = kinds_of-raised ms
-
 -- ---- the depth
 
 pub fits_of : (n : ℕ) (ms : Marks) → depth_of ms ≤ n → Fits n ms
@@ -131,24 +115,6 @@ depth_fits n (place at ∷ ms) f = depth_fits n ms f
 depth_fits n (token p ∷ ms) f = depth_fits n ms f
 depth_fits n (unbraced ∷ ms) f = depth_fits n ms f
 depth_fits n (opens k ∷ ms) f = let p = f.0 in let e = depth_fits n ms f.1 in omega arith
-
-pub depth_of-append : (ms ns : Marks) → depth_of (ms ++ ns) ≡ max (depth_of ms) (depth_of ns)
-depth_of-append [] ns = omega arith
-depth_of-append (place at ∷ ms) ns = depth_of-append ms ns
-depth_of-append (token p ∷ ms) ns = depth_of-append ms ns
-depth_of-append (unbraced ∷ ms) ns = depth_of-append ms ns
-depth_of-append (opens k ∷ ms) ns = let e = depth_of-append ms ns in omega arith
-
-pub depth_of-raised : (ms : Marks) → max 1 (depth_of (raised ms)) ≡ suc (depth_of ms)
-depth_of-raised [] = refl
-depth_of-raised (place at ∷ ms) = depth_of-raised ms
-depth_of-raised (token p ∷ ms) = depth_of-raised ms
-depth_of-raised (unbraced ∷ ms) = depth_of-raised ms
-depth_of-raised (opens k ∷ ms) = let e = depth_of-raised ms in omega arith
-
--- what stands in a level nests one deeper
-pub depth_of-nested : (p : Part) (ms : Marks) → depth_of (nested p ms) ≡ suc (depth_of ms)
-depth_of-nested p ms = depth_of-raised ms
 
 -- either all fits, or some token is the first too many
 le_or_lt : (k n : ℕ) → (k ≤ n) ⊎ (n < k)

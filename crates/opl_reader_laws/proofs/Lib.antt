@@ -1,6 +1,8 @@
 pub mod Outcomes
 pub mod Takes
 pub mod Levels
+pub mod Spelt
+pub mod Depths
 pub mod Phrases
 pub mod Forms
 pub mod Tokens

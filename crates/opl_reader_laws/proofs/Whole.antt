@@ -21,6 +21,7 @@ use Rattle.opl_reader_laws.proofs.Forms.{plain}
 use Rattle.opl_reader_laws.proofs.Levels.{Fits, fits_of, depth_fits, fits_or_beyond, Beyond, beyond_at, beyond_found}
 use Rattle.opl_reader_laws.proofs.Outcomes.{ok_not_err}
 use Rattle.opl_reader_laws.proofs.Phrases.{Shape, Accepts, Faults, Fails, nests_too_deep, Law}
+use Rattle.opl_reader_laws.proofs.Spelt.{kinds_of-append}
 use Rattle.opl_reader_laws.proofs.Takes.{IsUnbraced, Takes, Begins, begins_split, begins_join, is_deep, Last, Position}
 use Rattle.opl_reader_laws.proofs.Tokens.{look_sign, sees_sign_true}
 
@@ -197,13 +198,6 @@ pub kinds-append : (xs ys : List Token) → kinds (xs ++ ys) ≡ kinds xs ++ kin
 kinds-append [] ys = refl
 kinds-append (x ∷ xs) ys = ap (λ ks. x.kind ∷ ks) (kinds-append xs ys)
 
-pub kinds_of-split : (ms ns : List Mark) → kinds_of (ms ++ ns) ≡ kinds_of ms ++ kinds_of ns
-kinds_of-split [] ns = refl
-kinds_of-split (mk.place at ∷ ms) ns = kinds_of-split ms ns
-kinds_of-split (mk.token p ∷ ms) ns = ap (λ ks. kind_of p ∷ ks) (kinds_of-split ms ns)
-kinds_of-split (mk.unbraced ∷ ms) ns = kinds_of-split ms ns
-kinds_of-split (mk.opens n ∷ ms) ns = kinds_of-split ms ns
-
 begins_functional : (ms : List Mark) (i j l : Input) → Begins ms i j → Begins ms i l → j ≡ l
 begins_functional [] i j l h k = sym h ∙ k
 begins_functional (mk.place at ∷ ms) i j l h k = begins_functional ms i j l h k
@@ -316,7 +310,7 @@ last_at front ts end stop at b l =
             opener = u;
             back = us;
             is = c.is ∙ ap (λ xs. c.front ++ xs) e;
-            same = ap kinds_of l.is ∙ (kinds_of-split l.before (mk.token l.part ∷ []) ∙ (ap (λ ks. ks ++ kind_of l.part ∷ []) (sym c.same) ∙ ap (λ x. kinds c.front ++ x ∷ []) last));
+            same = ap kinds_of l.is ∙ (kinds_of-append l.before (mk.token l.part ∷ []) ∙ (ap (λ ks. ks ++ kind_of l.part ∷ []) (sym c.same) ∙ ap (λ x. kinds c.front ++ x ∷ []) last));
             placed = p ∙ ap (λ xs. place_of xs mid.end) e;
           }
 
@@ -336,7 +330,7 @@ last_again : (front : List Mark) (i stop : Input) (at : ℕ) → Begins front i 
 last_again front i stop at b l ts end ks e =
     let w = begins_split l.before (mk.token l.part ∷ []) i stop (subst (λ ms. Begins ms i stop) l.is b) in
     let same = begins_functional l.before i w.mid l.mid w.front l.begins in
-    let spelt : kinds ts ≡ kinds_of l.before ++ kind_of l.part ∷ ks = e ∙ (ap (λ ms. kinds_of ms ++ ks) l.is ∙ (ap (λ xs. xs ++ ks) (kinds_of-split l.before (mk.token l.part ∷ [])) ∙ append_assoc (kinds_of l.before) (kind_of l.part ∷ []) ks)) in
+    let spelt : kinds ts ≡ kinds_of l.before ++ kind_of l.part ∷ ks = e ∙ (ap (λ ms. kinds_of ms ++ ks) l.is ∙ (ap (λ xs. xs ++ ks) (kinds_of-append l.before (mk.token l.part ∷ [])) ∙ append_assoc (kinds_of l.before) (kind_of l.part ∷ []) ks)) in
     let r = begins_again l.before i l.mid ts end (kind_of l.part ∷ ks) l.begins spelt (λ us h. first_of_some us (kind_of l.part) ks h ∙ sym (ap kind (sym same) ∙ w.back.0.0)) in
     let one : Begins (mk.token l.part ∷ []) r.mid (next r.mid) = ((first_of_some r.mid.tokens (kind_of l.part) ks r.rest, w.back.0.1), refl) in
     record { stop = next r.mid; begins = subst (λ ms. Begins ms (start ts end) (next r.mid)) (sym l.is) (begins_join l.before (mk.token l.part ∷ []) (start ts end) r.mid (next r.mid) r.begins one) }
@@ -423,7 +417,7 @@ module _ {T : Type 0} (marks : T → Marks) (begins : (Option Kind → Type 0) �
       let s = same_cut c.front mid.tokens a.before (a.opener ∷ a.back) (sym c.is ∙ a.is) (sym first ∙ (a.placed ∙ second)) in
       let fronts : kinds a.before ≡ kinds o.front = ap kinds (sym s.fronts) ∙ (c.same ∙ o.same) in
       let spelling : (kinds a.before ++ a.opener.kind ∷ kinds a.back) ≡ kinds o.front ++ (o.opener.kind ∷ o.rest) =
-          sym (kinds-append a.before (a.opener ∷ a.back)) ∙ (ap kinds (sym a.is) ∙ (numbered_kinds 0 ks ∙ (ap kinds_of o.opened ∙ (kinds_of-split o.before (mk.opens o.number ∷ o.behind) ∙ (ap (λ xs. xs ++ kinds_of o.behind) o.same ∙ ap (λ xs. kinds o.front ++ xs) o.next))))) in
+          sym (kinds-append a.before (a.opener ∷ a.back)) ∙ (ap kinds (sym a.is) ∙ (numbered_kinds 0 ks ∙ (ap kinds_of o.opened ∙ (kinds_of-append o.before (mk.opens o.number ∷ o.behind) ∙ (ap (λ xs. xs ++ kinds_of o.behind) o.same ∙ ap (λ xs. kinds o.front ++ xs) o.next))))) in
       let openers : a.opener.kind ≡ o.opener.kind = same_head (kinds o.front) a.opener.kind o.opener.kind (kinds a.back) o.rest (ap (λ xs. xs ++ a.opener.kind ∷ kinds a.back) (sym fronts) ∙ spelling) in
       let whole : kinds_of f.front ≡ kinds o.front ++ o.opener.kind ∷ [] = a.same ∙ (ap (λ xs. xs ++ a.opener.kind ∷ []) fronts ∙ ap (λ x. kinds o.front ++ x ∷ []) openers) in
       let all : kinds tokens ≡ kinds_of f.front ++ kinds o.back = ap kinds o.parts ∙ (kinds-append o.front (o.opener ∷ o.back) ∙ (sym (append_assoc (kinds o.front) (o.opener.kind ∷ []) (kinds o.back)) ∙ ap (λ xs. xs ++ kinds o.back) (sym whole))) in
@@ -464,7 +458,7 @@ module _ {T : Type 0} (marks : T → Marks) (begins : (Option Kind → Type 0) �
         let l = last_kinds (kinds b.before) (kinds a.before) b.opener.kind a.opener.kind (sym b.same ∙ a.same) in
         let fronts : kinds_of u.before ≡ kinds b.before = sym c.same ∙ (ap kinds s.fronts ∙ sym l.0) in
         let spelling : kinds b.before ++ kinds_of u.behind ≡ kinds b.before ++ (b.opener.kind ∷ kinds a.back) =
-        ap (λ xs. xs ++ kinds_of u.behind) (sym fronts) ∙ (sym (kinds_of-split u.before (mk.opens u.number ∷ u.behind)) ∙ (ap kinds_of (sym u.is) ∙ (sym (numbered_kinds 0 ks) ∙ (ap kinds a.is ∙ (kinds-append a.before (a.opener ∷ a.back) ∙ (ap (λ xs. xs ++ a.opener.kind ∷ kinds a.back) (sym l.0) ∙ ap (λ k. kinds b.before ++ k ∷ kinds a.back) (sym l.1))))))) in
+        ap (λ xs. xs ++ kinds_of u.behind) (sym fronts) ∙ (sym (kinds_of-append u.before (mk.opens u.number ∷ u.behind)) ∙ (ap kinds_of (sym u.is) ∙ (sym (numbered_kinds 0 ks) ∙ (ap kinds a.is ∙ (kinds-append a.before (a.opener ∷ a.back) ∙ (ap (λ xs. xs ++ a.opener.kind ∷ kinds a.back) (sym l.0) ∙ ap (λ k. kinds b.before ++ k ∷ kinds a.back) (sym l.1))))))) in
         record {
           front = b.before;
           opener = b.opener;
@@ -555,7 +549,7 @@ module _ {T : Type 0} (marks : T → Marks) (begins : (Option Kind → Type 0) �
       let c = numbered_cut 0 front k others in
       let parts : numbered 0 ks ≡ c.before ++ c.at ∷ c.back = ap (numbered 0) e ∙ c.is in
       let begins : kinds c.before ++ kinds_of o.behind ≡ kinds c.before ++ (k ∷ rest) =
-      ap (λ xs. xs ++ kinds_of o.behind) (c.same ∙ sym o.same) ∙ (sym (kinds_of-split o.before (mk.opens o.number ∷ o.behind)) ∙ (ap kinds_of (sym o.opened) ∙ (h ∙ ap (λ xs. xs ++ k ∷ rest) (sym c.same)))) in
+      ap (λ xs. xs ++ kinds_of o.behind) (c.same ∙ sym o.same) ∙ (sym (kinds_of-append o.before (mk.opens o.number ∷ o.behind)) ∙ (ap kinds_of (sym o.opened) ∙ (h ∙ ap (λ xs. xs ++ k ∷ rest) (sym c.same)))) in
       let there_too : rd.OpensAt marks n (numbered 0 ks) c.at.at = record {
         front = c.before;
         opener = c.at;
