@@ -18,4 +18,5 @@ pub mod Going
 pub mod Looked
 pub mod Places
 pub mod Whole
+pub mod Finish
 pub mod Laws
