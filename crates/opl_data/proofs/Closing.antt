@@ -1,40 +1,38 @@
 -- The laws of what stands behind an opening token, closed over the levels of nesting.
-use Rattle.std.proofs.Common.{ℕ, zero, suc, ◌≤◌, false, inr, [], ◌++◌, pos, refl, sym, arith, subst}
-use Rattle.opl_tree.specs.Marks as mk
+use Rattle.std.proofs.Common.{false, ℕ, zero, suc, ◌≤◌, false, inr, [], ◌++◌, pos, refl, sym, arith, subst}
+use Rattle.opl_tree.specs.Marks as pt
 use Rattle.opl_grammar.specs.Input.{one, number_in}
 use Rattle.opl_data.specs.declared.tree.DataValue.TheVariants as values_are
 use Rattle.opl_data.specs.Grammar as g
 use Rattle.opl_data.proofs.Parts.{values_law, listed_law, keyed_law}
-use Rattle.opl_data.proofs.Phrases.{Samples, one_law}
+use Rattle.opl_reader_laws.proofs.Phrases.{Samples, one_law}
 use Rattle.opl_data.proofs.Shapes.{number_shape, values_shape, listed_shape, keyed_shape, RulesLaw}
-use Rattle.opl_data.proofs.Takes.{Takes, before}
-use Rattle.opl_data.proofs.Tokens.{number_reads}
-use Rattle.opl_data.proofs.Trees.{marks_value-Number, depth_value-Number}
+use Rattle.opl_reader_laws.proofs.Takes.{Takes, before}
+use Rattle.opl_reader_laws.proofs.Tokens.{number_reads}
+use Rattle.opl_data.proofs.Trees.{marks_value-Number}
 use Rattle.opl_data.proofs.Values.{value_law}
 
 number_sample : Samples number_shape
 number_sample tail h = record {
-  whole = before (mk.number (pos 0)) tail;
+  whole = before (pt.number (pos 0)) tail;
   value = pos 0;
   takes = ((refl, tt), refl);
   starts = λ F k. refl;
-  low = omega arith;
 }
 
 values_sample : Samples values_shape
 values_sample tail h = record {
-  whole = before (mk.number (pos 0)) tail;
+  whole = before (pt.number (pos 0)) tail;
   value = (values_are.Number 0 false (pos 0), []);
-  takes = subst (λ ms. Takes (ms ++ []) (before (mk.number (pos 0)) tail) tail) (sym (marks_value-Number 0 false (pos 0))) (refl, ((refl, tt), refl));
+  takes = subst (λ ms. Takes (ms ++ []) (before (pt.number (pos 0)) tail) tail) (sym (marks_value-Number 0 false (pos 0))) (refl, ((refl, tt), refl));
   starts = λ F k. refl;
-  low = omega (arith, depth_value-Number 0 false (pos 0));
 }
 
 listed_sample : Samples listed_shape
-listed_sample tail h = record { whole = tail; value = []; takes = refl; starts = λ F k. inr k; low = omega arith }
+listed_sample tail h = record { whole = tail; value = []; takes = refl; starts = λ F k. inr k }
 
 keyed_sample : Samples keyed_shape
-keyed_sample tail h = record { whole = tail; value = []; takes = refl; starts = λ F k. inr k; low = omega arith }
+keyed_sample tail h = record { whole = tail; value = []; takes = refl; starts = λ F k. inr k }
 
 -- with no level left
 rules_zero : (k : ℕ) → RulesLaw 0 (g.rules 0) (g.rules k)

@@ -1,28 +1,26 @@
 -- What is made of values, by the laws of one.
-use Rattle.std.proofs.Common.{◌≡◌, ℕ, List, [], ◌∷◌, map, Option, Some, None, refl, arith}
+use Rattle.std.proofs.Common.{◌≡◌, ℕ, List, [], ◌∷◌, map, Option, Some, None, refl}
 use Rattle.opl_token.specs.declared.sign.Sign.TheVariants as signs
-use Rattle.opl_tree.specs.Depth.{greatest}
-use Rattle.opl_tree.specs.Marks as mk
+use Rattle.opl_reader_laws.specs.Marks as mk
 use Rattle.opl_grammar.specs.Input.{Input, Parser, sign, after_each}
 use Rattle.opl_data.specs.declared.tree.DataPair.{DataPair}
 use Rattle.opl_data.specs.declared.tree.DataValue.{DataValue}
 use Rattle.opl_data.specs.declared.tree.DataValue.TheViews.{out-DataPair, roll-DataPair, roll-out-DataPair}
-use Rattle.opl_data.specs.Depth.{depth_value, depth_pair}
 use Rattle.opl_data.specs.Grammar as g
 use Rattle.opl_data.specs.Grammar.{starts_value}
 use Rattle.opl_data.specs.Marks.{marks_value, marks_pair}
-use Rattle.opl_data.proofs.Forms.{placed, placed_law, maybe, maybe_marks, maybe_depth, maybe_law, mapped, Made, plain_law}
-use Rattle.opl_data.proofs.Led.{each_shape, each_law}
-use Rattle.opl_data.proofs.Outcomes.{steps}
-use Rattle.opl_data.proofs.Phrases.{Shape, Law, pair, pair_shape, pair_law}
+use Rattle.opl_reader_laws.proofs.Forms.{placed, placed_law, maybe, maybe_marks, maybe_law, mapped, Made, plain_law}
+use Rattle.opl_reader_laws.proofs.Led.{each_shape, each_law}
+use Rattle.opl_reader_laws.proofs.Outcomes.{steps}
+use Rattle.opl_reader_laws.proofs.Phrases.{Shape, Law, pair, pair_shape, pair_law}
 use Rattle.opl_data.proofs.Shapes.{value_shape, values_shape, listed_shape, keyed_part_shape, keyed_shape}
-use Rattle.opl_data.proofs.Tokens.{sign_law}
-use Rattle.opl_data.proofs.Trees.{marks_pair-of, depth_pair-of}
+use Rattle.opl_reader_laws.proofs.Tokens.{sign_law}
+use Rattle.opl_data.proofs.Trees.{marks_pair-of}
 
 module _ {n : ℕ} {p q : Parser DataValue} (V : Law n p q value_shape) where
   pub values_law : Law n (g.values p) (g.values q) values_shape
   unfolding g.values
-  values_law = pair_law V (each_law signs.Comma V (λ k h. tt) refl) (λ x k h. tt) refl
+  values_law = pair_law V (each_law signs.Comma V (λ k h. tt)) (λ x k h. tt)
 
 abbrev all_of : {A : Type 0} → Option (A × List A) → List A
 all_of None = []
@@ -40,20 +38,14 @@ listed_spelt : (o : Option (DataValue × List DataValue)) → mk.several signs.C
 listed_spelt None = refl
 listed_spelt (Some c) = refl
 
-listed_deep : (o : Option (DataValue × List DataValue)) → greatest (map depth_value (all_of o)) ≡ maybe_depth values_shape o
-listed_deep None = refl
-listed_deep (Some c) = refl
-
 pub listed_law : {n : ℕ} {p q : Parser DataValue} → Law n p q value_shape → Law n (g.listed p) (g.listed q) listed_shape
 listed_law {n} {p} {q} V = plain_law (maybe_law starts_value (values_law V) (λ F k h. h)) all_of (record {
   made = all_made;
   marks = listed_spelt;
   view = λ x. tt;
   tag = λ c. refl;
-  depth = listed_deep;
   closes = λ k h. h;
   begins = λ F k h. h;
-  least = refl;
 }) (g.listed p) (g.listed q) (listed_is p) (listed_is q)
 
 -- ---- pairs
@@ -66,15 +58,13 @@ unfolding g.pair
 pair_is p i = simp steps
 
 part_law : {n : ℕ} {p q : Parser DataValue} → Law n p q value_shape → Law n (g.pair p) (g.pair q) keyed_part_shape
-part_law {n} {p} {q} V = plain_law (placed_law (pair_law V (pair_law (sign_law signs.Colon) V (λ x k h. tt) refl) (λ x k h. tt) refl)) pair_to (record {
+part_law {n} {p} {q} V = plain_law (placed_law (pair_law V (pair_law (sign_law signs.Colon) V (λ x k h. tt)) (λ x k h. tt))) pair_to (record {
   made = λ t. record { of = ((out-DataPair t).at, ((out-DataPair t).key, (tt, (out-DataPair t).value))); is = roll-out-DataPair t };
   marks = λ c. marks_pair-of c.0 c.1.0 c.1.1.1;
   view = λ x. tt;
   tag = λ c. refl;
-  depth = λ c. let e = depth_pair-of c.0 c.1.0 c.1.1.1 in omega arith;
   closes = λ k h. h;
   begins = λ F k h. h;
-  least = refl;
 }) (g.pair p) (g.pair q) (pair_is p) (pair_is q)
 
 abbrev pairs_shape : Shape (DataPair × List DataPair)
@@ -88,18 +78,12 @@ keyed_spelt : (o : Option (DataPair × List DataPair)) → mk.several signs.Comm
 keyed_spelt None = refl
 keyed_spelt (Some c) = refl
 
-keyed_deep : (o : Option (DataPair × List DataPair)) → greatest (map depth_pair (all_of o)) ≡ maybe_depth pairs_shape o
-keyed_deep None = refl
-keyed_deep (Some c) = refl
-
 pub keyed_law : {n : ℕ} {p q : Parser DataValue} → Law n p q value_shape → Law n (g.keyed p) (g.keyed q) keyed_shape
-keyed_law {n} {p} {q} V = plain_law (maybe_law starts_value (pair_law (part_law V) (each_law signs.Comma (part_law V) (λ k h. tt) refl) (λ x k h. tt) refl) (λ F k h. h)) all_of (record {
+keyed_law {n} {p} {q} V = plain_law (maybe_law starts_value (pair_law (part_law V) (each_law signs.Comma (part_law V) (λ k h. tt)) (λ x k h. tt)) (λ F k h. h)) all_of (record {
   made = all_made;
   marks = keyed_spelt;
   view = λ x. tt;
   tag = λ c. refl;
-  depth = keyed_deep;
   closes = λ k h. h;
   begins = λ F k h. h;
-  least = refl;
 }) (g.keyed p) (g.keyed q) (keyed_is p) (keyed_is q)

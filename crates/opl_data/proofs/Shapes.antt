@@ -3,34 +3,33 @@ use Rattle.std.proofs.Common.{◌≡◌, ℕ, ℤ, Bool, true, false, ◌⊎◌,
 use Rattle.opl_token.specs.declared.sign.Sign.TheVariants as signs
 use Rattle.opl_token.specs.declared.token.Kind.{Kind}
 use Rattle.opl_tree.specs.declared.expression.NameTree.{NameTree}
-use Rattle.opl_tree.specs.Depth.{greatest}
-use Rattle.opl_tree.specs.Marks.{marks_name}
-use Rattle.opl_tree.specs.Marks as mk
+use Rattle.opl_reader_laws.specs.Marks.{marks_name}
+use Rattle.opl_tree.specs.Marks as pt
+use Rattle.opl_reader_laws.specs.Marks as mk
 use Rattle.opl_grammar.specs.Input.{is_sign, is_name, is_number}
 use Rattle.opl_data.specs.declared.tree.DataFile.{DataFile}
 use Rattle.opl_data.specs.declared.tree.DataItem.{DataItem}
 use Rattle.opl_data.specs.declared.tree.DataPair.{DataPair}
 use Rattle.opl_data.specs.declared.tree.DataValue.{DataValue}
-use Rattle.opl_data.specs.Depth.{depth_value, depth_pair, depth_item, depth_file}
 use Rattle.opl_data.specs.Grammar.{Rules, starts_value}
 use Rattle.opl_data.specs.Marks.{marks_value, marks_pair, marks_item, marks_file}
-use Rattle.opl_data.proofs.Forms.{plain}
-use Rattle.opl_data.proofs.Led.{each_shape}
-use Rattle.opl_data.proofs.Opened.{Entry}
-use Rattle.opl_data.proofs.Phrases.{Shape, Any, one_shape, pair_shape}
+use Rattle.opl_reader_laws.proofs.Forms.{plain}
+use Rattle.opl_reader_laws.proofs.Led.{each_shape}
+use Rattle.opl_reader_laws.proofs.Opened.{Entry}
+use Rattle.opl_reader_laws.proofs.Phrases.{Shape, Any, one_shape, pair_shape}
 
 -- it begins with a token that passes the test
 abbrev pub First : (Option Kind → Bool) → (Option Kind → Type 0) → Option Kind → Type 0
 First test F k = test k ≡ true
 
 abbrev pub name_shape : Shape NameTree
-name_shape = plain marks_name (λ t. 0) Any (First is_name)
+name_shape = plain marks_name Any (First is_name)
 
 abbrev pub number_shape : Shape ℤ
-number_shape = one_shape mk.number (λ k. is_number k ≡ true)
+number_shape = one_shape pt.number (λ k. is_number k ≡ true)
 
 abbrev pub value_shape : Shape DataValue
-value_shape = plain marks_value depth_value Any (First starts_value)
+value_shape = plain marks_value Any (First starts_value)
 
 abbrev pub values_shape : Shape (DataValue × List DataValue)
 values_shape = pair_shape value_shape (each_shape signs.Comma value_shape)
@@ -43,19 +42,19 @@ abbrev pub begins_list : (Option Kind → Type 0) → Option Kind → Type 0
 begins_list F k = (starts_value k ≡ true) ⊎ F k
 
 abbrev pub listed_shape : Shape (List DataValue)
-listed_shape = plain (λ xs. mk.several signs.Comma (map marks_value xs)) (λ xs. greatest (map depth_value xs)) EndsList begins_list
+listed_shape = plain (λ xs. mk.several signs.Comma (map marks_value xs)) EndsList begins_list
 
 abbrev pub keyed_part_shape : Shape DataPair
-keyed_part_shape = plain marks_pair depth_pair Any (First starts_value)
+keyed_part_shape = plain marks_pair Any (First starts_value)
 
 abbrev pub keyed_shape : Shape (List DataPair)
-keyed_shape = plain (λ xs. mk.several signs.Comma (map marks_pair xs)) (λ xs. greatest (map depth_pair xs)) EndsList begins_list
+keyed_shape = plain (λ xs. mk.several signs.Comma (map marks_pair xs)) EndsList begins_list
 
 abbrev pub item_shape : Shape DataItem
-item_shape = plain marks_item depth_item Any (First is_name)
+item_shape = plain marks_item Any (First is_name)
 
 abbrev pub file_shape : Shape DataFile
-file_shape = plain marks_file depth_file (λ k. is_name k ≡ false) (λ F k. (is_name k ≡ true) ⊎ F k)
+file_shape = plain marks_file (λ k. is_name k ≡ false) (λ F k. (is_name k ≡ true) ⊎ F k)
 
 -- the laws of what stands behind an opening token, over so many levels and over more
 pub record RulesLaw (n : ℕ) (r s : Rules) : Type 1 where

@@ -1,26 +1,25 @@
 -- Names, numbers and values.
-use Rattle.std.proofs.Common.{◌≡◌, ℕ, ℤ, true, false, cond, ◌⊎◌, inl, inr, List, [], ◌∷◌, map, refl, sym, ap, ◌∙◌, subst, arith, append_assoc}
+use Rattle.std.proofs.Common.{◌≡◌, ℕ, ℤ, true, false, cond, ◌⊎◌, inl, inr, List, refl, sym, subst}
 use Rattle.opl_token.specs.declared.sign.Sign.TheVariants as signs
 use Rattle.opl_tree.specs.declared.expression.NameTree.{NameTree}
-use Rattle.opl_tree.proofs.Marks.{marks_name-is}
-use Rattle.opl_tree.specs.Marks as mk
+use Rattle.opl_reader_laws.proofs.Spelt.{marks_name-is}
+use Rattle.opl_tree.specs.Marks as pt
 use Rattle.opl_grammar.specs.Input.{Input, Outcome, Parser, kind, one, sign, is_sign, is_name, is_number, name_in, number_in, sees_sign, sees_name, sees_number}
 use Rattle.opl_data.specs.declared.tree.DataPair.{DataPair}
 use Rattle.opl_data.specs.declared.tree.DataValue.{DataValue}
 use Rattle.opl_data.specs.declared.tree.DataValue.TheOpen.{DataValue-F}
 use Rattle.opl_data.specs.declared.tree.DataValue.TheVariants as values_are
 use Rattle.opl_data.specs.declared.tree.DataValue.TheViews.{out-DataValue, roll-DataValue, roll-out-DataValue}
-use Rattle.opl_data.specs.Depth.{depth_value}
 use Rattle.opl_data.specs.Grammar as g
 use Rattle.opl_data.specs.Grammar.{Rules, value_begins}
 use Rattle.opl_data.specs.Marks.{marks_value}
-use Rattle.opl_data.proofs.Forms.{placed, placed_shape, placed_law, either, by_side, either_shape, either_law, mapped, Made, plain_law}
-use Rattle.opl_data.proofs.Opened.{opened, opened_shape, opened_law}
-use Rattle.opl_data.proofs.Outcomes.{steps}
-use Rattle.opl_data.proofs.Phrases.{Shape, Law, one_law, pair, pair_shape, pair_law}
+use Rattle.opl_reader_laws.proofs.Forms.{placed, placed_shape, placed_law, either, by_side, either_shape, either_law, mapped, Made, plain_law}
+use Rattle.opl_reader_laws.proofs.Opened.{opened, opened_shape, opened_law}
+use Rattle.opl_reader_laws.proofs.Outcomes.{steps}
+use Rattle.opl_reader_laws.proofs.Phrases.{Shape, Law, one_law, pair, pair_shape, pair_law}
 use Rattle.opl_data.proofs.Shapes.{name_shape, number_shape, value_shape, values_shape, listed_shape, keyed_shape, RulesLaw}
-use Rattle.opl_data.proofs.Tokens.{from_sign, from_name, from_number, sign_table, sign_first, sign_reads, sign_shape, sign_law, name_reads, number_reads}
-use Rattle.opl_data.proofs.Trees.{marks_value-Number, marks_value-Named, marks_value-Record, marks_value-Set, marks_value-Array, marks_value-KeyedArray, depth_value-Number, depth_value-Named, depth_value-Record, depth_value-Set, depth_value-Array, depth_value-KeyedArray}
+use Rattle.opl_reader_laws.proofs.Tokens.{from_sign, from_name, from_number, sign_table, sign_first, sign_reads, sign_shape, sign_law, name_reads, number_reads}
+use Rattle.opl_data.proofs.Trees.{marks_value-Number, marks_value-Named, marks_value-Record, marks_value-Set, marks_value-Array, marks_value-KeyedArray}
 
 -- ---- names
 
@@ -37,10 +36,8 @@ name_law = plain_law (placed_law (one_law name_reads)) name_to (record {
   marks = λ c. marks_name-is (name_to c);
   view = λ x. tt;
   tag = λ c. refl;
-  depth = λ c. refl;
   closes = λ k h. tt;
   begins = λ F k h. h;
-  least = refl;
 }) g.name g.name name_is name_is
 
 -- ---- the kinds of values
@@ -67,46 +64,46 @@ abbrev negative_read : Rules → Parser (ℕ × (Unit {0} × ℤ))
 negative_read r = placed (opened (sign_table signs.Minus) r.number)
 
 abbrev negative_parts : Shape (ℕ × (Unit {0} × ℤ))
-negative_parts = placed_shape (opened_shape (λ u. mk.sign signs.Minus) (sign_first signs.Minus) number_shape)
+negative_parts = placed_shape (opened_shape (λ u. pt.sign signs.Minus) (sign_first signs.Minus) number_shape)
 
 negative_parts_law : {n : ℕ} {r s : Rules} → RulesLaw n r s → Law n (negative_read r) (negative_read s) negative_parts
-negative_parts_law R = placed_law (opened_law (sign_reads signs.Minus) R.number refl)
+negative_parts_law R = placed_law (opened_law (sign_reads signs.Minus) R.number)
 
 abbrev record_read : Rules → Parser (ℕ × ((Unit {0} × (DataValue × List DataValue)) × Unit {0}))
 record_read r = placed (pair (opened (sign_table signs.Less) r.values) (sign signs.Greater))
 
 abbrev record_parts : Shape (ℕ × ((Unit {0} × (DataValue × List DataValue)) × Unit {0}))
-record_parts = placed_shape (pair_shape (opened_shape (λ u. mk.sign signs.Less) (sign_first signs.Less) values_shape) (sign_shape signs.Greater))
+record_parts = placed_shape (pair_shape (opened_shape (λ u. pt.sign signs.Less) (sign_first signs.Less) values_shape) (sign_shape signs.Greater))
 
 record_parts_law : {n : ℕ} {r s : Rules} → RulesLaw n r s → Law n (record_read r) (record_read s) record_parts
-record_parts_law R = placed_law (pair_law (opened_law (sign_reads signs.Less) R.values refl) (sign_law signs.Greater) (λ x k h. (tt, from_sign signs.Greater (λ l. sees_sign signs.Comma l ≡ false) k h refl)) refl)
+record_parts_law R = placed_law (pair_law (opened_law (sign_reads signs.Less) R.values) (sign_law signs.Greater) (λ x k h. (tt, from_sign signs.Greater (λ l. sees_sign signs.Comma l ≡ false) k h refl)))
 
 abbrev set_read : Rules → Parser (ℕ × ((Unit {0} × List DataValue) × Unit {0}))
 set_read r = placed (pair (opened (sign_table signs.OpenBrace) r.listed) (sign signs.CloseBrace))
 
 abbrev set_parts : Shape (ℕ × ((Unit {0} × List DataValue) × Unit {0}))
-set_parts = placed_shape (pair_shape (opened_shape (λ u. mk.sign signs.OpenBrace) (sign_first signs.OpenBrace) listed_shape) (sign_shape signs.CloseBrace))
+set_parts = placed_shape (pair_shape (opened_shape (λ u. pt.sign signs.OpenBrace) (sign_first signs.OpenBrace) listed_shape) (sign_shape signs.CloseBrace))
 
 set_parts_law : {n : ℕ} {r s : Rules} → RulesLaw n r s → Law n (set_read r) (set_read s) set_parts
-set_parts_law R = placed_law (pair_law (opened_law (sign_reads signs.OpenBrace) R.listed refl) (sign_law signs.CloseBrace) (λ x k h. ((tt, from_sign signs.CloseBrace (λ l. sees_sign signs.Comma l ≡ false) k h refl), from_sign signs.CloseBrace (λ l. value_begins l ≡ false) k h refl)) refl)
+set_parts_law R = placed_law (pair_law (opened_law (sign_reads signs.OpenBrace) R.listed) (sign_law signs.CloseBrace) (λ x k h. ((tt, from_sign signs.CloseBrace (λ l. sees_sign signs.Comma l ≡ false) k h refl), from_sign signs.CloseBrace (λ l. value_begins l ≡ false) k h refl)))
 
 abbrev array_read : Rules → Parser (ℕ × ((Unit {0} × List DataValue) × Unit {0}))
 array_read r = placed (pair (opened (sign_table signs.OpenBracket) r.listed) (sign signs.CloseBracket))
 
 abbrev array_parts : Shape (ℕ × ((Unit {0} × List DataValue) × Unit {0}))
-array_parts = placed_shape (pair_shape (opened_shape (λ u. mk.sign signs.OpenBracket) (sign_first signs.OpenBracket) listed_shape) (sign_shape signs.CloseBracket))
+array_parts = placed_shape (pair_shape (opened_shape (λ u. pt.sign signs.OpenBracket) (sign_first signs.OpenBracket) listed_shape) (sign_shape signs.CloseBracket))
 
 array_parts_law : {n : ℕ} {r s : Rules} → RulesLaw n r s → Law n (array_read r) (array_read s) array_parts
-array_parts_law R = placed_law (pair_law (opened_law (sign_reads signs.OpenBracket) R.listed refl) (sign_law signs.CloseBracket) (λ x k h. ((tt, from_sign signs.CloseBracket (λ l. sees_sign signs.Comma l ≡ false) k h refl), from_sign signs.CloseBracket (λ l. value_begins l ≡ false) k h refl)) refl)
+array_parts_law R = placed_law (pair_law (opened_law (sign_reads signs.OpenBracket) R.listed) (sign_law signs.CloseBracket) (λ x k h. ((tt, from_sign signs.CloseBracket (λ l. sees_sign signs.Comma l ≡ false) k h refl), from_sign signs.CloseBracket (λ l. value_begins l ≡ false) k h refl)))
 
 abbrev keyed_read : Rules → Parser (ℕ × ((Unit {0} × List DataPair) × Unit {0}))
 keyed_read r = placed (pair (opened (sign_table signs.OpenAssociation) r.keyed) (sign signs.CloseAssociation))
 
 abbrev keyed_parts : Shape (ℕ × ((Unit {0} × List DataPair) × Unit {0}))
-keyed_parts = placed_shape (pair_shape (opened_shape (λ u. mk.sign signs.OpenAssociation) (sign_first signs.OpenAssociation) keyed_shape) (sign_shape signs.CloseAssociation))
+keyed_parts = placed_shape (pair_shape (opened_shape (λ u. pt.sign signs.OpenAssociation) (sign_first signs.OpenAssociation) keyed_shape) (sign_shape signs.CloseAssociation))
 
 keyed_parts_law : {n : ℕ} {r s : Rules} → RulesLaw n r s → Law n (keyed_read r) (keyed_read s) keyed_parts
-keyed_parts_law R = placed_law (pair_law (opened_law (sign_reads signs.OpenAssociation) R.keyed refl) (sign_law signs.CloseAssociation) (λ x k h. ((tt, from_sign signs.CloseAssociation (λ l. sees_sign signs.Comma l ≡ false) k h refl), from_sign signs.CloseAssociation (λ l. value_begins l ≡ false) k h refl)) refl)
+keyed_parts_law R = placed_law (pair_law (opened_law (sign_reads signs.OpenAssociation) R.keyed) (sign_law signs.CloseAssociation) (λ x k h. ((tt, from_sign signs.CloseAssociation (λ l. sees_sign signs.Comma l ≡ false) k h refl), from_sign signs.CloseAssociation (λ l. value_begins l ≡ false) k h refl)))
 
 -- ---- a value is one of them, by its first token
 
@@ -185,19 +182,10 @@ value_spelt : (c : ValueParts) → marks_value (value_to c) ≡ value_parts.mark
 value_spelt (inl t) = marks_value-Named t
 value_spelt (inr (inl c)) = marks_value-Number c.0 false c.1
 value_spelt (inr (inr (inl c))) = marks_value-Number c.0 true c.1.1
-value_spelt (inr (inr (inr (inl c)))) = marks_value-Record c.0 c.1.0.1.0 c.1.0.1.1 ∙ ap (λ ms. mk.place c.0 ∷ mk.token (mk.sign signs.Less) ∷ ms) (sym (append_assoc (marks_value c.1.0.1.0) (mk.behind signs.Comma (map marks_value c.1.0.1.1)) (mk.token (mk.sign signs.Greater) ∷ [])))
+value_spelt (inr (inr (inr (inl c)))) = marks_value-Record c.0 c.1.0.1.0 c.1.0.1.1
 value_spelt (inr (inr (inr (inr (inl c))))) = marks_value-Set c.0 c.1.0.1
 value_spelt (inr (inr (inr (inr (inr (inl c)))))) = marks_value-Array c.0 c.1.0.1
 value_spelt (inr (inr (inr (inr (inr (inr c)))))) = marks_value-KeyedArray c.0 c.1.0.1
-
-value_deep : (c : ValueParts) → depth_value (value_to c) ≡ value_parts.depth c
-value_deep (inl t) = let e = depth_value-Named t in omega arith
-value_deep (inr (inl c)) = let e = depth_value-Number c.0 false c.1 in omega arith
-value_deep (inr (inr (inl c))) = let e = depth_value-Number c.0 true c.1.1 in omega arith
-value_deep (inr (inr (inr (inl c)))) = let e = depth_value-Record c.0 c.1.0.1.0 c.1.0.1.1 in omega arith
-value_deep (inr (inr (inr (inr (inl c))))) = let e = depth_value-Set c.0 c.1.0.1 in omega arith
-value_deep (inr (inr (inr (inr (inr (inl c)))))) = let e = depth_value-Array c.0 c.1.0.1 in omega arith
-value_deep (inr (inr (inr (inr (inr (inr c)))))) = let e = depth_value-KeyedArray c.0 c.1.0.1 in omega arith
 
 pub value_law : {n : ℕ} {r s : Rules} → RulesLaw n r s → Law n (g.value r) (g.value s) value_shape
 value_law {n} {r} {s} R = plain_law (value_parts_law R) value_to (record {
@@ -205,8 +193,6 @@ value_law {n} {r} {s} R = plain_law (value_parts_law R) value_to (record {
   marks = value_spelt;
   view = λ x. tt;
   tag = λ c. refl;
-  depth = value_deep;
   closes = λ k h. (tt, (tt, (tt, (tt, (tt, (tt, tt))))));
   begins = λ F k h. (by_side (λ a. from_name (λ l. value_begins l ≡ true) k a refl) (by_side (λ a. from_number (λ l. value_begins l ≡ true) k a refl) (by_side (λ a. from_sign signs.Minus (λ l. value_begins l ≡ true) k a refl) (by_side (λ a. from_sign signs.Less (λ l. value_begins l ≡ true) k a refl) (by_side (λ a. from_sign signs.OpenBrace (λ l. value_begins l ≡ true) k a refl) (by_side (λ a. from_sign signs.OpenBracket (λ l. value_begins l ≡ true) k a refl) (λ a. from_sign signs.OpenAssociation (λ l. value_begins l ≡ true) k a refl))))))) h;
-  least = refl;
 }) (g.value r) (g.value s) (value_is r) (value_is s)

@@ -20,14 +20,6 @@ fn deeper(one: u32, other: u32) -> u32
     if one < other { other } else { one }
 }
 
-/// How deep a number nests: its `-` opens a level.
-#[tactic(auto, using(crate::proofs::Capped::capped_parts))]
-fn depth_number(is_negative: bool) -> u32
-    ensures { result ≡ capped (depth.sign_depth is_negative) }
-{
-    if is_negative { 1 } else { 0 }
-}
-
 /// How deep a value nests.
 #[cycle(values)]
 #[tactic(auto, using(crate::proofs::Trees::value_depth, crate::proofs::Capped::capped_parts))]
@@ -35,7 +27,7 @@ fn depth_value(t: &DataValue) -> u32
     ensures { result ≡ capped (depth.depth_value t.now) }
 {
     match t {
-        DataValue::Number(_, is_negative, _) => depth_number(*is_negative),
+        DataValue::Number(_, is_negative, _) => { if *is_negative { 1 } else { 0 } }
         DataValue::Named(..) => 0,
         DataValue::Record(_, head, rest) => one_more(deeper(
             depth_value(head.get()),

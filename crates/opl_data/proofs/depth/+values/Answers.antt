@@ -31,26 +31,30 @@ deepest_values-returns t c = grind (arith, lists)
 pub depth_pair-returns : goal.depth_pair-returns
 depth_pair-returns t c = grind (arith, pair_depth, capped_parts)
 
--- src/depth.rt:32:1
-pub depth_value-returns-in-Number : goal.depth_value-returns-in-Number
-depth_value-returns-in-Number t c = grind (arith, value_depth, capped_parts)
+-- src/depth.rt:24:1
+pub depth_value-returns-then-is_negative : goal.depth_value-returns-then-is_negative
+depth_value-returns-then-is_negative t c = grind (arith, value_depth, capped_parts)
 
--- src/depth.rt:32:1
+-- src/depth.rt:24:1
+pub depth_value-returns-else-is_negative : goal.depth_value-returns-else-is_negative
+depth_value-returns-else-is_negative t c = grind (arith, value_depth, capped_parts)
+
+-- src/depth.rt:24:1
 pub depth_value-returns-in-Named : goal.depth_value-returns-in-Named
 depth_value-returns-in-Named t c = grind (arith, value_depth, capped_parts)
 
--- src/depth.rt:32:1
+-- src/depth.rt:24:1
 pub depth_value-returns-in-Record : goal.depth_value-returns-in-Record
 depth_value-returns-in-Record t c = grind (arith, value_depth, capped_parts)
 
--- src/depth.rt:32:1
+-- src/depth.rt:24:1
 pub depth_value-returns-in-Set : goal.depth_value-returns-in-Set
 depth_value-returns-in-Set t c = grind (arith, value_depth, capped_parts)
 
--- src/depth.rt:32:1
+-- src/depth.rt:24:1
 pub depth_value-returns-in-Array : goal.depth_value-returns-in-Array
 depth_value-returns-in-Array t c = grind (arith, value_depth, capped_parts)
 
--- src/depth.rt:32:1
+-- src/depth.rt:24:1
 pub depth_value-returns-in-KeyedArray : goal.depth_value-returns-in-KeyedArray
 depth_value-returns-in-KeyedArray t c = grind (arith, value_depth, capped_parts)
