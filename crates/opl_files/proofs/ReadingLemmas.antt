@@ -93,13 +93,13 @@ parsed_one tokens (Err e) (Err f) p q = syntax_faults tokens e f p q
 -- the same of data files, where the fault is one
 no_data_fault : (file : ℕ) (tokens : Tokens) (t : DataFile) (e : Refusal) → DataParsed file tokens (Ok t) → IsDataFault file tokens e → ⊥
 no_data_fault file tokens t e p (inl q) = of_data.tree_or_stop tokens.list tokens.end t q.0 p.0 q.2
-no_data_fault file tokens t e p (inr q) = let deep : 256 < depth_file t = of_data.deep_or_tree tokens.list tokens.end t q.0 p.0 q.2 in let shallow : depth_file t ≤ 256 = p.1 in omega arith
+no_data_fault file tokens t e p (inr q) = let deep : 256 < depth_file t = of_data.deep_or_tree 256 tokens.list tokens.end t q.0 p.0 q.2 in let shallow : depth_file t ≤ 256 = p.1 in omega arith
 
 one_data_fault : (file : ℕ) (tokens : Tokens) (e f : Refusal) → IsDataFault file tokens e → IsDataFault file tokens f → e ≡ f
 one_data_fault file tokens e f (inl p) (inl q) = p.1 ∙ (ap (At Syntax file) (of_data.one_stop tokens.list tokens.end p.0 q.0 p.2 q.2) ∙ sym q.1)
 one_data_fault file tokens e f (inl p) (inr q) = absurd (p.3 q.0 q.2)
 one_data_fault file tokens e f (inr p) (inl q) = absurd (q.3 p.0 p.2)
-one_data_fault file tokens e f (inr p) (inr q) = p.1 ∙ (ap (At TooDeep file) (of_data.one_opening tokens.list p.0 q.0 p.2 q.2) ∙ sym q.1)
+one_data_fault file tokens e f (inr p) (inr q) = p.1 ∙ (ap (At TooDeep file) (of_data.one_opening 256 tokens.list p.0 q.0 p.2 q.2) ∙ sym q.1)
 
 data_parsed_one : (file : ℕ) (tokens : Tokens) → IsOne (DataParsed file tokens)
 data_parsed_one file tokens (Ok t) (Ok u) p q = inl (ap Ok (of_data.one_tree tokens.list tokens.end t u p.0 q.0))
