@@ -2,7 +2,7 @@
 use Rattle.opl_reader_laws.proofs.Laws as of_readers
 use Rattle.opl_data.specs.Answers.{ParseAnswers}
 use Rattle.opl_data.specs.Grammar.{whole, whole_within}
-use Rattle.opl_data.specs.Laws.{OneTree, TreeOrStop, OneStop, OneOpening, ParseTotal, DeepOrTree}
+use Rattle.opl_data.specs.Laws.{OneTree, TreeOrStop, OneStop, OneOpening, ParseTotal, DeepOrTree, OnlyDeeper}
 use Rattle.opl_data.specs.Marks.{marks_file}
 use Rattle.opl_data.specs.declared.tree.DataFile.{DataFile}
 use Rattle.opl_data.proofs.Files.{starts_file, data_grammar}
@@ -28,6 +28,9 @@ parse_total = of_readers.parse_total marks_file starts_file whole_within data_gr
 
 pub deep_or_tree : DeepOrTree
 deep_or_tree = of_readers.deep_or_tree marks_file starts_file whole_within data_grammar
+
+pub only_deeper : OnlyDeeper
+only_deeper = of_readers.only_deeper marks_file starts_file whole_within data_grammar
 
 -- what the parser answers
 pub read_answers : (tokens : List Token) (end : ℕ) (r : Result DataFile SyntaxFault) → ReadsAll (whole (start tokens end)) r → ParseAnswers tokens end r

@@ -25,3 +25,7 @@ ParseTotal = of_marks.ParseTotal marks_file
 -- the tree of tokens that open a level too many nests deeper
 abbrev pub DeepOrTree : Type 0
 DeepOrTree = of_marks.DeepOrTree marks_file
+
+-- each tree that begins with the tokens up to one that opens a level too many nests deeper
+abbrev pub OnlyDeeper : Type 0
+OnlyDeeper = of_marks.OnlyDeeper marks_file

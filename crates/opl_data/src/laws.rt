@@ -1,5 +1,5 @@
 //! Laws of trees and tokens: each function does nothing, and its contract is a theorem about the definitions alone.
-ghost use Rattle.opl_data.specs.Laws.{OneTree, TreeOrStop, OneStop, OneOpening, ParseTotal, DeepOrTree};
+ghost use Rattle.opl_data.specs.Laws.{OneTree, TreeOrStop, OneStop, OneOpening, ParseTotal, DeepOrTree, OnlyDeeper};
 
 /// Tokens have at most one tree.
 pub fn one_tree()
@@ -26,7 +26,12 @@ pub fn parse_total()
     ensures { ParseTotal }
 {}
 
-/// The tree of tokens that open a level too many nests deeper than 256 levels.
+/// The tree of tokens that open a level too many nests deeper.
 pub fn deep_or_tree()
     ensures { DeepOrTree }
+{}
+
+/// Each tree that begins with the tokens up to one that opens a level too many nests deeper.
+pub fn only_deeper()
+    ensures { OnlyDeeper }
 {}

@@ -14,8 +14,8 @@ use Rattle.opl_reader_laws.specs.Marks as mk
 use Rattle.opl_reader_laws.specs.Reading as rd
 use Rattle.opl_reader_laws.proofs.Levels.{fits_of, depth_fits}
 use Rattle.opl_reader_laws.proofs.Outcomes.{ok_one, ok_not_err}
-use Rattle.opl_reader_laws.proofs.Spelt.{kinds_of-append}
-use Rattle.opl_reader_laws.proofs.Whole.{start, first_same, rest_same, kinds-append, deep_one, Grammar, whole_reads, whole_ok, opens_reads, whole_opens, whole_stops}
+use Rattle.opl_reader_laws.proofs.Depths.{depth_of-append}
+use Rattle.opl_reader_laws.proofs.Whole.{start, first_same, rest_same, kinds-append, deep_one, Grammar, whole_reads, whole_ok, opens_reads, opened_spelt, every_opens, whole_opens, whole_stops}
 
 -- one beginning goes on with what stands behind another
 pub record GoesOn (front back other : List Token) : Type 0 where
@@ -94,6 +94,16 @@ module _ {T : Type 0} (marks : T → Marks) (begins : (Option Kind → Type 0) �
   pub deep_or_tree : rd.DeepOrTree marks
   deep_or_tree levels tokens end t at h o = lt_of_not-le (λ d. ok_not_err (sym (whole_reads marks begins read G levels tokens end t h (fits_of levels (marks t) d)) ∙ opens_reads marks begins read G levels tokens end at o))
 
+  -- what opens it in one tree opens it in each that begins so
+  pub only_deeper : rd.OnlyDeeper marks
+  only_deeper levels tokens at o t rest formed is =
+      let there = opened_spelt marks begins read G levels tokens at o in
+      let f = every_opens marks begins read G levels (kinds o.front) o.opener.kind o.rest rest o.tree t o.formed formed there is
+      (record { before = o.before; number = o.number; behind = o.behind; opened = o.opened; same = o.same; too_many = o.too_many; first = o.first }) in
+      let deep : depth_of (marks t) ≡ max (depth_of f.before) (max f.number (depth_of f.behind)) = ap depth_of f.opened ∙ depth_of-append f.before (mk.opens f.number ∷ f.behind) in
+      let many = f.too_many in
+      omega arith
+
   -- ---- a tree, a stop or a level too many
 
   by_outcome : (tokens : List Token) (end : ℕ) (o : Outcome T) → read 256 (start tokens end) ≡ o → ((t : T) × rd.IsTreeOf marks t tokens end × (depth_of (marks t) ≤ 256)) ⊎ (((at : ℕ) × rd.StopsAt marks tokens end at × rd.NoneOpens marks 256 tokens) ⊎ ((at : ℕ) × rd.OpensAt marks 256 tokens at))
@@ -130,7 +140,7 @@ module _ {T : Type 0} (marks : T → Marks) (begins : (Option Kind → Type 0) �
     tree = o.tree;
     formed = o.formed;
     rest = o.rest;
-    begins = ap kinds_of o.opened ∙ (kinds_of-append o.before (mk.opens o.number ∷ o.behind) ∙ (ap (λ ks. ks ++ kinds_of o.behind) o.same ∙ (ap (λ ks. kinds o.front ++ ks) o.next ∙ sym (append_assoc (kinds o.front) (o.opener.kind ∷ []) o.rest))));
+    begins = opened_spelt marks begins read G levels tokens at o ∙ sym (append_assoc (kinds o.front) (o.opener.kind ∷ []) o.rest);
   }
 
   -- so they stop behind that token, if they stop

@@ -406,6 +406,10 @@ module _ {T : Type 0} (marks : T → Marks) (begins : (Option Kind → Type 0) �
   before_place t front mid b c =
       subst (λ x. place_of mid.tokens x ≡ length c.front) (sym (begins_end front (spelt t) mid b)) (place_in (kinds_of (marks t)) c.front mid.tokens c.is)
 
+  -- the tree of an opening is spelt so
+  pub opened_spelt : (n : ℕ) (tokens : List Token) (at : ℕ) (o : rd.OpensAt marks n tokens at) → kinds_of (marks o.tree) ≡ kinds o.front ++ o.opener.kind ∷ o.rest
+  opened_spelt n tokens at o = ap kinds_of o.opened ∙ (kinds_of-append o.before (mk.opens o.number ∷ o.behind) ∙ (ap (λ xs. xs ++ kinds_of o.behind) o.same ∙ ap (λ xs. kinds o.front ++ xs) o.next))
+
   -- the stop over the tree's own tokens, and the last token of its front, tell the stop over these
   opens_reads_at : (n : ℕ) (tokens : List Token) (end at : ℕ) (o : rd.OpensAt marks n tokens at) (mid : Input) → Begins o.before (spelt o.tree) mid → (f : Fails n (read n) (whole_shape marks begins) (spelt o.tree) (too_deep (place_at mid))) →
       LastAt f.front (numbered 0 (kinds_of (marks o.tree))) (place_at mid) → read n (start tokens end) ≡ Err (too_deep at)
@@ -417,7 +421,7 @@ module _ {T : Type 0} (marks : T → Marks) (begins : (Option Kind → Type 0) �
       let s = same_cut c.front mid.tokens a.before (a.opener ∷ a.back) (sym c.is ∙ a.is) (sym first ∙ (a.placed ∙ second)) in
       let fronts : kinds a.before ≡ kinds o.front = ap kinds (sym s.fronts) ∙ (c.same ∙ o.same) in
       let spelling : (kinds a.before ++ a.opener.kind ∷ kinds a.back) ≡ kinds o.front ++ (o.opener.kind ∷ o.rest) =
-          sym (kinds-append a.before (a.opener ∷ a.back)) ∙ (ap kinds (sym a.is) ∙ (numbered_kinds 0 ks ∙ (ap kinds_of o.opened ∙ (kinds_of-append o.before (mk.opens o.number ∷ o.behind) ∙ (ap (λ xs. xs ++ kinds_of o.behind) o.same ∙ ap (λ xs. kinds o.front ++ xs) o.next))))) in
+          sym (kinds-append a.before (a.opener ∷ a.back)) ∙ (ap kinds (sym a.is) ∙ (numbered_kinds 0 ks ∙ opened_spelt n tokens at o)) in
       let openers : a.opener.kind ≡ o.opener.kind = same_head (kinds o.front) a.opener.kind o.opener.kind (kinds a.back) o.rest (ap (λ xs. xs ++ a.opener.kind ∷ kinds a.back) (sym fronts) ∙ spelling) in
       let whole : kinds_of f.front ≡ kinds o.front ++ o.opener.kind ∷ [] = a.same ∙ (ap (λ xs. xs ++ a.opener.kind ∷ []) fronts ∙ ap (λ x. kinds o.front ++ x ∷ []) openers) in
       let all : kinds tokens ≡ kinds_of f.front ++ kinds o.back = ap kinds o.parts ∙ (kinds-append o.front (o.opener ∷ o.back) ∙ (sym (append_assoc (kinds o.front) (o.opener.kind ∷ []) (kinds o.back)) ∙ ap (λ xs. xs ++ kinds o.back) (sym whole))) in

@@ -110,3 +110,7 @@ module _ {T : Type 0} (marks : T → Marks) where
   -- the tree of tokens that open a level too many nests deeper
   abbrev pub DeepOrTree : Type 0
   DeepOrTree = (levels : ℕ) (tokens : List Token) (end : ℕ) (t : T) (at : ℕ) → IsTreeOf t tokens end → OpensAt levels tokens at → levels < depth_of (marks t)
+
+  -- each tree that begins with the tokens up to one that opens a level too many nests deeper
+  abbrev pub OnlyDeeper : Type 0
+  OnlyDeeper = (levels : ℕ) (tokens : List Token) (at : ℕ) (o : OpensAt levels tokens at) (t : T) (rest : List Kind) → AllProper (marks t) → kinds_of (marks t) ≡ kinds o.front ++ o.opener.kind ∷ rest → levels < depth_of (marks t)
