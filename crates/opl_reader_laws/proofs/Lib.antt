@@ -15,8 +15,8 @@ pub mod Otherwise
 pub mod Sided
 pub mod Behind
 pub mod Going
-pub mod Looked
 pub mod Places
+pub mod Looked
 pub mod Whole
 pub mod Finish
 pub mod Laws

@@ -10,6 +10,7 @@ use Rattle.opl_grammar.specs.Input.{too_deep}
 use Rattle.opl_reader_laws.proofs.Levels.{Fits, fits_split, fits_join, Beyond, beyond_split}
 use Rattle.opl_reader_laws.proofs.Outcomes.{ok_one, err_one, ok_not_err, bind_ok, Broke, bind_err}
 use Rattle.opl_reader_laws.proofs.Phrases.{Shape, Accepts, Sound, Good, Fails, AllFail, More, Law, more_bind, more_test, Any}
+use Rattle.opl_reader_laws.proofs.Places.{Within, within_takes, within_begins, within_begun, within_deep, within_shallow, within_beyond}
 use Rattle.opl_reader_laws.proofs.Takes.{Takes, Begins, takes_split, takes_join, takes_begins, begins_split, begins_join, same_front, position_join, stop_front}
 
 -- where the token comes next, what was read must be of the narrower kind, and goes on as that
@@ -42,16 +43,11 @@ looked_shape {A} {C} {Y} test s m t first = record {
   begins = λ F. first;
 }
 
--- The narrower kind: whether a value is of it is known by its tokens; it writes the same but for places; it nests as
--- deep; and with right places it is a value of the wider kind.
+-- The narrower kind: whether a value is of it is known by its tokens; it writes the same but for places before them; and with right
+-- places it is a value of the wider kind.
 pub record Narrows {A C : Type 0} (s : Shape A) (view : A → Option C) (m : C → List Mark) : Type 1 where
   pub known : (a b : A) → s.tag a ≡ s.tag b → is_some (view a) ≡ is_some (view b)
-  pub takes : (a : A) (c : C) → view a ≡ Some c → (i j : Input) → Takes (s.marks a) i j → Takes (m c) i j
-  pub begins : (a : A) (c : C) → view a ≡ Some c → (i j : Input) → Begins (m c) i j → Begins (s.marks a) i j
-  pub writes : (a : A) (c : C) → view a ≡ Some c → (i j : Input) → Begins (s.marks a) i j → Begins (m c) i j
-  pub deep : (a : A) (c : C) → view a ≡ Some c → (n : ℕ) → Fits n (s.marks a) → Fits n (m c)
-  pub shallow : (a : A) (c : C) → view a ≡ Some c → (n : ℕ) → Fits n (m c) → Fits n (s.marks a)
-  pub beyond : (a : A) (c : C) → view a ≡ Some c → (n : ℕ) (i : Input) (at : ℕ) → Beyond n (m c) i at → Beyond n (s.marks a) i at
+  pub within : (a : A) (c : C) → view a ≡ Some c → Within (s.marks a) (m c)
   pub wide : ℕ → C → A
   pub back : (at : ℕ) (c : C) → view (wide at c) ≡ Some c
   pub there : (i : Input) (c : C) (j : Input) → Takes (m c) i j → Takes (s.marks (wide (place_at i) c)) i j
@@ -108,17 +104,17 @@ module _ {A C Y : Type 0} (n : ℕ) (p : Parser A) (s : Shape A) (test : Option 
 
   narrow_sound : (i : Input) (a : A) (c : C) (l : Input) (y : Y) (j : Input) → view a ≡ Some c → Sound p s n i a l → Sound r t n l y j → Sound (looked p test view r) u n i (inr (c, y)) j
   narrow_sound i a c l y j v x z = record {
-    takes = takes_join (m c) (t.marks y) i l j (narrow.takes a c v i l x.takes) z.takes;
+    takes = takes_join (m c) (t.marks y) i l j (within_takes (narrow.within a c v) i l x.takes) z.takes;
     fits = tt;
-    deep = fits_join n (m c) (t.marks y) (narrow.deep a c v n x.deep) z.deep;
+    deep = fits_join n (m c) (t.marks y) (within_deep (narrow.within a c v) n x.deep) z.deep;
     again = λ i' j' h e.
         let w = begins_split (m c) (t.marks y) i' j' h in
         let same = same_front (t.marks y) l j w.mid j' (takes_begins (t.marks y) l j z.takes) w.back e in
-        narrow_read i' a c w.mid y j' v (x.again i' w.mid (narrow.begins a c v i' w.mid w.front) same) (z.again w.mid j' w.back e);
+        narrow_read i' a c w.mid y j' v (x.again i' w.mid (within_begins (narrow.within a c v) i' w.mid w.front) same) (z.again w.mid j' w.back e);
     before = λ tail.
         let second = z.before tail in
         let front = x.before second.start in
-        record { start = front.start; begins = begins_join (m c) (t.marks y) front.start second.start tail (narrow.writes a c v front.start second.start front.begins) second.begins };
+        record { start = front.start; begins = begins_join (m c) (t.marks y) front.start second.start tail (within_begun (narrow.within a c v) front.start second.start front.begins) second.begins };
   }
 
   look_sound : (i : Input) (a : A) (l : Input) → Sound p s n i a l → (b : Bool) → test (kind l) ≡ b → (o : Option C) → view a ≡ o → (v : A ⊎ (C × Y)) (j : Input) → cond {A = Outcome (A ⊎ (C × Y))} b (by_view r o l) (Ok (inl a, l)) ≡ Ok (v, j) → Sound (looked p test view r) u n i v j
@@ -141,7 +137,7 @@ module _ {A C Y : Type 0} (n : ℕ) (p : Parser A) (s : Shape A) (test : Option 
       let k = passes Any (kind w.mid) (R.front w.mid c.1 j Any b tt) in
       let a = narrow.wide (place_at i) c.0 in
       let v = narrow.back (place_at i) c.0 in
-      narrow_ok i a c.0 w.mid c.1 j k v (P.complete i a w.mid (narrow.fits a) (narrow.shallow a c.0 v n f.0) (narrow.there i c.0 w.mid w.front) (stops_at a c.1 w.mid j b e)) (R.complete w.mid c.1 j (fit c.1) f.1 w.back e)
+      narrow_ok i a c.0 w.mid c.1 j k v (P.complete i a w.mid (narrow.fits a) (within_shallow (narrow.within a c.0 v) n f.0) (narrow.there i c.0 w.mid w.front) (stops_at a c.1 w.mid j b e)) (R.complete w.mid c.1 j (fit c.1) f.1 w.back e)
 
   looked_accepts : (i : Input) (v : A ⊎ (C × Y)) (j : Input) → Fits n (looked_marks s m t v) → Begins (looked_marks s m t v) i j → looked_ends test s t (u.tag v) (kind j) → Accepts (looked p test view r) u v i j
   looked_accepts i (inl a) j l h e = plain_read i a j e.1 (P.accepts i a j (narrow.fits a) l h e.0)
@@ -151,7 +147,7 @@ module _ {A C Y : Type 0} (n : ℕ) (p : Parser A) (s : Shape A) (test : Option 
       let z = R.accepts w.mid c.1 j (fit c.1) f.1 w.back e in
       let a = narrow.wide 0 c.0 in
       let v = narrow.back 0 c.0 in
-      let x = P.accepts i a w.mid (narrow.fits a) (narrow.shallow a c.0 v n f.0) (narrow.begins a c.0 v i w.mid w.front) (stops_at a c.1 w.mid j w.back e) in
+      let x = P.accepts i a w.mid (narrow.fits a) (within_shallow (narrow.within a c.0 v) n f.0) (within_begins (narrow.within a c.0 v) i w.mid w.front) (stops_at a c.1 w.mid j w.back e) in
       narrow_read i a c.0 w.mid c.1 j v x z
 
   wide_deep : (i : Input) (at : ℕ) → p i ≡ Err (too_deep at) → looked p test view r i ≡ Err (too_deep at)
@@ -168,10 +164,10 @@ module _ {A C Y : Type 0} (n : ℕ) (p : Parser A) (s : Shape A) (test : Option 
       let w = begins_split (m c.0) (t.marks c.1) i j h in
       let a = narrow.wide 0 c.0 in
       let v = narrow.back 0 c.0 in
-      let b = narrow.begins a c.0 v i w.mid w.front in
+      let b = within_begins (narrow.within a c.0 v) i w.mid w.front in
       let stops = stops_at a c.1 w.mid j w.back e in
       let k = passes Any (kind w.mid) (R.front w.mid c.1 j Any w.back tt) in
-      by_part a w.mid k v (λ x. P.opening i a w.mid at (narrow.fits a) b stops (narrow.beyond a c.0 v n i at x)) (λ x. P.accepts i a w.mid (narrow.fits a) (narrow.shallow a c.0 v n x) b stops) (λ x. R.opening w.mid c.1 j at (fit c.1) w.back e x) (beyond_split n (m c.0) (t.marks c.1) i w.mid at w.front g)
+      by_part a w.mid k v (λ x. P.opening i a w.mid at (narrow.fits a) b stops (within_beyond (narrow.within a c.0 v) n i at x)) (λ x. P.accepts i a w.mid (narrow.fits a) (within_shallow (narrow.within a c.0 v) n x) b stops) (λ x. R.opening w.mid c.1 j at (fit c.1) w.back e x) (beyond_split n (m c.0) (t.marks c.1) i w.mid at w.front g)
     where
       by_part : (a : A) (l : Input) → test (kind l) ≡ true → view a ≡ Some c.0 → (Beyond n (m c.0) i at → p i ≡ Err (too_deep at)) → (Fits n (m c.0) → Accepts p s a i l) → (Beyond n (t.marks c.1) l at → r l ≡ Err (too_deep at)) →
           Beyond n (m c.0) i at ⊎ (Fits n (m c.0) × Beyond n (t.marks c.1) l at) → looked p test view r i ≡ Err (too_deep at)
@@ -183,7 +179,7 @@ module _ {A C Y : Type 0} (n : ℕ) (p : Parser A) (s : Shape A) (test : Option 
   looked_front i (inr c) j F h e =
       let w = begins_split (m c.0) (t.marks c.1) i j h in
       let a = narrow.wide 0 c.0 in
-      starts (t.begins F) (kind i) (P.front i a w.mid (t.begins F) (narrow.begins a c.0 (narrow.back 0 c.0) i w.mid w.front) (R.front w.mid c.1 j F w.back e))
+      starts (t.begins F) (kind i) (P.front i a w.mid (t.begins F) (within_begins (narrow.within a c.0 (narrow.back 0 c.0)) i w.mid w.front) (R.front w.mid c.1 j F w.back e))
 
   looked_closing : (x : s.Tag ⊎ t.Tag) (k : Option Kind) → s.closes k × (t.closes k × (test k ≡ false)) → looked_ends test s t x k
   looked_closing (inl x) k h = (P.closing x k h.0, h.1.1)
@@ -271,7 +267,7 @@ module _ {A C Y : Type 0} (n : ℕ) (p : Parser A) (s : Shape A) (test : Option 
               mid = z.mid;
               value = inr (w.part, z.value);
               begins = begins_join (s.marks a) f.front put.start z.whole z.mid put.begins z.begins;
-              takes = takes_join (m w.part) (t.marks z.value) put.start z.whole tail (narrow.takes x.value w.part w.is put.start z.whole y.takes) z.takes;
+              takes = takes_join (m w.part) (t.marks z.value) put.start z.whole tail (within_takes (narrow.within x.value w.part w.is) put.start z.whole y.takes) z.takes;
               starts = λ F k. starts (t.begins F) (kind put.start) (P.front put.start x.value z.whole (t.begins F) (takes_begins (s.marks x.value) put.start z.whole y.takes) (z.starts F k));
             };
       }
