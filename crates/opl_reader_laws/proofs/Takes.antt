@@ -139,6 +139,17 @@ begins_less ms i j w h = less ms i j w.is h where
   less (unbraced ∷ ns) i j w h = less ns i j w h.1
   less (opens k ∷ ns) i j w h = less ns i j w h
 
+writes_behind : (p : Part) (ms ns : List Mark) → Writes p ms → Writes p (ms ++ ns)
+writes_behind p [] ns w = absurd w
+writes_behind p (place at ∷ ms) ns w = writes_behind p ms ns w
+writes_behind p (token q ∷ ms) ns w = w
+writes_behind p (unbraced ∷ ms) ns w = writes_behind p ms ns w
+writes_behind p (opens k ∷ ms) ns w = writes_behind p ms ns w
+
+-- what begins with something written is written
+pub written_behind : (ms ns : List Mark) → Written ms → Written (ms ++ ns)
+written_behind ms ns w = record { first = w.first; is = writes_behind w.first ms ns w.is }
+
 -- ---- why a reader stops
 
 abbrev pub is_deep : Stop → Bool
