@@ -87,7 +87,7 @@ use Rattle.opl_tree.specs.declared.search.StatementTree.TheVariants as statement
 use Rattle.opl_tree.specs.declared.search.StatementsTree.TheVariants as statement_lists
 use Rattle.opl_tree.specs.declared.search.StatementTree.TheViews.{out-SearchBlockTree, roll-SearchBlockTree, roll-out-SearchBlockTree}
 use Rattle.opl_tree.specs.declared.search.StatementTree.TheFolds.{fold-roll-StatementTree, fold-roll-StatementsTree, fold-roll-SearchBlockTree}
-use Rattle.opl_tree.specs.Marks.{word, sign, name, any, number, place, token, unbraced, joined, behind, several, written, after, before, enclosed, optional, direction_word, relation_sign, add_sign, mul_part, aggregate_word, call_word, question_word, separator_sign, schedule_word, optimum_word, branch_word, label_word, marks_name, marks_expr, marks_imp, marks_or, marks_and, marks_neg, marks_compare, marks_add, marks_add_step, marks_mul, marks_mul_step, marks_last_step, marks_open, marks_sign, marks_post, marks_suffix, marks_subscripts, marks_prim, marks_keyed, marks_set, marks_params, marks_group_step, marks_group, marks_pattern, marks_decl, marks_data, marks_initial, marks_type, marks_dims, marks_dim, marks_range, marks_enum, marks_enum_names, marks_struct, marks_field, marks_variable, marks_variable_type, marks_bounds, marks_activity, marks_unary, marks_discrete, marks_schedule, marks_instr, marks_block, marks_items, marks_item, marks_requires, marks_search, marks_search_block, marks_statements, marks_statement, marks_ordered_params, marks_order, marks_model}
+use Rattle.opl_tree.specs.Marks.{word, sign, name, any, number, place, token, unbraced, nested, joined, behind, several, written, after, after_level, before, enclosed, optional, direction_word, relation_sign, add_sign, mul_part, aggregate_word, call_word, question_word, separator_sign, schedule_word, optimum_word, branch_word, label_word, marks_name, marks_expr, marks_imp, marks_or, marks_and, marks_neg, marks_compare, marks_add, marks_add_step, marks_mul, marks_mul_step, marks_last_step, marks_open, marks_sign, marks_post, marks_suffix, marks_subscripts, marks_prim, marks_keyed, marks_set, marks_params, marks_group_step, marks_group, marks_pattern, marks_decl, marks_data, marks_initial, marks_type, marks_dims, marks_dim, marks_range, marks_enum, marks_enum_names, marks_struct, marks_field, marks_variable, marks_variable_type, marks_bounds, marks_activity, marks_unary, marks_discrete, marks_schedule, marks_instr, marks_block, marks_items, marks_item, marks_requires, marks_search, marks_search_block, marks_statements, marks_statement, marks_ordered_params, marks_order, marks_model}
 
 pub marks_name-is : (t : NameTree) → marks_name t ≡ place t.at ∷ token (name t.text) ∷ []
 unfolding marks_name
@@ -97,7 +97,7 @@ pub marks_pattern-Single : (named : NameTree) → marks_pattern (patterns.Single
 unfolding marks_pattern
 marks_pattern-Single named = refl
 
-pub marks_pattern-Record : (at : ℕ) (head : NameTree) (rest : List NameTree) → marks_pattern (patterns.Record at head rest) ≡ place at ∷ token (sign signs.Less) ∷ (marks_name head ++ (behind signs.Comma (map marks_name rest) ++ token (sign signs.Greater) ∷ []))
+pub marks_pattern-Record : (at : ℕ) (head : NameTree) (rest : List NameTree) → marks_pattern (patterns.Record at head rest) ≡ place at ∷ (nested (sign signs.Less) (marks_name head ++ behind signs.Comma (map marks_name rest)) ++ token (sign signs.Greater) ∷ [])
 unfolding marks_pattern
 marks_pattern-Record at head rest = refl
 
@@ -122,7 +122,7 @@ unfolding marks_mul marks_open marks_sign marks_mul_step marks_last_step
 marks_mul-Product at head rest None = ap marks_mul (sym (muls.rolls-Product at head rest None)) ∙ rw fold-roll-MulTree refl
 marks_mul-Product at head rest (Some last) = ap marks_mul (sym (muls.rolls-Product at head rest (Some last))) ∙ rw fold-roll-MulTree refl
 
-pub marks_neg-Not : (at : ℕ) (inner : NegTree) → marks_neg (negs.Not at inner) ≡ place at ∷ token (word keywords.Not) ∷ marks_neg inner
+pub marks_neg-Not : (at : ℕ) (inner : NegTree) → marks_neg (negs.Not at inner) ≡ place at ∷ nested (word keywords.Not) (marks_neg inner)
 unfolding marks_neg marks_compare
 marks_neg-Not at inner = ap marks_neg (sym (negs.rolls-Not at inner)) ∙ rw fold-roll-NegTree refl
 
@@ -130,11 +130,11 @@ pub marks_neg-Compare : (inner : CompareTree) → marks_neg (negs.Compare inner)
 unfolding marks_neg marks_compare
 marks_neg-Compare inner = ap marks_neg (sym (negs.rolls-Compare inner)) ∙ rw fold-roll-NegTree refl
 
-pub marks_open-NegativeOpen : (at : ℕ) (inner : OpenTree) → marks_open (opens.NegativeOpen at inner) ≡ place at ∷ token (sign signs.Minus) ∷ marks_open inner
+pub marks_open-NegativeOpen : (at : ℕ) (inner : OpenTree) → marks_open (opens.NegativeOpen at inner) ≡ place at ∷ nested (sign signs.Minus) (marks_open inner)
 unfolding marks_open marks_params marks_mul
 marks_open-NegativeOpen at inner = ap marks_open (sym (opens.rolls-NegativeOpen at inner)) ∙ rw fold-roll-OpenTree refl
 
-pub marks_open-Aggregate : (at : ℕ) (op : AggregateOp) (params : ParamsTree) (body : MulTree) → marks_open (opens.Aggregate at op params body) ≡ place at ∷ token (word (aggregate_word op)) ∷ token (sign signs.OpenParenthesis) ∷ (marks_params params ++ token (sign signs.CloseParenthesis) ∷ marks_mul body)
+pub marks_open-Aggregate : (at : ℕ) (op : AggregateOp) (params : ParamsTree) (body : MulTree) → marks_open (opens.Aggregate at op params body) ≡ place at ∷ nested (word (aggregate_word op)) (nested (sign signs.OpenParenthesis) (marks_params params) ++ token (sign signs.CloseParenthesis) ∷ marks_mul body)
 unfolding marks_open marks_params marks_mul
 marks_open-Aggregate at op params body = ap marks_open (sym (opens.rolls-Aggregate at op params body)) ∙ rw fold-roll-OpenTree refl
 
@@ -146,43 +146,43 @@ pub marks_prim-Named : (named : NameTree) → marks_prim (prims.Named named) ≡
 unfolding marks_prim marks_expr marks_add marks_params marks_keyed marks_post
 marks_prim-Named named = ap marks_prim (sym (prims.rolls-Named named)) ∙ rw fold-roll-PrimTree refl
 
-pub marks_prim-Bracket : (at : ℕ) (inner : ExprTree) → marks_prim (prims.Bracket at inner) ≡ place at ∷ token (sign signs.OpenParenthesis) ∷ (marks_expr inner ++ token (sign signs.CloseParenthesis) ∷ [])
+pub marks_prim-Bracket : (at : ℕ) (inner : ExprTree) → marks_prim (prims.Bracket at inner) ≡ place at ∷ (nested (sign signs.OpenParenthesis) (marks_expr inner) ++ token (sign signs.CloseParenthesis) ∷ [])
 unfolding marks_prim marks_expr marks_add marks_params marks_keyed marks_post
 marks_prim-Bracket at inner = ap marks_prim (sym (prims.rolls-Bracket at inner)) ∙ rw fold-roll-PrimTree refl
 
-pub marks_prim-Record : (at : ℕ) (head : AddTree) (rest : List AddTree) → marks_prim (prims.Record at head rest) ≡ place at ∷ token (sign signs.Less) ∷ (marks_add head ++ (behind signs.Comma (map marks_add rest) ++ token (sign signs.Greater) ∷ []))
+pub marks_prim-Record : (at : ℕ) (head : AddTree) (rest : List AddTree) → marks_prim (prims.Record at head rest) ≡ place at ∷ (nested (sign signs.Less) (marks_add head ++ behind signs.Comma (map marks_add rest)) ++ token (sign signs.Greater) ∷ [])
 unfolding marks_prim marks_expr marks_add marks_params marks_keyed marks_post
 marks_prim-Record at head rest = ap marks_prim (sym (prims.rolls-Record at head rest)) ∙ rw fold-roll-PrimTree refl
 
-pub marks_prim-Listed : (at : ℕ) (elements : List AddTree) → marks_prim (prims.Listed at elements) ≡ place at ∷ token (sign signs.OpenBrace) ∷ (several signs.Comma (map marks_add elements) ++ token (sign signs.CloseBrace) ∷ [])
+pub marks_prim-Listed : (at : ℕ) (elements : List AddTree) → marks_prim (prims.Listed at elements) ≡ place at ∷ (nested (sign signs.OpenBrace) (several signs.Comma (map marks_add elements)) ++ token (sign signs.CloseBrace) ∷ [])
 unfolding marks_prim marks_expr marks_add marks_params marks_keyed marks_post
 marks_prim-Listed at elements = ap marks_prim (sym (prims.rolls-Listed at elements)) ∙ rw fold-roll-PrimTree refl
 
-pub marks_prim-Described : (at : ℕ) (element : AddTree) (params : ParamsTree) → marks_prim (prims.Described at element params) ≡ place at ∷ token (sign signs.OpenBrace) ∷ (marks_add element ++ token (sign signs.Bar) ∷ (marks_params params ++ token (sign signs.CloseBrace) ∷ []))
+pub marks_prim-Described : (at : ℕ) (element : AddTree) (params : ParamsTree) → marks_prim (prims.Described at element params) ≡ place at ∷ (nested (sign signs.OpenBrace) (marks_add element ++ token (sign signs.Bar) ∷ marks_params params) ++ token (sign signs.CloseBrace) ∷ [])
 unfolding marks_prim marks_expr marks_add marks_params marks_keyed marks_post
 marks_prim-Described at element params = ap marks_prim (sym (prims.rolls-Described at element params)) ∙ rw fold-roll-PrimTree refl
 
-pub marks_prim-Array : (at : ℕ) (elements : List AddTree) → marks_prim (prims.Array at elements) ≡ place at ∷ token (sign signs.OpenBracket) ∷ (several signs.Comma (map marks_add elements) ++ token (sign signs.CloseBracket) ∷ [])
+pub marks_prim-Array : (at : ℕ) (elements : List AddTree) → marks_prim (prims.Array at elements) ≡ place at ∷ (nested (sign signs.OpenBracket) (several signs.Comma (map marks_add elements)) ++ token (sign signs.CloseBracket) ∷ [])
 unfolding marks_prim marks_expr marks_add marks_params marks_keyed marks_post
 marks_prim-Array at elements = ap marks_prim (sym (prims.rolls-Array at elements)) ∙ rw fold-roll-PrimTree refl
 
-pub marks_prim-KeyedArray : (at : ℕ) (elements : List KeyedTree) → marks_prim (prims.KeyedArray at elements) ≡ place at ∷ token (sign signs.OpenAssociation) ∷ (several signs.Comma (map marks_keyed elements) ++ token (sign signs.CloseAssociation) ∷ [])
+pub marks_prim-KeyedArray : (at : ℕ) (elements : List KeyedTree) → marks_prim (prims.KeyedArray at elements) ≡ place at ∷ (nested (sign signs.OpenAssociation) (several signs.Comma (map marks_keyed elements)) ++ token (sign signs.CloseAssociation) ∷ [])
 unfolding marks_prim marks_expr marks_add marks_params marks_keyed marks_post
 marks_prim-KeyedArray at elements = ap marks_prim (sym (prims.rolls-KeyedArray at elements)) ∙ rw fold-roll-PrimTree refl
 
-pub marks_prim-Call : (at : ℕ) (op : CallOp) (argument : ExprTree) → marks_prim (prims.Call at op argument) ≡ place at ∷ token (word (call_word op)) ∷ token (sign signs.OpenParenthesis) ∷ (marks_expr argument ++ token (sign signs.CloseParenthesis) ∷ [])
+pub marks_prim-Call : (at : ℕ) (op : CallOp) (argument : ExprTree) → marks_prim (prims.Call at op argument) ≡ place at ∷ token (word (call_word op)) ∷ (nested (sign signs.OpenParenthesis) (marks_expr argument) ++ token (sign signs.CloseParenthesis) ∷ [])
 unfolding marks_prim marks_expr marks_add marks_params marks_keyed marks_post
 marks_prim-Call at op argument = ap marks_prim (sym (prims.rolls-Call at op argument)) ∙ rw fold-roll-PrimTree refl
 
-pub marks_prim-AllDifferent : (at : ℕ) (argument : AddTree) → marks_prim (prims.AllDifferent at argument) ≡ place at ∷ token (word keywords.AllDifferent) ∷ token (sign signs.OpenParenthesis) ∷ (marks_add argument ++ token (sign signs.CloseParenthesis) ∷ [])
+pub marks_prim-AllDifferent : (at : ℕ) (argument : AddTree) → marks_prim (prims.AllDifferent at argument) ≡ place at ∷ token (word keywords.AllDifferent) ∷ (nested (sign signs.OpenParenthesis) (marks_add argument) ++ token (sign signs.CloseParenthesis) ∷ [])
 unfolding marks_prim marks_expr marks_add marks_params marks_keyed marks_post
 marks_prim-AllDifferent at argument = ap marks_prim (sym (prims.rolls-AllDifferent at argument)) ∙ rw fold-roll-PrimTree refl
 
-pub marks_prim-Question : (at : ℕ) (op : QuestionOp) (argument : PostTree) → marks_prim (prims.Question at op argument) ≡ place at ∷ token (word (question_word op)) ∷ token (sign signs.OpenParenthesis) ∷ (marks_post argument ++ token (sign signs.CloseParenthesis) ∷ [])
+pub marks_prim-Question : (at : ℕ) (op : QuestionOp) (argument : PostTree) → marks_prim (prims.Question at op argument) ≡ place at ∷ token (word (question_word op)) ∷ (nested (sign signs.OpenParenthesis) (marks_post argument) ++ token (sign signs.CloseParenthesis) ∷ [])
 unfolding marks_prim marks_expr marks_add marks_params marks_keyed marks_post
 marks_prim-Question at op argument = ap marks_prim (sym (prims.rolls-Question at op argument)) ∙ rw fold-roll-PrimTree refl
 
-pub marks_sign-Negative : (at : ℕ) (inner : SignTree) → marks_sign (operands.Negative at inner) ≡ place at ∷ token (sign signs.Minus) ∷ marks_sign inner
+pub marks_sign-Negative : (at : ℕ) (inner : SignTree) → marks_sign (operands.Negative at inner) ≡ place at ∷ nested (sign signs.Minus) (marks_sign inner)
 unfolding marks_sign marks_post
 marks_sign-Negative at inner = ap marks_sign (sym (operands.rolls-Negative at inner)) ∙ rw fold-roll-SignTree refl
 
@@ -240,12 +240,12 @@ marks_group-of at is_ordered first rest set = rw fold-roll-GroupTree refl
 pub marks_group-is : (t : GroupTree) → marks_group t ≡ place (out-GroupTree t).at ∷ (optional (word keywords.Ordered) (out-GroupTree t).is_ordered ++ (marks_pattern (out-GroupTree t).first ++ (behind signs.Comma (map marks_pattern (out-GroupTree t).rest) ++ token (word keywords.In) ∷ marks_set (out-GroupTree t).set)))
 marks_group-is t = ap marks_group (sym (roll-out-GroupTree t)) ∙ marks_group-of (out-GroupTree t).at (out-GroupTree t).is_ordered (out-GroupTree t).first (out-GroupTree t).rest (out-GroupTree t).set
 
-pub marks_imp-of : (at : ℕ) (premise : OrTree) (conclusion : Option ImpTree) → marks_imp (roll-ImpTree (record { at = at; premise = premise; conclusion = conclusion })) ≡ place at ∷ (marks_or premise ++ after (sign signs.Implies) (option_map marks_imp conclusion))
+pub marks_imp-of : (at : ℕ) (premise : OrTree) (conclusion : Option ImpTree) → marks_imp (roll-ImpTree (record { at = at; premise = premise; conclusion = conclusion })) ≡ place at ∷ (marks_or premise ++ after_level (sign signs.Implies) (option_map marks_imp conclusion))
 unfolding marks_imp marks_or
 marks_imp-of at premise None = rw fold-roll-ImpTree refl
 marks_imp-of at premise (Some conclusion) = rw fold-roll-ImpTree refl
 
-pub marks_imp-is : (t : ImpTree) → marks_imp t ≡ place (out-ImpTree t).at ∷ (marks_or (out-ImpTree t).premise ++ after (sign signs.Implies) (option_map marks_imp (out-ImpTree t).conclusion))
+pub marks_imp-is : (t : ImpTree) → marks_imp t ≡ place (out-ImpTree t).at ∷ (marks_or (out-ImpTree t).premise ++ after_level (sign signs.Implies) (option_map marks_imp (out-ImpTree t).conclusion))
 marks_imp-is t = ap marks_imp (sym (roll-out-ImpTree t)) ∙ marks_imp-of (out-ImpTree t).at (out-ImpTree t).premise (out-ImpTree t).conclusion
 
 pub marks_keyed-of : (key : AddTree) (value : AddTree) → marks_keyed (roll-KeyedTree (record { key = key; value = value })) ≡ marks_add key ++ token (sign signs.Colon) ∷ marks_add value
@@ -299,11 +299,11 @@ marks_set-of at low (Some high) = rw fold-roll-SetTree refl
 pub marks_set-is : (t : SetTree) → marks_set t ≡ place (out-SetTree t).at ∷ (marks_add (out-SetTree t).low ++ after (sign signs.Range) (option_map marks_add (out-SetTree t).high))
 marks_set-is t = ap marks_set (sym (roll-out-SetTree t)) ∙ marks_set-of (out-SetTree t).at (out-SetTree t).low (out-SetTree t).high
 
-pub marks_subscripts-of : (at : ℕ) (first : AddTree) (rest : List AddTree) → marks_subscripts (roll-SubscriptsTree (record { at = at; first = first; rest = rest })) ≡ place at ∷ token (sign signs.OpenBracket) ∷ (marks_add first ++ (behind signs.Comma (map marks_add rest) ++ token (sign signs.CloseBracket) ∷ []))
+pub marks_subscripts-of : (at : ℕ) (first : AddTree) (rest : List AddTree) → marks_subscripts (roll-SubscriptsTree (record { at = at; first = first; rest = rest })) ≡ place at ∷ (nested (sign signs.OpenBracket) (marks_add first ++ behind signs.Comma (map marks_add rest)) ++ token (sign signs.CloseBracket) ∷ [])
 unfolding marks_subscripts marks_add
 marks_subscripts-of at first rest = rw fold-roll-SubscriptsTree refl
 
-pub marks_subscripts-is : (t : SubscriptsTree) → marks_subscripts t ≡ place (out-SubscriptsTree t).at ∷ token (sign signs.OpenBracket) ∷ (marks_add (out-SubscriptsTree t).first ++ (behind signs.Comma (map marks_add (out-SubscriptsTree t).rest) ++ token (sign signs.CloseBracket) ∷ []))
+pub marks_subscripts-is : (t : SubscriptsTree) → marks_subscripts t ≡ place (out-SubscriptsTree t).at ∷ (nested (sign signs.OpenBracket) (marks_add (out-SubscriptsTree t).first ++ behind signs.Comma (map marks_add (out-SubscriptsTree t).rest)) ++ token (sign signs.CloseBracket) ∷ [])
 marks_subscripts-is t = ap marks_subscripts (sym (roll-out-SubscriptsTree t)) ∙ marks_subscripts-of (out-SubscriptsTree t).at (out-SubscriptsTree t).first (out-SubscriptsTree t).rest
 
 pub marks_type-Int : (at : ℕ) → marks_type (kinds_of_type.Int at) ≡ place at ∷ token (word keywords.Int) ∷ []
@@ -314,7 +314,7 @@ pub marks_type-Named : (named : NameTree) → marks_type (kinds_of_type.Named na
 unfolding marks_type
 marks_type-Named named = ap marks_type (sym (kinds_of_type.rolls-Named named)) ∙ rw fold-roll-TypeTree refl
 
-pub marks_type-Set : (at : ℕ) (inner : TypeTree) → marks_type (kinds_of_type.Set at inner) ≡ place at ∷ token (sign signs.OpenBrace) ∷ (marks_type inner ++ token (sign signs.CloseBrace) ∷ [])
+pub marks_type-Set : (at : ℕ) (inner : TypeTree) → marks_type (kinds_of_type.Set at inner) ≡ place at ∷ (nested (sign signs.OpenBrace) (marks_type inner) ++ token (sign signs.CloseBrace) ∷ [])
 unfolding marks_type
 marks_type-Set at inner = ap marks_type (sym (kinds_of_type.rolls-Set at inner)) ∙ rw fold-roll-TypeTree refl
 
@@ -322,7 +322,7 @@ pub marks_dim-is : (t : DimTree) → marks_dim t ≡ place t.at ∷ (before (wor
 unfolding marks_dim
 marks_dim-is t = refl
 
-pub marks_dims-is : (t : DimsTree) → marks_dims t ≡ place t.at ∷ token (sign signs.OpenBracket) ∷ (marks_dim t.first ++ (behind signs.Comma (map marks_dim t.rest) ++ token (sign signs.CloseBracket) ∷ []))
+pub marks_dims-is : (t : DimsTree) → marks_dims t ≡ place t.at ∷ (nested (sign signs.OpenBracket) (marks_dim t.first ++ behind signs.Comma (map marks_dim t.rest)) ++ token (sign signs.CloseBracket) ∷ [])
 unfolding marks_dims
 marks_dims-is t = refl
 
@@ -342,7 +342,7 @@ pub marks_range-is : (t : RangeTree) → marks_range t ≡ place t.at ∷ token 
 unfolding marks_range
 marks_range-is t = refl
 
-pub marks_enum_names-Listed : (at : ℕ) (head : NameTree) (rest : List NameTree) → marks_enum_names (enum_names.Listed at head rest) ≡ place at ∷ token (sign signs.OpenBrace) ∷ (marks_name head ++ (behind signs.Comma (map marks_name rest) ++ token (sign signs.CloseBrace) ∷ []))
+pub marks_enum_names-Listed : (at : ℕ) (head : NameTree) (rest : List NameTree) → marks_enum_names (enum_names.Listed at head rest) ≡ place at ∷ (nested (sign signs.OpenBrace) (marks_name head ++ behind signs.Comma (map marks_name rest)) ++ token (sign signs.CloseBrace) ∷ [])
 unfolding marks_enum_names
 marks_enum_names-Listed at head rest = refl
 
@@ -358,7 +358,7 @@ pub marks_field-is : (t : FieldTree) → marks_field t ≡ place t.at ∷ (marks
 unfolding marks_field
 marks_field-is t = refl
 
-pub marks_struct-is : (t : StructTree) → marks_struct t ≡ place t.at ∷ token (word keywords.Struct) ∷ (marks_name t.name ++ token (sign signs.OpenBrace) ∷ (marks_field t.first ++ (joined (map marks_field t.rest) ++ token (sign signs.CloseBrace) ∷ token (sign signs.Semicolon) ∷ [])))
+pub marks_struct-is : (t : StructTree) → marks_struct t ≡ place t.at ∷ token (word keywords.Struct) ∷ (marks_name t.name ++ (nested (sign signs.OpenBrace) (marks_field t.first ++ joined (map marks_field t.rest)) ++ token (sign signs.CloseBrace) ∷ token (sign signs.Semicolon) ∷ []))
 unfolding marks_struct
 marks_struct-is t = refl
 
@@ -378,7 +378,7 @@ pub marks_variable-is : (t : VariableTree) → marks_variable t ≡ place t.at �
 unfolding marks_variable
 marks_variable-is t = refl
 
-pub marks_activity-is : (t : ActivityTree) → marks_activity t ≡ place t.at ∷ token (word keywords.Activity) ∷ (marks_name t.name ++ (written (option_map marks_dims t.dims) ++ token (sign signs.OpenParenthesis) ∷ (marks_add t.shortest ++ (after (sign signs.Range) (option_map marks_add t.longest) ++ token (sign signs.CloseParenthesis) ∷ token (sign signs.Semicolon) ∷ []))))
+pub marks_activity-is : (t : ActivityTree) → marks_activity t ≡ place t.at ∷ token (word keywords.Activity) ∷ (marks_name t.name ++ (written (option_map marks_dims t.dims) ++ (nested (sign signs.OpenParenthesis) (marks_add t.shortest ++ after (sign signs.Range) (option_map marks_add t.longest)) ++ token (sign signs.CloseParenthesis) ∷ token (sign signs.Semicolon) ∷ [])))
 unfolding marks_activity
 marks_activity-is t = refl
 
@@ -386,7 +386,7 @@ pub marks_unary-is : (t : UnaryTree) → marks_unary t ≡ place t.at ∷ token 
 unfolding marks_unary
 marks_unary-is t = refl
 
-pub marks_discrete-is : (t : DiscreteTree) → marks_discrete t ≡ place t.at ∷ token (word keywords.DiscreteResource) ∷ (marks_name t.name ++ (written (option_map marks_dims t.dims) ++ token (sign signs.OpenParenthesis) ∷ (marks_add t.capacity ++ token (sign signs.CloseParenthesis) ∷ token (sign signs.Semicolon) ∷ [])))
+pub marks_discrete-is : (t : DiscreteTree) → marks_discrete t ≡ place t.at ∷ token (word keywords.DiscreteResource) ∷ (marks_name t.name ++ (written (option_map marks_dims t.dims) ++ (nested (sign signs.OpenParenthesis) (marks_add t.capacity) ++ token (sign signs.CloseParenthesis) ∷ token (sign signs.Semicolon) ∷ [])))
 unfolding marks_discrete
 marks_discrete-is t = refl
 
@@ -438,11 +438,11 @@ pub marks_item-Block : (inner : BlockTree) → marks_item (items.Block inner) �
 unfolding marks_item marks_block marks_items
 marks_item-Block inner = ap marks_item (sym (items.rolls-Block inner)) ∙ rw fold-roll-ItemTree refl
 
-pub marks_item-ForAll : (at : ℕ) (params : ParamsTree) (body : ItemTree) → marks_item (items.ForAll at params body) ≡ place at ∷ token (word keywords.ForAll) ∷ token (sign signs.OpenParenthesis) ∷ (marks_params params ++ token (sign signs.CloseParenthesis) ∷ marks_item body)
+pub marks_item-ForAll : (at : ℕ) (params : ParamsTree) (body : ItemTree) → marks_item (items.ForAll at params body) ≡ place at ∷ nested (word keywords.ForAll) (nested (sign signs.OpenParenthesis) (marks_params params) ++ token (sign signs.CloseParenthesis) ∷ marks_item body)
 unfolding marks_item marks_block marks_items
 marks_item-ForAll at params body = ap marks_item (sym (items.rolls-ForAll at params body)) ∙ rw fold-roll-ItemTree refl
 
-pub marks_item-If : (at : ℕ) (condition : ExprTree) (holds : ItemsTree) (fails : Option ItemsTree) → marks_item (items.If at condition holds fails) ≡ place at ∷ token (word keywords.If) ∷ (marks_expr condition ++ token (word keywords.Then) ∷ (marks_items holds ++ (after (word keywords.Else) (option_map marks_items fails) ++ token (word keywords.EndIf) ∷ [])))
+pub marks_item-If : (at : ℕ) (condition : ExprTree) (holds : ItemsTree) (fails : Option ItemsTree) → marks_item (items.If at condition holds fails) ≡ place at ∷ nested (word keywords.If) (marks_expr condition ++ token (word keywords.Then) ∷ (marks_items holds ++ (after (word keywords.Else) (option_map marks_items fails) ++ token (word keywords.EndIf) ∷ [])))
 unfolding marks_item marks_block marks_items
 marks_item-If at condition holds None = ap marks_item (sym (items.rolls-If at condition holds None)) ∙ rw fold-roll-ItemTree refl
 marks_item-If at condition holds (Some fails) = ap marks_item (sym (items.rolls-If at condition holds (Some fails))) ∙ rw fold-roll-ItemTree refl
@@ -467,11 +467,11 @@ pub marks_items-Several : (at : ℕ) (head : ItemTree) (rest : List ItemTree) (i
 unfolding marks_items marks_item
 marks_items-Several at head rest is_closed = ap marks_items (sym (item_lists.rolls-Several at head rest is_closed)) ∙ rw fold-roll-ItemsTree refl
 
-pub marks_block-of : (at : ℕ) (items : ItemsTree) → marks_block (roll-BlockTree (record { at = at; items = items })) ≡ place at ∷ token (sign signs.OpenBrace) ∷ (marks_items items ++ token (sign signs.CloseBrace) ∷ [])
+pub marks_block-of : (at : ℕ) (items : ItemsTree) → marks_block (roll-BlockTree (record { at = at; items = items })) ≡ place at ∷ (nested (sign signs.OpenBrace) (marks_items items) ++ token (sign signs.CloseBrace) ∷ [])
 unfolding marks_block marks_items
 marks_block-of at items = rw fold-roll-BlockTree refl
 
-pub marks_block-is : (t : BlockTree) → marks_block t ≡ place (out-BlockTree t).at ∷ token (sign signs.OpenBrace) ∷ (marks_items (out-BlockTree t).items ++ token (sign signs.CloseBrace) ∷ [])
+pub marks_block-is : (t : BlockTree) → marks_block t ≡ place (out-BlockTree t).at ∷ (nested (sign signs.OpenBrace) (marks_items (out-BlockTree t).items) ++ token (sign signs.CloseBrace) ∷ [])
 marks_block-is t = ap marks_block (sym (roll-out-BlockTree t)) ∙ marks_block-of (out-BlockTree t).at (out-BlockTree t).items
 
 pub marks_instr-Solve : (at : ℕ) (block : BlockTree) → marks_instr (instrs.Solve at block) ≡ place at ∷ token (word keywords.Solve) ∷ (marks_block block ++ token (sign signs.Semicolon) ∷ [])
@@ -494,28 +494,28 @@ pub marks_statement-Block : (inner : SearchBlockTree) → marks_statement (state
 unfolding marks_statement marks_search_block marks_statements
 marks_statement-Block inner = ap marks_statement (sym (statements.rolls-Block inner)) ∙ rw fold-roll-StatementTree refl
 
-pub marks_statement-Try : (at : ℕ) (head : StatementsTree) (second : StatementsTree) (rest : List StatementsTree) → marks_statement (statements.Try at head second rest) ≡ place at ∷ token (word keywords.Try) ∷ (marks_statements head ++ token (sign signs.Bar) ∷ (marks_statements second ++ (behind signs.Bar (map marks_statements rest) ++ token (word keywords.EndTry) ∷ [])))
+pub marks_statement-Try : (at : ℕ) (head : StatementsTree) (second : StatementsTree) (rest : List StatementsTree) → marks_statement (statements.Try at head second rest) ≡ place at ∷ nested (word keywords.Try) (marks_statements head ++ token (sign signs.Bar) ∷ (marks_statements second ++ (behind signs.Bar (map marks_statements rest) ++ token (word keywords.EndTry) ∷ [])))
 unfolding marks_statement marks_search_block marks_statements
 marks_statement-Try at head second rest = ap marks_statement (sym (statements.rolls-Try at head second rest)) ∙ rw fold-roll-StatementTree refl
 
-pub marks_statement-Branch : (at : ℕ) (op : BranchOp) (params : OrderedParamsTree) (body : StatementTree) → marks_statement (statements.Branch at op params body) ≡ place at ∷ token (word (branch_word op)) ∷ token (sign signs.OpenParenthesis) ∷ (marks_ordered_params params ++ token (sign signs.CloseParenthesis) ∷ marks_statement body)
+pub marks_statement-Branch : (at : ℕ) (op : BranchOp) (params : OrderedParamsTree) (body : StatementTree) → marks_statement (statements.Branch at op params body) ≡ place at ∷ nested (word (branch_word op)) (nested (sign signs.OpenParenthesis) (marks_ordered_params params) ++ token (sign signs.CloseParenthesis) ∷ marks_statement body)
 unfolding marks_statement marks_search_block marks_statements
 marks_statement-Branch at op params body = ap marks_statement (sym (statements.rolls-Branch at op params body)) ∙ rw fold-roll-StatementTree refl
 
-pub marks_statement-Once : (at : ℕ) (body : StatementTree) → marks_statement (statements.Once at body) ≡ place at ∷ token (word keywords.Once) ∷ marks_statement body
+pub marks_statement-Once : (at : ℕ) (body : StatementTree) → marks_statement (statements.Once at body) ≡ place at ∷ nested (word keywords.Once) (marks_statement body)
 unfolding marks_statement marks_search_block marks_statements
 marks_statement-Once at body = ap marks_statement (sym (statements.rolls-Once at body)) ∙ rw fold-roll-StatementTree refl
 
-pub marks_statement-While : (at : ℕ) (condition : ExprTree) (body : StatementTree) → marks_statement (statements.While at condition body) ≡ place at ∷ token (word keywords.While) ∷ (marks_expr condition ++ token (word keywords.Do) ∷ marks_statement body)
+pub marks_statement-While : (at : ℕ) (condition : ExprTree) (body : StatementTree) → marks_statement (statements.While at condition body) ≡ place at ∷ nested (word keywords.While) (marks_expr condition ++ token (word keywords.Do) ∷ marks_statement body)
 unfolding marks_statement marks_search_block marks_statements
 marks_statement-While at condition body = ap marks_statement (sym (statements.rolls-While at condition body)) ∙ rw fold-roll-StatementTree refl
 
-pub marks_statement-If : (at : ℕ) (condition : ExprTree) (holds : StatementsTree) (fails : Option StatementsTree) → marks_statement (statements.If at condition holds fails) ≡ place at ∷ token (word keywords.If) ∷ (marks_expr condition ++ token (word keywords.Then) ∷ (marks_statements holds ++ (after (word keywords.Else) (option_map marks_statements fails) ++ token (word keywords.EndIf) ∷ [])))
+pub marks_statement-If : (at : ℕ) (condition : ExprTree) (holds : StatementsTree) (fails : Option StatementsTree) → marks_statement (statements.If at condition holds fails) ≡ place at ∷ nested (word keywords.If) (marks_expr condition ++ token (word keywords.Then) ∷ (marks_statements holds ++ (after (word keywords.Else) (option_map marks_statements fails) ++ token (word keywords.EndIf) ∷ [])))
 unfolding marks_statement marks_search_block marks_statements
 marks_statement-If at condition holds None = ap marks_statement (sym (statements.rolls-If at condition holds None)) ∙ rw fold-roll-StatementTree refl
 marks_statement-If at condition holds (Some fails) = ap marks_statement (sym (statements.rolls-If at condition holds (Some fails))) ∙ rw fold-roll-StatementTree refl
 
-pub marks_statement-Label : (at : ℕ) (op : LabelOp) (argument : PostTree) → marks_statement (statements.Label at op argument) ≡ place at ∷ token (word (label_word op)) ∷ token (sign signs.OpenParenthesis) ∷ (marks_post argument ++ token (sign signs.CloseParenthesis) ∷ [])
+pub marks_statement-Label : (at : ℕ) (op : LabelOp) (argument : PostTree) → marks_statement (statements.Label at op argument) ≡ place at ∷ token (word (label_word op)) ∷ (nested (sign signs.OpenParenthesis) (marks_post argument) ++ token (sign signs.CloseParenthesis) ∷ [])
 unfolding marks_statement marks_search_block marks_statements
 marks_statement-Label at op argument = ap marks_statement (sym (statements.rolls-Label at op argument)) ∙ rw fold-roll-StatementTree refl
 
@@ -535,11 +535,11 @@ pub marks_statements-Several : (at : ℕ) (head : StatementTree) (rest : List St
 unfolding marks_statements marks_statement
 marks_statements-Several at head rest is_closed = ap marks_statements (sym (statement_lists.rolls-Several at head rest is_closed)) ∙ rw fold-roll-StatementsTree refl
 
-pub marks_search_block-of : (at : ℕ) (statements : StatementsTree) → marks_search_block (roll-SearchBlockTree (record { at = at; statements = statements })) ≡ place at ∷ token (sign signs.OpenBrace) ∷ (marks_statements statements ++ token (sign signs.CloseBrace) ∷ [])
+pub marks_search_block-of : (at : ℕ) (statements : StatementsTree) → marks_search_block (roll-SearchBlockTree (record { at = at; statements = statements })) ≡ place at ∷ (nested (sign signs.OpenBrace) (marks_statements statements) ++ token (sign signs.CloseBrace) ∷ [])
 unfolding marks_search_block marks_statements
 marks_search_block-of at statements = rw fold-roll-SearchBlockTree refl
 
-pub marks_search_block-is : (t : SearchBlockTree) → marks_search_block t ≡ place (out-SearchBlockTree t).at ∷ token (sign signs.OpenBrace) ∷ (marks_statements (out-SearchBlockTree t).statements ++ token (sign signs.CloseBrace) ∷ [])
+pub marks_search_block-is : (t : SearchBlockTree) → marks_search_block t ≡ place (out-SearchBlockTree t).at ∷ (nested (sign signs.OpenBrace) (marks_statements (out-SearchBlockTree t).statements) ++ token (sign signs.CloseBrace) ∷ [])
 marks_search_block-is t = ap marks_search_block (sym (roll-out-SearchBlockTree t)) ∙ marks_search_block-of (out-SearchBlockTree t).at (out-SearchBlockTree t).statements
 
 pub marks_search-is : (t : SearchTree) → marks_search t ≡ place t.at ∷ token (word keywords.Search) ∷ (marks_search_block t.block ++ token (sign signs.Semicolon) ∷ [])

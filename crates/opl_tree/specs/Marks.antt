@@ -1,5 +1,5 @@
 -- The marks of a tree: what it writes, token by token, with the place of each node before the node's first token.
-use Rattle.std.specs.Prelude.{ℕ, ℤ, Bool, true, false, List, [], ◌∷◌, ◌++◌, map, Option, None, Some}
+use Rattle.std.specs.Prelude.{ℕ, suc, ℤ, Bool, true, false, List, [], ◌∷◌, ◌++◌, map, Option, None, Some}
 use Rattle.std.specs.Option.{option_map}
 use Rattle.opl_token.specs.declared.sign.Sign.{Sign}
 use Rattle.opl_token.specs.declared.sign.Sign.TheVariants as signs
@@ -104,16 +104,34 @@ pub data Part : Type 0 where
   any : List ℕ → Part
   number : ℤ → Part
 
--- a node begins, with the place that it says it has; a token is written; or an item or a statement that is no block
--- begins, so that the next token is not `{`
+-- a node begins, with the place that it says it has; a token is written; an item or a statement that is no block begins, so
+-- that the next token is not `{`; or the next token opens a level of nesting, and which one it is, counted from 1 outside
 pub data Mark : Type 0 where
   place : ℕ → Mark
   token : Part → Mark
   unbraced : Mark
+  opens : ℕ → Mark
 
 -- what a tree writes
 abbrev pub Marks : Type 0
 Marks = List Mark
+
+-- the same marks one level deeper
+abbrev pub raised : Marks → Marks
+raised [] = []
+raised (place at ∷ ms) = place at ∷ raised ms
+raised (token p ∷ ms) = token p ∷ raised ms
+raised (unbraced ∷ ms) = unbraced ∷ raised ms
+raised (opens k ∷ ms) = opens (suc k) ∷ raised ms
+
+-- a token that opens a level, and what stands in it
+abbrev pub nested : Part → Marks → Marks
+nested p ms = opens 1 ∷ token p ∷ raised ms
+
+-- it behind a token that opens a level
+abbrev pub after_level : Part → Option Marks → Marks
+after_level p None = []
+after_level p (Some ms) = nested p ms
 
 -- lists of marks, one after another
 abbrev pub joined : List Marks → Marks
@@ -148,7 +166,7 @@ before p (Some ms) = ms ++ token p ∷ []
 -- it between two signs
 abbrev pub enclosed : Sign → Sign → Option Marks → Marks
 enclosed s e None = []
-enclosed s e (Some ms) = token (sign s) ∷ (ms ++ token (sign e) ∷ [])
+enclosed s e (Some ms) = nested (sign s) ms ++ token (sign e) ∷ []
 
 -- the token, if it is written
 abbrev pub optional : Part → Bool → Marks
@@ -232,7 +250,7 @@ marks_name t = place t.at ∷ token (name t.text) ∷ []
 -- `NAME` or `<NAME, NAME, ..>`
 unfoldable pub marks_pattern : PatternTree → Marks
 marks_pattern (patterns.Single named) = marks_name named
-marks_pattern (patterns.Record at head rest) = place at ∷ token (sign signs.Less) ∷ (marks_name head ++ (behind signs.Comma (map marks_name rest) ++ token (sign signs.Greater) ∷ []))
+marks_pattern (patterns.Record at head rest) = place at ∷ (nested (sign signs.Less) (marks_name head ++ behind signs.Comma (map marks_name rest)) ++ token (sign signs.Greater) ∷ [])
 
 -- `IMP <=> IMP <=> ..`
 abbrev pub expr_marks : ExprLayer Marks → Marks
@@ -240,7 +258,7 @@ expr_marks t = place t.at ∷ (t.first ++ behind signs.Equivalent t.rest)
 
 -- `OR`, or `OR => IMP`
 abbrev pub imp_marks : ImpLayer Marks → Marks
-imp_marks t = place t.at ∷ (t.premise ++ after (sign signs.Implies) t.conclusion)
+imp_marks t = place t.at ∷ (t.premise ++ after_level (sign signs.Implies) t.conclusion)
 
 -- `AND \/ AND \/ ..`
 abbrev pub or_marks : OrLayer Marks → Marks
@@ -252,7 +270,7 @@ and_marks t = place t.at ∷ (t.first ++ behind signs.And t.rest)
 
 -- `not NEG`, or a comparison
 abbrev pub neg_marks : NegLayer Marks → Marks
-neg_marks (NegTree-F.Not at inner) = place at ∷ token (word keywords.Not) ∷ inner
+neg_marks (NegTree-F.Not at inner) = place at ∷ nested (word keywords.Not) inner
 neg_marks (NegTree-F.Compare inner) = inner
 
 -- `ADD`, `ADD RELATION ADD`, or `ADD in SET`
@@ -284,12 +302,12 @@ last_step_marks t = token (mul_part t.op) ∷ t.factor
 
 -- `- OPEN`, or `sum (PARAMS) MUL` and the like
 abbrev pub open_marks : OpenLayer Marks → Marks
-open_marks (OpenTree-F.NegativeOpen at inner) = place at ∷ token (sign signs.Minus) ∷ inner
-open_marks (OpenTree-F.Aggregate at op params body) = place at ∷ token (word (aggregate_word op)) ∷ token (sign signs.OpenParenthesis) ∷ (params ++ token (sign signs.CloseParenthesis) ∷ body)
+open_marks (OpenTree-F.NegativeOpen at inner) = place at ∷ nested (sign signs.Minus) inner
+open_marks (OpenTree-F.Aggregate at op params body) = place at ∷ nested (word (aggregate_word op)) (nested (sign signs.OpenParenthesis) params ++ token (sign signs.CloseParenthesis) ∷ body)
 
 -- `- SIGN`, or a postfix expression
 abbrev pub sign_marks : SignLayer Marks → Marks
-sign_marks (SignTree-F.Negative at inner) = place at ∷ token (sign signs.Minus) ∷ inner
+sign_marks (SignTree-F.Negative at inner) = place at ∷ nested (sign signs.Minus) inner
 sign_marks (SignTree-F.Postfix inner) = inner
 
 -- `PRIM` with subscripts and fields behind it
@@ -303,21 +321,21 @@ suffix_marks (SuffixTree-F.Field at field) = place at ∷ token (sign signs.Dot)
 
 -- `[ADD, ADD, ..]`
 abbrev pub subscripts_marks : SubscriptsLayer Marks → Marks
-subscripts_marks t = place t.at ∷ token (sign signs.OpenBracket) ∷ (t.first ++ (behind signs.Comma t.rest ++ token (sign signs.CloseBracket) ∷ []))
+subscripts_marks t = place t.at ∷ (nested (sign signs.OpenBracket) (t.first ++ behind signs.Comma t.rest) ++ token (sign signs.CloseBracket) ∷ [])
 
 -- what an expression begins with
 abbrev pub prim_marks : PrimLayer Marks → Marks
 prim_marks (PrimTree-F.Number at value) = place at ∷ token (number value) ∷ []
 prim_marks (PrimTree-F.Named named) = marks_name named
-prim_marks (PrimTree-F.Bracket at inner) = place at ∷ token (sign signs.OpenParenthesis) ∷ (inner ++ token (sign signs.CloseParenthesis) ∷ [])
-prim_marks (PrimTree-F.Record at head rest) = place at ∷ token (sign signs.Less) ∷ (head ++ (behind signs.Comma rest ++ token (sign signs.Greater) ∷ []))
-prim_marks (PrimTree-F.Listed at elements) = place at ∷ token (sign signs.OpenBrace) ∷ (several signs.Comma elements ++ token (sign signs.CloseBrace) ∷ [])
-prim_marks (PrimTree-F.Described at element params) = place at ∷ token (sign signs.OpenBrace) ∷ (element ++ token (sign signs.Bar) ∷ (params ++ token (sign signs.CloseBrace) ∷ []))
-prim_marks (PrimTree-F.Array at elements) = place at ∷ token (sign signs.OpenBracket) ∷ (several signs.Comma elements ++ token (sign signs.CloseBracket) ∷ [])
-prim_marks (PrimTree-F.KeyedArray at elements) = place at ∷ token (sign signs.OpenAssociation) ∷ (several signs.Comma elements ++ token (sign signs.CloseAssociation) ∷ [])
-prim_marks (PrimTree-F.Call at op argument) = place at ∷ token (word (call_word op)) ∷ token (sign signs.OpenParenthesis) ∷ (argument ++ token (sign signs.CloseParenthesis) ∷ [])
-prim_marks (PrimTree-F.AllDifferent at argument) = place at ∷ token (word keywords.AllDifferent) ∷ token (sign signs.OpenParenthesis) ∷ (argument ++ token (sign signs.CloseParenthesis) ∷ [])
-prim_marks (PrimTree-F.Question at op argument) = place at ∷ token (word (question_word op)) ∷ token (sign signs.OpenParenthesis) ∷ (argument ++ token (sign signs.CloseParenthesis) ∷ [])
+prim_marks (PrimTree-F.Bracket at inner) = place at ∷ (nested (sign signs.OpenParenthesis) inner ++ token (sign signs.CloseParenthesis) ∷ [])
+prim_marks (PrimTree-F.Record at head rest) = place at ∷ (nested (sign signs.Less) (head ++ behind signs.Comma rest) ++ token (sign signs.Greater) ∷ [])
+prim_marks (PrimTree-F.Listed at elements) = place at ∷ (nested (sign signs.OpenBrace) (several signs.Comma elements) ++ token (sign signs.CloseBrace) ∷ [])
+prim_marks (PrimTree-F.Described at element params) = place at ∷ (nested (sign signs.OpenBrace) (element ++ token (sign signs.Bar) ∷ params) ++ token (sign signs.CloseBrace) ∷ [])
+prim_marks (PrimTree-F.Array at elements) = place at ∷ (nested (sign signs.OpenBracket) (several signs.Comma elements) ++ token (sign signs.CloseBracket) ∷ [])
+prim_marks (PrimTree-F.KeyedArray at elements) = place at ∷ (nested (sign signs.OpenAssociation) (several signs.Comma elements) ++ token (sign signs.CloseAssociation) ∷ [])
+prim_marks (PrimTree-F.Call at op argument) = place at ∷ token (word (call_word op)) ∷ (nested (sign signs.OpenParenthesis) argument ++ token (sign signs.CloseParenthesis) ∷ [])
+prim_marks (PrimTree-F.AllDifferent at argument) = place at ∷ token (word keywords.AllDifferent) ∷ (nested (sign signs.OpenParenthesis) argument ++ token (sign signs.CloseParenthesis) ∷ [])
+prim_marks (PrimTree-F.Question at op argument) = place at ∷ token (word (question_word op)) ∷ (nested (sign signs.OpenParenthesis) argument ++ token (sign signs.CloseParenthesis) ∷ [])
 
 -- `ADD:ADD`
 abbrev pub keyed_marks : KeyedLayer Marks → Marks
@@ -414,7 +432,7 @@ marks_group = group_result marks_steps
 abbrev pub type_marks : TypeTree-F Marks → Marks
 type_marks (TypeTree-F.Int at) = place at ∷ token (word keywords.Int) ∷ []
 type_marks (TypeTree-F.Named named) = marks_name named
-type_marks (TypeTree-F.Set at inner) = place at ∷ token (sign signs.OpenBrace) ∷ (inner ++ token (sign signs.CloseBrace) ∷ [])
+type_marks (TypeTree-F.Set at inner) = place at ∷ (nested (sign signs.OpenBrace) inner ++ token (sign signs.CloseBrace) ∷ [])
 
 -- the marks of a type
 unfoldable pub marks_type : TypeTree → Marks
@@ -426,7 +444,7 @@ marks_dim t = place t.at ∷ (before (word keywords.In) (option_map marks_name t
 
 -- `[DIM, DIM, ..]`
 unfoldable pub marks_dims : DimsTree → Marks
-marks_dims t = place t.at ∷ token (sign signs.OpenBracket) ∷ (marks_dim t.first ++ (behind signs.Comma (map marks_dim t.rest) ++ token (sign signs.CloseBracket) ∷ []))
+marks_dims t = place t.at ∷ (nested (sign signs.OpenBracket) (marks_dim t.first ++ behind signs.Comma (map marks_dim t.rest)) ++ token (sign signs.CloseBracket) ∷ [])
 
 -- `...` or `ADD`
 unfoldable pub marks_initial : InitialTree → Marks
@@ -443,7 +461,7 @@ marks_range t = place t.at ∷ token (word keywords.Range) ∷ (marks_name t.nam
 
 -- `{NAME, NAME, ..}`, or `...` with or without `=` before it
 unfoldable pub marks_enum_names : EnumNamesTree → Marks
-marks_enum_names (enum_names.Listed at head rest) = place at ∷ token (sign signs.OpenBrace) ∷ (marks_name head ++ (behind signs.Comma (map marks_name rest) ++ token (sign signs.CloseBrace) ∷ []))
+marks_enum_names (enum_names.Listed at head rest) = place at ∷ (nested (sign signs.OpenBrace) (marks_name head ++ behind signs.Comma (map marks_name rest)) ++ token (sign signs.CloseBrace) ∷ [])
 marks_enum_names (enum_names.External at is_equated) = place at ∷ (optional (sign signs.Equal) is_equated ++ token (sign signs.Ellipsis) ∷ [])
 
 -- `enum NAME NAMES;`
@@ -456,7 +474,7 @@ marks_field t = place t.at ∷ (marks_type t.kind ++ (marks_name t.name ++ token
 
 -- `struct NAME {FIELD FIELD ..};`
 unfoldable pub marks_struct : StructTree → Marks
-marks_struct t = place t.at ∷ token (word keywords.Struct) ∷ (marks_name t.name ++ token (sign signs.OpenBrace) ∷ (marks_field t.first ++ (joined (map marks_field t.rest) ++ token (sign signs.CloseBrace) ∷ token (sign signs.Semicolon) ∷ [])))
+marks_struct t = place t.at ∷ token (word keywords.Struct) ∷ (marks_name t.name ++ (nested (sign signs.OpenBrace) (marks_field t.first ++ joined (map marks_field t.rest)) ++ token (sign signs.CloseBrace) ∷ token (sign signs.Semicolon) ∷ []))
 
 -- `int` or `NAME`
 unfoldable pub marks_variable_type : VariableTypeTree → Marks
@@ -473,7 +491,7 @@ marks_variable t = place t.at ∷ token (word keywords.Var) ∷ (marks_variable_
 
 -- `Activity NAME [DIMS] (ADD);` or `Activity NAME [DIMS] (ADD..ADD);`
 unfoldable pub marks_activity : ActivityTree → Marks
-marks_activity t = place t.at ∷ token (word keywords.Activity) ∷ (marks_name t.name ++ (written (option_map marks_dims t.dims) ++ token (sign signs.OpenParenthesis) ∷ (marks_add t.shortest ++ (after (sign signs.Range) (option_map marks_add t.longest) ++ token (sign signs.CloseParenthesis) ∷ token (sign signs.Semicolon) ∷ []))))
+marks_activity t = place t.at ∷ token (word keywords.Activity) ∷ (marks_name t.name ++ (written (option_map marks_dims t.dims) ++ (nested (sign signs.OpenParenthesis) (marks_add t.shortest ++ after (sign signs.Range) (option_map marks_add t.longest)) ++ token (sign signs.CloseParenthesis) ∷ token (sign signs.Semicolon) ∷ [])))
 
 -- `UnaryResource NAME [DIMS];`
 unfoldable pub marks_unary : UnaryTree → Marks
@@ -481,7 +499,7 @@ marks_unary t = place t.at ∷ token (word keywords.UnaryResource) ∷ (marks_na
 
 -- `DiscreteResource NAME [DIMS] (ADD);`
 unfoldable pub marks_discrete : DiscreteTree → Marks
-marks_discrete t = place t.at ∷ token (word keywords.DiscreteResource) ∷ (marks_name t.name ++ (written (option_map marks_dims t.dims) ++ token (sign signs.OpenParenthesis) ∷ (marks_add t.capacity ++ token (sign signs.CloseParenthesis) ∷ token (sign signs.Semicolon) ∷ [])))
+marks_discrete t = place t.at ∷ token (word keywords.DiscreteResource) ∷ (marks_name t.name ++ (written (option_map marks_dims t.dims) ++ (nested (sign signs.OpenParenthesis) (marks_add t.capacity) ++ token (sign signs.CloseParenthesis) ∷ token (sign signs.Semicolon) ∷ [])))
 
 -- `scheduleOrigin = ADD;` or `scheduleHorizon = ADD;`
 unfoldable pub marks_schedule : ScheduleTree → Marks
@@ -505,7 +523,7 @@ marks_requires t = place t.at ∷ (marks_post t.activity ++ token (word keywords
 
 -- `{ITEMS}`
 abbrev pub block_marks : BlockTree-F Marks Marks Marks → Marks
-block_marks t = place t.at ∷ token (sign signs.OpenBrace) ∷ (t.items ++ token (sign signs.CloseBrace) ∷ [])
+block_marks t = place t.at ∷ (nested (sign signs.OpenBrace) t.items ++ token (sign signs.CloseBrace) ∷ [])
 
 -- items with `;` between them. A list with items may end with one more `;`, an empty one may not
 abbrev pub items_marks : ItemsTree-F Marks Marks Marks → Marks
@@ -515,8 +533,8 @@ items_marks (ItemsTree-F.Several at head rest is_closed) = place at ∷ (head ++
 -- an item of a block
 abbrev pub item_marks : ItemTree-F Marks Marks Marks → Marks
 item_marks (ItemTree-F.Block inner) = inner
-item_marks (ItemTree-F.ForAll at params body) = place at ∷ token (word keywords.ForAll) ∷ token (sign signs.OpenParenthesis) ∷ (marks_params params ++ token (sign signs.CloseParenthesis) ∷ body)
-item_marks (ItemTree-F.If at condition holds fails) = place at ∷ token (word keywords.If) ∷ (marks_expr condition ++ token (word keywords.Then) ∷ (holds ++ (after (word keywords.Else) fails ++ token (word keywords.EndIf) ∷ [])))
+item_marks (ItemTree-F.ForAll at params body) = place at ∷ nested (word keywords.ForAll) (nested (sign signs.OpenParenthesis) (marks_params params) ++ token (sign signs.CloseParenthesis) ∷ body)
+item_marks (ItemTree-F.If at condition holds fails) = place at ∷ nested (word keywords.If) (marks_expr condition ++ token (word keywords.Then) ∷ (holds ++ (after (word keywords.Else) fails ++ token (word keywords.EndIf) ∷ [])))
 item_marks (ItemTree-F.Precedes at earlier later) = unbraced ∷ place at ∷ (marks_post earlier ++ token (word keywords.Precedes) ∷ marks_post later)
 item_marks (ItemTree-F.Requires inner) = unbraced ∷ marks_requires inner
 item_marks (ItemTree-F.Constraint inner) = unbraced ∷ marks_expr inner
@@ -546,7 +564,7 @@ marks_ordered_params t = place t.at ∷ (marks_params t.params ++ written (optio
 
 -- `{STATEMENTS}`
 abbrev pub search_block_marks : SearchBlockTree-F Marks Marks Marks → Marks
-search_block_marks t = place t.at ∷ token (sign signs.OpenBrace) ∷ (t.statements ++ token (sign signs.CloseBrace) ∷ [])
+search_block_marks t = place t.at ∷ (nested (sign signs.OpenBrace) t.statements ++ token (sign signs.CloseBrace) ∷ [])
 
 -- statements with `;` between them. A list with statements may end with one more `;`, an empty one may not
 abbrev pub statements_marks : StatementsTree-F Marks Marks Marks → Marks
@@ -556,12 +574,12 @@ statements_marks (StatementsTree-F.Several at head rest is_closed) = place at �
 -- a statement of a search section
 abbrev pub statement_marks : StatementTree-F Marks Marks Marks → Marks
 statement_marks (StatementTree-F.Block inner) = inner
-statement_marks (StatementTree-F.Try at head second rest) = place at ∷ token (word keywords.Try) ∷ (head ++ token (sign signs.Bar) ∷ (second ++ (behind signs.Bar rest ++ token (word keywords.EndTry) ∷ [])))
-statement_marks (StatementTree-F.Branch at op params body) = place at ∷ token (word (branch_word op)) ∷ token (sign signs.OpenParenthesis) ∷ (marks_ordered_params params ++ token (sign signs.CloseParenthesis) ∷ body)
-statement_marks (StatementTree-F.Once at body) = place at ∷ token (word keywords.Once) ∷ body
-statement_marks (StatementTree-F.While at condition body) = place at ∷ token (word keywords.While) ∷ (marks_expr condition ++ token (word keywords.Do) ∷ body)
-statement_marks (StatementTree-F.If at condition holds fails) = place at ∷ token (word keywords.If) ∷ (marks_expr condition ++ token (word keywords.Then) ∷ (holds ++ (after (word keywords.Else) fails ++ token (word keywords.EndIf) ∷ [])))
-statement_marks (StatementTree-F.Label at op argument) = place at ∷ token (word (label_word op)) ∷ token (sign signs.OpenParenthesis) ∷ (marks_post argument ++ token (sign signs.CloseParenthesis) ∷ [])
+statement_marks (StatementTree-F.Try at head second rest) = place at ∷ nested (word keywords.Try) (head ++ token (sign signs.Bar) ∷ (second ++ (behind signs.Bar rest ++ token (word keywords.EndTry) ∷ [])))
+statement_marks (StatementTree-F.Branch at op params body) = place at ∷ nested (word (branch_word op)) (nested (sign signs.OpenParenthesis) (marks_ordered_params params) ++ token (sign signs.CloseParenthesis) ∷ body)
+statement_marks (StatementTree-F.Once at body) = place at ∷ nested (word keywords.Once) body
+statement_marks (StatementTree-F.While at condition body) = place at ∷ nested (word keywords.While) (marks_expr condition ++ token (word keywords.Do) ∷ body)
+statement_marks (StatementTree-F.If at condition holds fails) = place at ∷ nested (word keywords.If) (marks_expr condition ++ token (word keywords.Then) ∷ (holds ++ (after (word keywords.Else) fails ++ token (word keywords.EndIf) ∷ [])))
+statement_marks (StatementTree-F.Label at op argument) = place at ∷ token (word (label_word op)) ∷ (nested (sign signs.OpenParenthesis) (marks_post argument) ++ token (sign signs.CloseParenthesis) ∷ [])
 statement_marks (StatementTree-F.Precedes at earlier later) = unbraced ∷ place at ∷ (marks_post earlier ++ token (word keywords.Precedes) ∷ marks_post later)
 statement_marks (StatementTree-F.Constraint inner) = unbraced ∷ marks_expr inner
 
