@@ -1,6 +1,6 @@
 -- The laws of what stands behind an opening token, closed over the levels of nesting.
 use Rattle.std.proofs.Common.{false, ℕ, zero, suc, ◌≤◌, false, inr, [], ◌++◌, pos, refl, sym, arith, subst}
-use Rattle.opl_tree.specs.Marks as pt
+use Rattle.opl_tree.specs.Marks as mk
 use Rattle.opl_grammar.specs.Input.{one, number_in}
 use Rattle.opl_data.specs.declared.tree.DataValue.TheVariants as values_are
 use Rattle.opl_data.specs.Grammar as g
@@ -14,7 +14,7 @@ use Rattle.opl_data.proofs.Values.{value_law}
 
 number_sample : Samples number_shape
 number_sample tail h = record {
-  whole = before (pt.number (pos 0)) tail;
+  whole = before (mk.number (pos 0)) tail;
   value = pos 0;
   takes = ((refl, tt), refl);
   starts = λ F k. refl;
@@ -22,9 +22,9 @@ number_sample tail h = record {
 
 values_sample : Samples values_shape
 values_sample tail h = record {
-  whole = before (pt.number (pos 0)) tail;
+  whole = before (mk.number (pos 0)) tail;
   value = (values_are.Number 0 false (pos 0), []);
-  takes = subst (λ ms. Takes (ms ++ []) (before (pt.number (pos 0)) tail) tail) (sym (marks_value-Number 0 false (pos 0))) (refl, ((refl, tt), refl));
+  takes = subst (λ ms. Takes (ms ++ []) (before (mk.number (pos 0)) tail) tail) (sym (marks_value-Number 0 false (pos 0))) (refl, ((refl, tt), refl));
   starts = λ F k. refl;
 }
 

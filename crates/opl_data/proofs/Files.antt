@@ -3,9 +3,8 @@ use Rattle.std.proofs.Common.{◌≡◌, ℕ, true, ◌⊎◌, List, [], ◌∷�
 use Rattle.opl_token.specs.declared.sign.Sign.TheVariants as signs
 use Rattle.opl_token.specs.declared.token.Kind.{Kind}
 use Rattle.opl_tree.specs.declared.expression.NameTree.{NameTree}
-use Rattle.opl_tree.specs.Marks as pt
-use Rattle.opl_reader_laws.specs.Marks as mk
-use Rattle.opl_reader_laws.proofs.Spelt.{marks_name-is}
+use Rattle.opl_tree.specs.Marks as mk
+use Rattle.opl_tree.proofs.Marks.{marks_name-is}
 use Rattle.opl_grammar.specs.Input.{Input, Parser, sign, is_name, many}
 use Rattle.opl_data.specs.declared.tree.DataFile.{DataFile}
 use Rattle.opl_data.specs.declared.tree.DataItem.{DataItem}
@@ -48,7 +47,7 @@ item_law {n} {p} {q} V = plain_law (placed_law (pair_law name_law (pair_law (sig
 }) (g.item p) (g.item q) (item_is p) (item_is q)
 
 item_written : (t : DataItem) → Written (marks_item t)
-item_written t = subst Written (sym (marks_item-is t ∙ ap (λ ms. mk.place t.at ∷ (ms ++ mk.token (pt.sign signs.Equal) ∷ (marks_value t.value ++ mk.token (pt.sign signs.Semicolon) ∷ []))) (marks_name-is t.name))) (record { first = pt.name t.name.text; is = refl })
+item_written t = subst Written (sym (marks_item-is t ∙ ap (λ ms. mk.place t.at ∷ (ms ++ mk.token (mk.sign signs.Equal) ∷ (marks_value t.value ++ mk.token (mk.sign signs.Semicolon) ∷ []))) (marks_name-is t.name))) (record { first = mk.name t.name.text; is = refl })
 
 -- ---- the items
 

@@ -3,9 +3,8 @@ use Rattle.std.proofs.Common.{◌≡◌, ℕ, ℤ, Bool, true, false, ◌⊎◌,
 use Rattle.opl_token.specs.declared.sign.Sign.TheVariants as signs
 use Rattle.opl_token.specs.declared.token.Kind.{Kind}
 use Rattle.opl_tree.specs.declared.expression.NameTree.{NameTree}
-use Rattle.opl_reader_laws.specs.Marks.{marks_name}
-use Rattle.opl_tree.specs.Marks as pt
-use Rattle.opl_reader_laws.specs.Marks as mk
+use Rattle.opl_tree.specs.Marks.{marks_name}
+use Rattle.opl_tree.specs.Marks as mk
 use Rattle.opl_grammar.specs.Input.{is_sign, is_name, is_number}
 use Rattle.opl_data.specs.declared.tree.DataFile.{DataFile}
 use Rattle.opl_data.specs.declared.tree.DataItem.{DataItem}
@@ -26,7 +25,7 @@ abbrev pub name_shape : Shape NameTree
 name_shape = plain marks_name Any (First is_name)
 
 abbrev pub number_shape : Shape ℤ
-number_shape = one_shape pt.number (λ k. is_number k ≡ true)
+number_shape = one_shape mk.number (λ k. is_number k ≡ true)
 
 abbrev pub value_shape : Shape DataValue
 value_shape = plain marks_value Any (First starts_value)

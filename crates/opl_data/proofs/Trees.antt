@@ -1,12 +1,11 @@
 -- What each tree writes and how deep it nests, one layer at a time.
 use Rattle.std.proofs.Common.{◌≡◌, ℕ, ◌+◌, max, ℤ, Bool, true, false, List, [], ◌∷◌, ◌++◌, map, refl, ap, ◌∙◌, sym, arith}
-use Rattle.opl_tree.specs.Depth.{greatest}
-use Rattle.opl_reader_laws.proofs.Depths.{depth_of-name, depths}
+use Rattle.opl_tree.specs.Depth.{greatest, depth_of}
+use Rattle.opl_tree.proofs.Depth.{depth_of-name, depths}
 use Rattle.opl_data.specs.Depth.{depth_value, depth_pair, depth_item, depth_file}
 use Rattle.opl_token.specs.declared.sign.Sign.TheVariants as signs
 use Rattle.opl_tree.specs.declared.expression.NameTree.{NameTree}
-use Rattle.opl_tree.specs.Marks.{sign}
-use Rattle.opl_reader_laws.specs.Marks.{place, token, nested, joined, behind, several, marks_name, depth_of}
+use Rattle.opl_tree.specs.Marks.{sign, place, token, nested, joined, behind, several, marks_name}
 use Rattle.opl_data.specs.declared.tree.DataFile.{DataFile}
 use Rattle.opl_data.specs.declared.tree.DataItem.{DataItem}
 use Rattle.opl_data.specs.declared.tree.DataPair.{DataPair}

@@ -2,8 +2,8 @@
 use Rattle.std.proofs.Common.{◌≡◌, ℕ, ℤ, true, false, cond, ◌⊎◌, inl, inr, List, refl, sym, subst}
 use Rattle.opl_token.specs.declared.sign.Sign.TheVariants as signs
 use Rattle.opl_tree.specs.declared.expression.NameTree.{NameTree}
-use Rattle.opl_reader_laws.proofs.Spelt.{marks_name-is}
-use Rattle.opl_tree.specs.Marks as pt
+use Rattle.opl_tree.proofs.Marks.{marks_name-is}
+use Rattle.opl_tree.specs.Marks as mk
 use Rattle.opl_grammar.specs.Input.{Input, Outcome, Parser, kind, one, sign, is_sign, is_name, is_number, name_in, number_in, sees_sign, sees_name, sees_number}
 use Rattle.opl_data.specs.declared.tree.DataPair.{DataPair}
 use Rattle.opl_data.specs.declared.tree.DataValue.{DataValue}
@@ -64,7 +64,7 @@ abbrev negative_read : Rules → Parser (ℕ × (Unit {0} × ℤ))
 negative_read r = placed (opened (sign_table signs.Minus) r.number)
 
 abbrev negative_parts : Shape (ℕ × (Unit {0} × ℤ))
-negative_parts = placed_shape (opened_shape (λ u. pt.sign signs.Minus) (sign_first signs.Minus) number_shape)
+negative_parts = placed_shape (opened_shape (λ u. mk.sign signs.Minus) (sign_first signs.Minus) number_shape)
 
 negative_parts_law : {n : ℕ} {r s : Rules} → RulesLaw n r s → Law n (negative_read r) (negative_read s) negative_parts
 negative_parts_law R = placed_law (opened_law (sign_reads signs.Minus) R.number)
@@ -73,7 +73,7 @@ abbrev record_read : Rules → Parser (ℕ × ((Unit {0} × (DataValue × List D
 record_read r = placed (pair (opened (sign_table signs.Less) r.values) (sign signs.Greater))
 
 abbrev record_parts : Shape (ℕ × ((Unit {0} × (DataValue × List DataValue)) × Unit {0}))
-record_parts = placed_shape (pair_shape (opened_shape (λ u. pt.sign signs.Less) (sign_first signs.Less) values_shape) (sign_shape signs.Greater))
+record_parts = placed_shape (pair_shape (opened_shape (λ u. mk.sign signs.Less) (sign_first signs.Less) values_shape) (sign_shape signs.Greater))
 
 record_parts_law : {n : ℕ} {r s : Rules} → RulesLaw n r s → Law n (record_read r) (record_read s) record_parts
 record_parts_law R = placed_law (pair_law (opened_law (sign_reads signs.Less) R.values) (sign_law signs.Greater) (λ x k h. (tt, from_sign signs.Greater (λ l. sees_sign signs.Comma l ≡ false) k h refl)))
@@ -82,7 +82,7 @@ abbrev set_read : Rules → Parser (ℕ × ((Unit {0} × List DataValue) × Unit
 set_read r = placed (pair (opened (sign_table signs.OpenBrace) r.listed) (sign signs.CloseBrace))
 
 abbrev set_parts : Shape (ℕ × ((Unit {0} × List DataValue) × Unit {0}))
-set_parts = placed_shape (pair_shape (opened_shape (λ u. pt.sign signs.OpenBrace) (sign_first signs.OpenBrace) listed_shape) (sign_shape signs.CloseBrace))
+set_parts = placed_shape (pair_shape (opened_shape (λ u. mk.sign signs.OpenBrace) (sign_first signs.OpenBrace) listed_shape) (sign_shape signs.CloseBrace))
 
 set_parts_law : {n : ℕ} {r s : Rules} → RulesLaw n r s → Law n (set_read r) (set_read s) set_parts
 set_parts_law R = placed_law (pair_law (opened_law (sign_reads signs.OpenBrace) R.listed) (sign_law signs.CloseBrace) (λ x k h. ((tt, from_sign signs.CloseBrace (λ l. sees_sign signs.Comma l ≡ false) k h refl), from_sign signs.CloseBrace (λ l. value_begins l ≡ false) k h refl)))
@@ -91,7 +91,7 @@ abbrev array_read : Rules → Parser (ℕ × ((Unit {0} × List DataValue) × Un
 array_read r = placed (pair (opened (sign_table signs.OpenBracket) r.listed) (sign signs.CloseBracket))
 
 abbrev array_parts : Shape (ℕ × ((Unit {0} × List DataValue) × Unit {0}))
-array_parts = placed_shape (pair_shape (opened_shape (λ u. pt.sign signs.OpenBracket) (sign_first signs.OpenBracket) listed_shape) (sign_shape signs.CloseBracket))
+array_parts = placed_shape (pair_shape (opened_shape (λ u. mk.sign signs.OpenBracket) (sign_first signs.OpenBracket) listed_shape) (sign_shape signs.CloseBracket))
 
 array_parts_law : {n : ℕ} {r s : Rules} → RulesLaw n r s → Law n (array_read r) (array_read s) array_parts
 array_parts_law R = placed_law (pair_law (opened_law (sign_reads signs.OpenBracket) R.listed) (sign_law signs.CloseBracket) (λ x k h. ((tt, from_sign signs.CloseBracket (λ l. sees_sign signs.Comma l ≡ false) k h refl), from_sign signs.CloseBracket (λ l. value_begins l ≡ false) k h refl)))
@@ -100,7 +100,7 @@ abbrev keyed_read : Rules → Parser (ℕ × ((Unit {0} × List DataPair) × Uni
 keyed_read r = placed (pair (opened (sign_table signs.OpenAssociation) r.keyed) (sign signs.CloseAssociation))
 
 abbrev keyed_parts : Shape (ℕ × ((Unit {0} × List DataPair) × Unit {0}))
-keyed_parts = placed_shape (pair_shape (opened_shape (λ u. pt.sign signs.OpenAssociation) (sign_first signs.OpenAssociation) keyed_shape) (sign_shape signs.CloseAssociation))
+keyed_parts = placed_shape (pair_shape (opened_shape (λ u. mk.sign signs.OpenAssociation) (sign_first signs.OpenAssociation) keyed_shape) (sign_shape signs.CloseAssociation))
 
 keyed_parts_law : {n : ℕ} {r s : Rules} → RulesLaw n r s → Law n (keyed_read r) (keyed_read s) keyed_parts
 keyed_parts_law R = placed_law (pair_law (opened_law (sign_reads signs.OpenAssociation) R.keyed) (sign_law signs.CloseAssociation) (λ x k h. ((tt, from_sign signs.CloseAssociation (λ l. sees_sign signs.Comma l ≡ false) k h refl), from_sign signs.CloseAssociation (λ l. value_begins l ≡ false) k h refl)))

@@ -1,6 +1,6 @@
 -- How deep a data file's tree nests: the greatest level that its marks open.
 use Rattle.std.specs.Prelude.{ℕ}
-use Rattle.opl_reader_laws.specs.Marks.{depth_of}
+use Rattle.opl_tree.specs.Depth.{depth_of}
 use Rattle.opl_data.specs.Marks.{marks_value, marks_pair, marks_item, marks_file}
 use Rattle.opl_data.specs.declared.tree.DataFile.{DataFile}
 use Rattle.opl_data.specs.declared.tree.DataItem.{DataItem}

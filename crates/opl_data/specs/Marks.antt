@@ -2,9 +2,9 @@
 -- the node's first token. A level of nesting is opened by `-`, `<`, `{`, `[` and `#[`.
 use Rattle.std.specs.Prelude.{ℤ, Bool, true, false, List, [], ◌∷◌, ◌++◌, map}
 use Rattle.opl_token.specs.declared.sign.Sign.TheVariants as signs
-use Rattle.opl_tree.specs.Marks.{sign, number}
+use Rattle.opl_tree.specs.Marks.{sign, number, place, token, Marks, nested, joined, behind, several, marks_name}
 use Rattle.opl_token.specs.declared.token.Kind.{Kind}
-use Rattle.opl_reader_laws.specs.Marks.{place, token, Marks, nested, joined, behind, several, marks_name, kinds_of}
+use Rattle.opl_tree.specs.Spelling.{kinds_of}
 use Rattle.opl_data.specs.declared.tree.DataFile.{DataFile}
 use Rattle.opl_data.specs.declared.tree.DataItem.{DataItem}
 use Rattle.opl_data.specs.declared.tree.DataPair.{DataPair}

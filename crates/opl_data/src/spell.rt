@@ -1,8 +1,8 @@
 //! The plain program that spells a data file's tree, beside the definition.
 ghost use Rattle.std.specs.Prelude.{◌≡◌, ◌++◌, ◌∷◌, [], IfOk, OnOk, map, not};
 ghost use Rattle.opl_tree.specs.Marks.{sign};
-ghost use Rattle.opl_reader_laws.specs.Marks as marks;
-ghost use Rattle.opl_reader_laws.specs.Marks.{kinds_of};
+ghost use Rattle.opl_tree.specs.Marks as marks;
+ghost use Rattle.opl_tree.specs.Spelling.{kinds_of};
 ghost use Rattle.opl_data.specs.Marks.{number_marks, marks_value, marks_pair, marks_item, spelling};
 
 use crate::tree::{DataFile, DataItem, DataPair, DataValue};
@@ -39,7 +39,7 @@ fn spell_number(is_negative: bool, value: i128, out: &mut Seq<Kind>) -> Result<(
 }
 
 /// Adds the tokens of a name.
-#[tactic(auto, using(opl_reader_laws::proofs::Spelt::name_marks, opl_reader_laws::proofs::Spelt::spelt))]
+#[tactic(auto, using(opl_tree::proofs::Marks::name_marks, opl_tree::proofs::Spelt::spelt))]
 fn spell_name(alloc: Global, t: &NameTree, out: &mut Seq<Kind>) -> Result<(), AllocError>
     ensures { OnOk result (out.new ≡ out.old ++ kinds_of (marks.marks_name t.now)) }
 {
@@ -48,7 +48,7 @@ fn spell_name(alloc: Global, t: &NameTree, out: &mut Seq<Kind>) -> Result<(), Al
 
 /// Adds the tokens of a value.
 #[cycle(values)]
-#[tactic(auto, using(crate::proofs::Trees::value_marks, opl_reader_laws::proofs::Spelt::spelt))]
+#[tactic(auto, using(crate::proofs::Trees::value_marks, opl_tree::proofs::Spelt::spelt))]
 fn spell_value(alloc: Global, t: &DataValue, out: &mut Seq<Kind>) -> Result<(), AllocError>
     ensures { OnOk result (out.new ≡ out.old ++ kinds_of (marks_value t.now)) }
 {
@@ -69,7 +69,7 @@ fn spell_value(alloc: Global, t: &DataValue, out: &mut Seq<Kind>) -> Result<(), 
 
 /// Adds the tokens of a set.
 #[cycle(values)]
-#[tactic(auto, using(opl_reader_laws::proofs::Spelt::spelt))]
+#[tactic(auto, using(opl_tree::proofs::Spelt::spelt))]
 fn spell_set(alloc: Global, elements: &[DataValue], out: &mut Seq<Kind>) -> Result<(), AllocError>
     ensures { OnOk result (out.new ≡ out.old ++ kinds_of (marks.token (sign Sign.OpenBrace) ∷ (marks.several Sign.Comma (map marks_value elements.now) ++ marks.token (sign Sign.CloseBrace) ∷ []))) }
 {
@@ -80,7 +80,7 @@ fn spell_set(alloc: Global, elements: &[DataValue], out: &mut Seq<Kind>) -> Resu
 
 /// Adds the tokens of an array.
 #[cycle(values)]
-#[tactic(auto, using(opl_reader_laws::proofs::Spelt::spelt))]
+#[tactic(auto, using(opl_tree::proofs::Spelt::spelt))]
 fn spell_array(alloc: Global, elements: &[DataValue], out: &mut Seq<Kind>) -> Result<(), AllocError>
     ensures { OnOk result (out.new ≡ out.old ++ kinds_of (marks.token (sign Sign.OpenBracket) ∷ (marks.several Sign.Comma (map marks_value elements.now) ++ marks.token (sign Sign.CloseBracket) ∷ []))) }
 {
@@ -91,7 +91,7 @@ fn spell_array(alloc: Global, elements: &[DataValue], out: &mut Seq<Kind>) -> Re
 
 /// Adds the tokens of an array with keys.
 #[cycle(values)]
-#[tactic(auto, using(opl_reader_laws::proofs::Spelt::spelt))]
+#[tactic(auto, using(opl_tree::proofs::Spelt::spelt))]
 fn spell_keyed_array(
     alloc: Global,
     elements: &[DataPair],
@@ -106,7 +106,7 @@ fn spell_keyed_array(
 
 /// Adds the tokens of a pair.
 #[cycle(values)]
-#[tactic(auto, using(crate::proofs::Trees::pair_marks, opl_reader_laws::proofs::Spelt::spelt))]
+#[tactic(auto, using(crate::proofs::Trees::pair_marks, opl_tree::proofs::Spelt::spelt))]
 fn spell_pair(alloc: Global, t: &DataPair, out: &mut Seq<Kind>) -> Result<(), AllocError>
     ensures { OnOk result (out.new ≡ out.old ++ kinds_of (marks_pair t.now)) }
 {
@@ -163,7 +163,7 @@ fn spell_pairs(alloc: Global, pairs: &[DataPair], out: &mut Seq<Kind>) -> Result
 }
 
 /// Adds the tokens of an item.
-#[tactic(auto, using(crate::proofs::Trees::item_marks, opl_reader_laws::proofs::Spelt::spelt))]
+#[tactic(auto, using(crate::proofs::Trees::item_marks, opl_tree::proofs::Spelt::spelt))]
 fn spell_item(alloc: Global, t: &DataItem, out: &mut Seq<Kind>) -> Result<(), AllocError>
     ensures { OnOk result (out.new ≡ out.old ++ kinds_of (marks_item t.now)) }
 {
@@ -185,7 +185,7 @@ fn spell_items(alloc: Global, items: &[DataItem], out: &mut Seq<Kind>) -> Result
 }
 
 /// The tokens of a data file's tree.
-#[tactic(auto, using(crate::proofs::Trees::file_marks, opl_reader_laws::proofs::Spelt::spelt))]
+#[tactic(auto, using(crate::proofs::Trees::file_marks, opl_tree::proofs::Spelt::spelt))]
 pub fn spell_data(alloc: Global, t: &DataFile) -> Result<Seq<Kind>, AllocError>
     ensures { IfOk result (λ kinds. kinds ≡ spelling t.now) }
 {

@@ -3,9 +3,8 @@ use Rattle.std.proofs.Common.{◌≡◌, ℕ, zero, suc, max, ◌<◌, ◌≤◌
 use Rattle.opl_token.specs.declared.sign.Sign.{Sign}
 use Rattle.opl_token.specs.declared.token.Kind.{Kind}
 use Rattle.opl_token.specs.declared.token.Kind.TheVariants as kinds
-use Rattle.opl_reader_laws.specs.Marks.{Mark}
-use Rattle.opl_tree.specs.Marks as pt
-use Rattle.opl_reader_laws.specs.Marks as mk
+use Rattle.opl_tree.specs.Marks.{Mark}
+use Rattle.opl_tree.specs.Marks as mk
 use Rattle.opl_grammar.specs.Input.{Input, Stop, Outcome, Parser, kind, next, left, and_then, ◌>>=◌, pure, refuse, take_found, sign, is_sign, behind, behind_from, seen}
 use Rattle.opl_reader_laws.proofs.Forms.{maybe, maybe_shape, Passes, maybe_good, maybe_fails_at, mapped, Made, Rule, rule_good, rule_fails_at, plain}
 use Rattle.opl_reader_laws.proofs.Many.{pair_same, maybe_same}
@@ -36,7 +35,7 @@ tail_made {A} c = by_parts c.0 c.1 where
   by_parts (x ∷ xs) b = record { of = Some (tt, Some (x, (xs, b))); is = refl }
 
 abbrev pub tail_marks : {A : Type 0} → Sign → Shape A → Tail A → List Mark
-tail_marks s t c = mk.behind s (map t.marks c.0) ++ mk.optional (pt.sign s) c.1
+tail_marks s t c = mk.behind s (map t.marks c.0) ++ mk.optional (mk.sign s) c.1
 
 abbrev tail_read : {A : Type 0} → Sign → (Option Kind → Bool) → Parser A → Parser (Tail A) → Parser (TailParts A)
 tail_read s starts p rest = maybe (is_sign s) (pair (sign s) (maybe starts (pair p rest)))
@@ -84,7 +83,7 @@ module _ {A : Type 0} (s : Sign) (starts : Option Kind → Bool) (t : Shape A) (
   tail_spelt (Some c) = by_inner c.1 where
     by_inner : (o : Option (A × Tail A)) → tail_marks s t (closed_or o) ≡ (tail_parts s starts t rest).marks (Some (tt, o))
     by_inner None = refl
-    by_inner (Some d) = ap (λ ms. mk.token (pt.sign s) ∷ ms) (append_assoc (t.marks d.0) (mk.behind s (map t.marks d.1.0)) (mk.optional (pt.sign s) d.1.1) ∙ ap (λ ms. t.marks d.0 ++ ms) (sym (same d.1)))
+    by_inner (Some d) = ap (λ ms. mk.token (mk.sign s) ∷ ms) (append_assoc (t.marks d.0) (mk.behind s (map t.marks d.1.0)) (mk.optional (mk.sign s) d.1.1) ∙ ap (λ ms. t.marks d.0 ++ ms) (sym (same d.1)))
 
   tail_ends : ((y : rest.Tag) (k : Option Kind) → EndsTail s starts t k → rest.ends y k) → (o : TailParts A) (k : Option Kind) → EndsTail s starts t k → (tail_parts s starts t rest).ends ((tail_parts s starts t rest).tag o) k
   tail_ends ends None k h = h.1.1
@@ -142,13 +141,13 @@ module _ {A : Type 0} (s : Sign) (starts : Option Kind → Bool) (t : Shape A) w
 
   tail_front : (i : Input) (c : Tail A) (j : Input) (F : Option Kind → Type 0) → Begins (tail_marks s t c) i j → F (kind j) → (is_sign s (kind i) ≡ true) ⊎ F (kind i)
   tail_front i c j F h e = by_parts c.0 c.1 h where
-    first_sign : (ms : List Mark) → Begins (mk.token (pt.sign s) ∷ ms) i j → is_sign s (kind i) ≡ true
+    first_sign : (ms : List Mark) → Begins (mk.token (mk.sign s) ∷ ms) i j → is_sign s (kind i) ≡ true
     first_sign ms h = ap (is_sign s) h.0.0 ∙ is_sign_same s
 
     by_parts : (xs : List A) (b : Bool) → Begins (tail_marks s t (xs, b)) i j → (is_sign s (kind i) ≡ true) ⊎ F (kind i)
     by_parts [] false h = inr (subst (λ x. F (kind x)) (sym h) e)
     by_parts [] true h = inl (first_sign [] h)
-    by_parts (x ∷ xs) b h = inl (first_sign ((t.marks x ++ mk.behind s (map t.marks xs)) ++ mk.optional (pt.sign s) b) h)
+    by_parts (x ∷ xs) b h = inl (first_sign ((t.marks x ++ mk.behind s (map t.marks xs)) ++ mk.optional (mk.sign s) b) h)
 
 module _ {A : Type 0} (n : ℕ) (s : Sign) (starts : Option Kind → Bool) (p : Parser A) (t : Shape A) (P : Good n p t) (part : TailPart s starts t) where
   both_of : (rest : Parser (Tail A)) (r : Shape (Tail A)) → Good n rest r → ((x : r.Tag) (k : Option Kind) → r.begins (r.ends x) k → t.closes k) → Good n (pair p rest) (pair_shape t r)
@@ -183,7 +182,7 @@ module _ {A : Type 0} (n : ℕ) (s : Sign) (starts : Option Kind → Bool) (p : 
   -- ---- enough turns are as good as more
 
   sign_less : (i : Input) (u : Unit {0}) (m : Input) → sign s i ≡ Ok (u, m) → left m < left i
-  sign_less i u m h = begins_less (mk.token (pt.sign s) ∷ []) i m (record { first = pt.sign s; is = refl }) (takes_begins (mk.token (pt.sign s) ∷ []) i m ((sign_law {n = n} s).good.sound i u m h).takes)
+  sign_less i u m h = begins_less (mk.token (mk.sign s) ∷ []) i m (record { first = mk.sign s; is = refl }) (takes_begins (mk.token (mk.sign s) ∷ []) i m ((sign_law {n = n} s).good.sound i u m h).takes)
 
   part_left : (i : Input) (a : A) (j : Input) → p i ≡ Ok (a, j) → left j ≤ left i
   part_left i a j h = begins_left (t.marks a) i j (takes_begins (t.marks a) i j (P.sound i a j h).takes)
@@ -258,7 +257,7 @@ module _ {A : Type 0} (n : ℕ) (s : Sign) (starts : Option Kind → Bool) (p : 
   turns_enough [] b i j (suc m) h less = tt
   turns_enough (x ∷ xs) b i j zero h less = absurd (omega arith)
   turns_enough (x ∷ xs) b i j (suc m) h less =
-      let w = begins_split (t.marks x) (tail_marks s t (xs, b)) (next i) j (subst (λ ms. Begins ms (next i) j) (append_assoc (t.marks x) (mk.behind s (map t.marks xs)) (mk.optional (pt.sign s) b)) h.1) in
+      let w = begins_split (t.marks x) (tail_marks s t (xs, b)) (next i) j (subst (λ ms. Begins ms (next i) j) (append_assoc (t.marks x) (mk.behind s (map t.marks xs)) (mk.optional (mk.sign s) b)) h.1) in
       let l = begins_left (t.marks x) (next i) w.mid w.front in
       let k = next_left i (kinds.Sign s) h.0.0 in
       (fit x, turns_enough xs b w.mid j m w.back (omega arith))

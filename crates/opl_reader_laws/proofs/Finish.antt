@@ -3,7 +3,7 @@ use Rattle.std.proofs.Common.{◌≡◌, ℕ, ◌≤◌, [], Option, Some, None,
 use Rattle.opl_token.specs.declared.token.Kind.{Kind}
 use Rattle.opl_grammar.specs.Input.{Input, Stop, syntax, Parser, kind, place as place_at, ◌>>=◌, pure}
 use Rattle.opl_grammar.specs.Model as gm
-use Rattle.opl_reader_laws.specs.Marks.{Marks}
+use Rattle.opl_tree.specs.Marks.{Marks}
 use Rattle.opl_reader_laws.proofs.Forms.{mapped, plain, plain_law}
 use Rattle.opl_reader_laws.proofs.Outcomes.{ok_one, err_one, ok_not_err, bind_ok, and_then_assoc}
 use Rattle.opl_reader_laws.proofs.Phrases.{Shape, Fails, Law, pair, pair_law}

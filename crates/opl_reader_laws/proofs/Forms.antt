@@ -1,6 +1,6 @@
 -- Phrases with their place, phrases by the next token, and phrases made into another value.
 use Rattle.std.proofs.Common.{◌≡◌, ℕ, Bool, true, false, cond, ◌⊎◌, inl, inr, List, [], ◌∷◌, Option, Some, None, Ok, Err, refl, sym, ap, ◌∙◌, subst}
-use Rattle.opl_reader_laws.specs.Marks.{Mark, place}
+use Rattle.opl_tree.specs.Marks.{Mark, place}
 use Rattle.opl_token.specs.declared.token.Kind.{Kind}
 use Rattle.opl_grammar.specs.Input.{Input, Stop, Outcome, Parser, kind, place as place_at, ◌>>=◌, pure, here}
 use Rattle.opl_reader_laws.proofs.Outcomes.{ok_one, ok_not_err, bind_ok, Broke, bind_err, and_then_pure}

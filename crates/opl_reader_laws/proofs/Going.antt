@@ -1,7 +1,7 @@
 -- A phrase of one of two kinds: the one is all, behind the other more may stand.
 use Rattle.std.proofs.Common.{◌≡◌, ℕ, Bool, true, false, ◌⊎◌, inl, inr, List, [], ◌++◌, Option, Some, None, Ok, Err, refl, sym, ap, ◌∙◌, subst, append-nil}
 use Rattle.opl_token.specs.declared.token.Kind.{Kind}
-use Rattle.opl_reader_laws.specs.Marks.{Mark}
+use Rattle.opl_tree.specs.Marks.{Mark}
 use Rattle.opl_grammar.specs.Input.{Input, Stop, Parser, kind, ◌>>=◌, pure}
 use Rattle.opl_reader_laws.proofs.Outcomes.{ok_one, ok_not_err, bind_ok, Broke, bind_err}
 use Rattle.opl_grammar.specs.Input.{too_deep}

@@ -1,8 +1,8 @@
 -- A phrase that does not begin with a brace.
 use Rattle.std.proofs.Common.{◌≡◌, ℕ, Bool, true, false, cond, ◌⊎◌, inl, inr, List, [], ◌∷◌, None, Ok, Err, refl, sym, ap, ◌∙◌, subst}
 use Rattle.opl_token.specs.declared.sign.Sign.TheVariants as signs
-use Rattle.opl_reader_laws.specs.Marks.{Mark}
-use Rattle.opl_reader_laws.specs.Marks as mk
+use Rattle.opl_tree.specs.Marks.{Mark}
+use Rattle.opl_tree.specs.Marks as mk
 use Rattle.opl_grammar.specs.Input.{Input, Stop, syntax, Outcome, Parser, kind, refuse, is_sign}
 use Rattle.opl_grammar.specs.Input.{place as place_at}
 use Rattle.opl_reader_laws.proofs.Outcomes.{err_one, ok_not_err}

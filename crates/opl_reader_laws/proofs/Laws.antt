@@ -9,12 +9,13 @@ use Rattle.opl_tree.specs.declared.fault.SyntaxFault.TheVariants.{Syntax, TooDee
 use Rattle.opl_grammar.specs.Input.{Input, syntax, too_deep, Outcome, Parser}
 use Rattle.opl_grammar.specs.Input.{Reads as GivenBy}
 use Rattle.opl_grammar.specs.Model as gm
-use Rattle.opl_reader_laws.specs.Marks.{Marks, kinds_of, depth_of}
-use Rattle.opl_reader_laws.specs.Marks as mk
+use Rattle.opl_tree.specs.Marks.{Marks}
+use Rattle.opl_tree.specs.Depth.{depth_of}
+use Rattle.opl_tree.specs.Marks as mk
 use Rattle.opl_reader_laws.specs.Reading as rd
 use Rattle.opl_reader_laws.proofs.Levels.{fits_of, depth_fits}
 use Rattle.opl_reader_laws.proofs.Outcomes.{ok_one, ok_not_err}
-use Rattle.opl_reader_laws.proofs.Depths.{depth_of-append}
+use Rattle.opl_tree.proofs.Depth.{depth_of-append}
 use Rattle.opl_reader_laws.proofs.Whole.{start, first_same, rest_same, kinds-append, deep_one, Grammar, whole_reads, whole_ok, opens_reads, opened_spelt, every_opens, whole_opens, whole_stops}
 
 -- one beginning goes on with what stands behind another

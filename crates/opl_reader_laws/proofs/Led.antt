@@ -2,8 +2,7 @@
 use Rattle.std.proofs.Common.{◌≡◌, ℕ, true, false, ◌⊎◌, List, [], ◌∷◌, ◌++◌, map, Option, Some, None, Ok, Err, refl, ap}
 use Rattle.opl_token.specs.declared.sign.Sign.{Sign}
 use Rattle.opl_token.specs.declared.token.Kind.{Kind}
-use Rattle.opl_tree.specs.Marks.{Part, sign as sign_part}
-use Rattle.opl_reader_laws.specs.Marks.{Mark, token, joined, behind as behind_marks}
+use Rattle.opl_tree.specs.Marks.{Part, sign as sign_part, Mark, token, joined, behind as behind_marks}
 use Rattle.opl_grammar.specs.Input.{Input, Outcome, Parser, kind, next, and_then, ◌>>=◌, ◌>>◌, pure, one, take_found, is_sign, after_each}
 use Rattle.opl_reader_laws.proofs.Phrases.{Shape, Law, Reads, one_law, pair, pair_law}
 use Rattle.opl_reader_laws.proofs.Forms.{mapped, rule_law, law_as}

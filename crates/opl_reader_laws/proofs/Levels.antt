@@ -1,7 +1,8 @@
 -- Levels of nesting: what opens no level too many, and the first token that does.
 use Rattle.std.proofs.Common.{◌≡◌, ℕ, zero, suc, ◌<◌, ◌≤◌, ◌⊎◌, inl, inr, [], ◌∷◌, ◌++◌, refl, sym, ap, subst, arith}
 use Rattle.opl_grammar.specs.Input.{Input, next, place as place_at}
-use Rattle.opl_reader_laws.specs.Marks.{place, token, unbraced, opens, Marks, raised, depth_of}
+use Rattle.opl_tree.specs.Marks.{place, token, unbraced, opens, Marks, raised}
+use Rattle.opl_tree.specs.Depth.{depth_of}
 use Rattle.opl_reader_laws.proofs.Takes.{Takes, Begins}
 
 -- they open no level beyond the n-th

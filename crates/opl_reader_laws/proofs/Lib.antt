@@ -1,8 +1,6 @@
 pub mod Outcomes
 pub mod Takes
 pub mod Levels
-pub mod Spelt
-pub mod Depths
 pub mod Phrases
 pub mod Forms
 pub mod Tokens

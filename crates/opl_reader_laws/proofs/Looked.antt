@@ -2,7 +2,7 @@
 use Rattle.std.proofs.Common.{◌≡◌, ℕ, Bool, true, false, cond, ◌⊎◌, inl, inr, List, ◌++◌, Option, Some, None, Ok, Err, refl, sym, ap, ◌∙◌, subst}
 use Rattle.std.specs.Prelude.{is_some}
 use Rattle.opl_token.specs.declared.token.Kind.{Kind}
-use Rattle.opl_reader_laws.specs.Marks.{Mark}
+use Rattle.opl_tree.specs.Marks.{Mark}
 use Rattle.opl_grammar.specs.Input.{Input, Stop, syntax, Outcome, Parser, kind, ◌>>=◌, pure, refuse}
 use Rattle.opl_grammar.specs.Input.{place as place_at}
 use Rattle.opl_reader_laws.proofs.Forms.{Passes, by_side}

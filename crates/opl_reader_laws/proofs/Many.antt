@@ -1,7 +1,7 @@
 -- Parts one after another, as long as one begins.
 use Rattle.std.proofs.Common.{◌≡◌, ℕ, zero, suc, max, ◌<◌, ◌≤◌, Bool, true, false, cond, ◌⊎◌, inl, inr, List, [], ◌∷◌, ◌++◌, map, Option, Some, None, Ok, Err, refl, sym, ap, ◌∙◌, subst, arith, append_assoc, append-nil}
 use Rattle.opl_token.specs.declared.token.Kind.{Kind}
-use Rattle.opl_reader_laws.specs.Marks.{joined}
+use Rattle.opl_tree.specs.Marks.{joined}
 use Rattle.opl_grammar.specs.Input.{Input, Stop, Outcome, Parser, kind, left, and_then, ◌>>=◌, pure, refuse, many, many_from}
 use Rattle.opl_reader_laws.proofs.Outcomes.{and_then_pure}
 use Rattle.opl_reader_laws.proofs.Takes.{Begins, takes_begins, begins_split, begins_less, Written}

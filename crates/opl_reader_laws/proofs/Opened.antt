@@ -1,10 +1,9 @@
 -- What stands behind an opening token is one level deeper.
 use Rattle.std.proofs.Common.{◌≡◌, ℕ, zero, suc, ◌<◌, ◌≤◌, true, false, ◌⊎◌, inl, inr, [], ◌∷◌, Option, Some, None, Ok, Err, refl, sym, ap, ◌∙◌, subst, arith}
-use Rattle.opl_tree.specs.Marks.{Part}
+use Rattle.opl_tree.specs.Marks.{Part, token, opens, raised, nested}
 use Rattle.opl_tree.specs.Spelling.{IsProper}
 use Rattle.opl_token.specs.declared.token.Kind.{Kind}
 use Rattle.opl_grammar.specs.Input.{Input, Stop, syntax, too_deep, Parser, kind, next, place as place_at, and_then, ◌>>=◌, pure, here, one, take_found}
-use Rattle.opl_reader_laws.specs.Marks.{token, opens, raised, nested}
 use Rattle.opl_reader_laws.proofs.Outcomes.{err_one, ok_not_err, and_then_pure}
 use Rattle.opl_reader_laws.proofs.Levels.{fits_raised, fits_lowered, Beyond, beyond_lowered, takes_raised, takes_lowered, begins_raised, begins_lowered}
 use Rattle.opl_reader_laws.proofs.Takes.{Begins, before}

@@ -4,7 +4,7 @@ use Rattle.std.specs.Prelude.{◌||◌}
 use Rattle.std.specs.Option.{option_map}
 use Rattle.opl_token.specs.declared.token.Kind.{Kind}
 use Rattle.opl_tree.specs.Marks.{Part}
-use Rattle.opl_reader_laws.specs.Marks as mk
+use Rattle.opl_tree.specs.Marks as mk
 use Rattle.opl_grammar.specs.Input.{Input, Outcome, Parser, kind, and_then, ◌>>=◌, pure}
 use Rattle.opl_reader_laws.proofs.Forms.{maybe, maybe_marks, maybe_shape, Passes, maybe_law, either, either_shape, Misses, either_law, renamed_law}
 use Rattle.opl_reader_laws.proofs.Led.{led_shape}

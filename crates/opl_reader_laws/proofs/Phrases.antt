@@ -1,11 +1,10 @@
 -- Readers with what they read: the shape of a phrase, the laws of a reader over so many levels of nesting, and how the
 -- laws carry over from parts to the whole. Each rule of the grammar is put together from these.
 use Rattle.std.proofs.Common.{◌≡◌, ℕ, Bool, true, false, cond, ◌⊎◌, inl, inr, List, [], ◌∷◌, ◌++◌, Option, Some, None, Ok, Err, refl, ap, ◌∙◌, subst}
-use Rattle.opl_tree.specs.Marks.{Part}
+use Rattle.opl_tree.specs.Marks.{Part, Mark, token}
 use Rattle.opl_tree.specs.Spelling.{kind_of, IsProper}
 use Rattle.opl_token.specs.declared.token.Kind.{Kind}
 use Rattle.opl_grammar.specs.Input.{Input, Stop, syntax, too_deep, Outcome, Parser, kind, next, place as place_at, and_then, ◌>>=◌, pure, one, take_found}
-use Rattle.opl_reader_laws.specs.Marks.{Mark, token}
 use Rattle.opl_reader_laws.proofs.Outcomes.{ok_one, err_one, ok_not_err, bind_ok, Broke, bind_err}
 use Rattle.opl_reader_laws.proofs.Levels.{Fits, fits_split, fits_join, Beyond, beyond_split}
 use Rattle.opl_reader_laws.proofs.Takes.{Takes, takes_split, takes_join, Begins, takes_begins, begins_split, begins_join, same_front, is_deep, Position, Next, position_join, stop_front, before}

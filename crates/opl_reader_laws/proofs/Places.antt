@@ -1,8 +1,8 @@
 -- Marks behind some places: they take the same tokens and open the same levels.
 use Rattle.std.proofs.Common.{◌≡◌, ℕ, List, [], ◌∷◌, sym, ap, subst}
 use Rattle.opl_grammar.specs.Input.{Input}
-use Rattle.opl_reader_laws.specs.Marks.{Marks}
-use Rattle.opl_reader_laws.specs.Marks as mk
+use Rattle.opl_tree.specs.Marks.{Marks}
+use Rattle.opl_tree.specs.Marks as mk
 use Rattle.opl_reader_laws.proofs.Levels.{Fits, Beyond}
 use Rattle.opl_reader_laws.proofs.Takes.{Takes, Begins}
 

@@ -1,7 +1,7 @@
 -- A phrase of one of two kinds, of which the second keeps its place.
 use Rattle.std.proofs.Common.{◌≡◌, ℕ, ◌⊎◌, inl, inr, List, ◌∷◌, Ok, Err, refl, sym, ap, ◌∙◌, subst}
-use Rattle.opl_reader_laws.specs.Marks.{Mark}
-use Rattle.opl_reader_laws.specs.Marks as mk
+use Rattle.opl_tree.specs.Marks.{Mark}
+use Rattle.opl_tree.specs.Marks as mk
 use Rattle.opl_grammar.specs.Input.{Input, Stop, Parser, ◌>>=◌, pure, here}
 use Rattle.opl_grammar.specs.Input.{place as place_at}
 use Rattle.opl_reader_laws.proofs.Outcomes.{ok_one, ok_not_err, bind_ok, Broke, bind_err}

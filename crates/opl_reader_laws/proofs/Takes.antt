@@ -3,8 +3,7 @@ use Rattle.std.proofs.Common.{◌≡◌, ℕ, ◌<◌, ◌≤◌, Bool, true, fa
 use Rattle.opl_token.specs.declared.sign.Sign.TheVariants.{OpenBrace}
 use Rattle.opl_token.specs.declared.token.Kind.{Kind}
 use Rattle.opl_token.specs.declared.token.Token.{Token}
-use Rattle.opl_tree.specs.Marks.{Part}
-use Rattle.opl_reader_laws.specs.Marks.{Mark, place, token, unbraced, opens}
+use Rattle.opl_tree.specs.Marks.{Part, Mark, place, token, unbraced, opens}
 use Rattle.opl_tree.specs.Spelling.{kind_of, IsProper}
 use Rattle.opl_grammar.specs.Input.{Input, Stop, syntax, too_deep, first_kind, kind, next, left, is_sign, place as place_at}
 

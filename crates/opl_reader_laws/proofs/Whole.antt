@@ -7,21 +7,20 @@ use Rattle.opl_token.specs.declared.token.Kind.{Kind}
 use Rattle.opl_token.specs.declared.token.Kind.TheVariants as kinds_are
 use Rattle.opl_token.specs.declared.token.Token.{Token}
 use Rattle.opl_tree.specs.Keywords.{keyword_text}
-use Rattle.opl_tree.specs.Marks.{Part}
-use Rattle.opl_tree.specs.Marks as pt
+use Rattle.opl_tree.specs.Marks.{Part, Mark, Marks}
 use Rattle.opl_tree.specs.Reading.{kinds, place_of}
-use Rattle.opl_tree.specs.Spelling.{kind_of}
+use Rattle.opl_tree.specs.Spelling.{kind_of, kinds_of, first_part, AllProper}
 use Rattle.opl_grammar.specs.Input.{Input, Stop, syntax, too_deep, Outcome, Parser, kind, next, look, is_sign, first_kind}
 use Rattle.opl_grammar.specs.Input.{place as place_at}
-use Rattle.opl_reader_laws.specs.Marks.{Mark, Marks, kinds_of, first_part, AllProper, depth_of}
-use Rattle.opl_reader_laws.specs.Marks as mk
+use Rattle.opl_tree.specs.Depth.{depth_of}
+use Rattle.opl_tree.specs.Marks as mk
 use Rattle.opl_reader_laws.specs.Reading as rd
 use Rattle.opl_reader_laws.specs.Reading.{AtPlaces}
 use Rattle.opl_reader_laws.proofs.Forms.{plain}
 use Rattle.opl_reader_laws.proofs.Levels.{Fits, fits_of, depth_fits, fits_or_beyond, Beyond, beyond_at, beyond_found}
 use Rattle.opl_reader_laws.proofs.Outcomes.{ok_not_err}
 use Rattle.opl_reader_laws.proofs.Phrases.{Shape, Accepts, Faults, Fails, nests_too_deep, Law}
-use Rattle.opl_reader_laws.proofs.Spelt.{kinds_of-append}
+use Rattle.opl_tree.proofs.Spelt.{kinds_of-append}
 use Rattle.opl_reader_laws.proofs.Takes.{IsUnbraced, Takes, Begins, begins_split, begins_join, is_deep, Last, Position}
 use Rattle.opl_reader_laws.proofs.Tokens.{look_sign, sees_sign_true}
 
@@ -55,33 +54,33 @@ first_of (mk.token p ∷ ms) (t ∷ ts) o h k = ap Some (sym (first_same k)) ∙
 first_of (mk.unbraced ∷ ms) ts o h k = first_of ms ts o h k
 first_of (mk.opens n ∷ ms) ts o h k = first_of ms ts o h k
 
-brace_only : (p : Part) → is_sign OpenBrace (Some (kind_of p)) ≡ true → p ≡ pt.sign OpenBrace
-brace_only (pt.sign s) h = ap pt.sign (kind_sign (look_sign (Some (kinds_are.Sign s)) OpenBrace (sees_sign_true OpenBrace (look (Some (kinds_are.Sign s))) h))) where
+brace_only : (p : Part) → is_sign OpenBrace (Some (kind_of p)) ≡ true → p ≡ mk.sign OpenBrace
+brace_only (mk.sign s) h = ap mk.sign (kind_sign (look_sign (Some (kinds_are.Sign s)) OpenBrace (sees_sign_true OpenBrace (look (Some (kinds_are.Sign s))) h))) where
   kind_sign : Some (kinds_are.Sign s) ≡ Some (kinds_are.Sign OpenBrace) → s ≡ OpenBrace
   kind_sign h = cc
-brace_only (pt.word w) h = absurd (no_brace (keyword_text w) h) where
+brace_only (mk.word w) h = absurd (no_brace (keyword_text w) h) where
   no_brace : (v : List ℕ) → is_sign OpenBrace (Some (kinds_are.Word v)) ≡ true → ⊥
   no_brace v h = word_kind (look_sign (Some (kinds_are.Word v)) OpenBrace (sees_sign_true OpenBrace (look (Some (kinds_are.Word v))) h)) where
     word_kind : Some (kinds_are.Word v) ≡ Some (kinds_are.Sign OpenBrace) → ⊥
     word_kind h = cc
-brace_only (pt.name v) h = absurd (word_kind (look_sign (Some (kinds_are.Word v)) OpenBrace (sees_sign_true OpenBrace (look (Some (kinds_are.Word v))) h))) where
+brace_only (mk.name v) h = absurd (word_kind (look_sign (Some (kinds_are.Word v)) OpenBrace (sees_sign_true OpenBrace (look (Some (kinds_are.Word v))) h))) where
   word_kind : Some (kinds_are.Word v) ≡ Some (kinds_are.Sign OpenBrace) → ⊥
   word_kind h = cc
-brace_only (pt.any v) h = absurd (word_kind (look_sign (Some (kinds_are.Word v)) OpenBrace (sees_sign_true OpenBrace (look (Some (kinds_are.Word v))) h))) where
+brace_only (mk.any v) h = absurd (word_kind (look_sign (Some (kinds_are.Word v)) OpenBrace (sees_sign_true OpenBrace (look (Some (kinds_are.Word v))) h))) where
   word_kind : Some (kinds_are.Word v) ≡ Some (kinds_are.Sign OpenBrace) → ⊥
   word_kind h = cc
-brace_only (pt.number n) h = absurd (number_kind (look_sign (Some (kinds_are.Number n)) OpenBrace (sees_sign_true OpenBrace (look (Some (kinds_are.Number n))) h))) where
+brace_only (mk.number n) h = absurd (number_kind (look_sign (Some (kinds_are.Number n)) OpenBrace (sees_sign_true OpenBrace (look (Some (kinds_are.Number n))) h))) where
   number_kind : Some (kinds_are.Number n) ≡ Some (kinds_are.Sign OpenBrace) → ⊥
   number_kind h = cc
 
-no_brace_first : (o : Option Part) → (o ≡ Some (pt.sign OpenBrace) → ⊥) → is_sign OpenBrace (option_map kind_of o) ≡ false
+no_brace_first : (o : Option Part) → (o ≡ Some (mk.sign OpenBrace) → ⊥) → is_sign OpenBrace (option_map kind_of o) ≡ false
 no_brace_first None h = refl
 no_brace_first (Some p) h = by_test (is_sign OpenBrace (Some (kind_of p))) refl where
   by_test : (b : Bool) → is_sign OpenBrace (Some (kind_of p)) ≡ b → b ≡ false
   by_test true e = absurd (h (ap Some (brace_only p e)))
   by_test false e = refl
 
-bare_first : (ms : List Mark) (ts : List Token) → (first_part ms ≡ Some (pt.sign OpenBrace) → ⊥) → kinds_of ms ≡ kinds ts → IsUnbraced (first_kind ts)
+bare_first : (ms : List Mark) (ts : List Token) → (first_part ms ≡ Some (mk.sign OpenBrace) → ⊥) → kinds_of ms ≡ kinds ts → IsUnbraced (first_kind ts)
 bare_first ms ts h k = ap (is_sign OpenBrace) (first_of ms ts (first_part ms) refl k) ∙ no_brace_first (first_part ms) h
 
 pub takes_all : (ms : List Mark) (ts : List Token) (end : ℕ) → AllProper ms → kinds_of ms ≡ kinds ts → AtPlaces ms ts end → Takes ms (start ts end) (start [] end)
@@ -112,7 +111,7 @@ nothing_left : (ts : List Token) (end : ℕ) (j : Input) → start ts end ≡ j 
 nothing_left [] end j e h = refl
 nothing_left (t ∷ ts) end j e h = let some : Some t.kind ≡ kind j = ap kind e in absurd (some_none (some ∙ h))
 
-not_brace : (ms : List Mark) (i j : Input) → Takes ms i j → IsUnbraced (kind i) → first_part ms ≡ Some (pt.sign OpenBrace) → ⊥
+not_brace : (ms : List Mark) (i j : Input) → Takes ms i j → IsUnbraced (kind i) → first_part ms ≡ Some (mk.sign OpenBrace) → ⊥
 not_brace [] i j t u h = cc
 not_brace (mk.place at ∷ ms) i j t u h = not_brace ms i j t.1 u h
 not_brace (mk.token q ∷ ms) i j t u h = true_false (sym (ap (is_sign OpenBrace) (t.0.0 ∙ ap (option_map kind_of) h)) ∙ u) where
@@ -421,7 +420,7 @@ module _ {T : Type 0} (marks : T → Marks) (begins : (Option Kind → Type 0) �
       let s = same_cut c.front mid.tokens a.before (a.opener ∷ a.back) (sym c.is ∙ a.is) (sym first ∙ (a.placed ∙ second)) in
       let fronts : kinds a.before ≡ kinds o.front = ap kinds (sym s.fronts) ∙ (c.same ∙ o.same) in
       let spelling : (kinds a.before ++ a.opener.kind ∷ kinds a.back) ≡ kinds o.front ++ (o.opener.kind ∷ o.rest) =
-      sym (kinds-append a.before (a.opener ∷ a.back)) ∙ (ap kinds (sym a.is) ∙ (numbered_kinds 0 ks ∙ opened_spelt n tokens at o)) in
+          sym (kinds-append a.before (a.opener ∷ a.back)) ∙ (ap kinds (sym a.is) ∙ (numbered_kinds 0 ks ∙ opened_spelt n tokens at o)) in
       let openers : a.opener.kind ≡ o.opener.kind = same_head (kinds o.front) a.opener.kind o.opener.kind (kinds a.back) o.rest (ap (λ xs. xs ++ a.opener.kind ∷ kinds a.back) (sym fronts) ∙ spelling) in
       let whole : kinds_of f.front ≡ kinds o.front ++ o.opener.kind ∷ [] = a.same ∙ (ap (λ xs. xs ++ a.opener.kind ∷ []) fronts ∙ ap (λ x. kinds o.front ++ x ∷ []) openers) in
       let all : kinds tokens ≡ kinds_of f.front ++ kinds o.back = ap kinds o.parts ∙ (kinds-append o.front (o.opener ∷ o.back) ∙ (sym (append_assoc (kinds o.front) (o.opener.kind ∷ []) (kinds o.back)) ∙ ap (λ xs. xs ++ kinds o.back) (sym whole))) in

@@ -6,7 +6,9 @@ use Rattle.opl_token.specs.declared.token.Token.{Token}
 use Rattle.opl_tree.specs.declared.fault.SyntaxFault.{SyntaxFault}
 use Rattle.opl_tree.specs.declared.fault.SyntaxFault.TheVariants.{Syntax, TooDeep, OutOfMemory}
 use Rattle.opl_tree.specs.Reading.{kinds, place_of}
-use Rattle.opl_reader_laws.specs.Marks.{place, token, unbraced, opens, Marks, kinds_of, AllProper, depth_of}
+use Rattle.opl_tree.specs.Marks.{place, token, unbraced, opens, Marks}
+use Rattle.opl_tree.specs.Spelling.{kinds_of, AllProper}
+use Rattle.opl_tree.specs.Depth.{depth_of}
 
 -- each node's place is that of the token that comes next
 abbrev pub AtPlaces : Marks → List Token → ℕ → Type 0

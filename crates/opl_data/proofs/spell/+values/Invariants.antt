@@ -1,6 +1,7 @@
 use Rattle.std.proofs.Common.{◌≡◌, ◌++◌, map, drop}
 use Rattle.opl_token.specs.declared.sign.Sign.TheVariants as signs
-use Rattle.opl_reader_laws.specs.Marks.{behind, several, kinds_of}
+use Rattle.opl_tree.specs.Marks.{behind, several}
+use Rattle.opl_tree.specs.Spelling.{kinds_of}
 use Rattle.opl_data.specs.Marks.{marks_value, marks_pair}
 use Rattle.opl_data.proofs.Lists.{rest_of}
 use Rattle.opl_data.proofs.spell.+values.Given as goal

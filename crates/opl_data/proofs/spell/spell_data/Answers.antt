@@ -1,6 +1,6 @@
 use Rattle.std.proofs.Common.{arith}
 use Rattle.opl_data.proofs.Trees.{file_marks}
-use Rattle.opl_reader_laws.proofs.Spelt.{spelt}
+use Rattle.opl_tree.proofs.Spelt.{spelt}
 use Rattle.opl_data.proofs.spell.spell_data.Goals as goal
 
 -- src/spell.rt:187:1

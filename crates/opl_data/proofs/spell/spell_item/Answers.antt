@@ -1,6 +1,6 @@
 use Rattle.std.proofs.Common.{arith}
 use Rattle.opl_data.proofs.Trees.{item_marks}
-use Rattle.opl_reader_laws.proofs.Spelt.{spelt}
+use Rattle.opl_tree.proofs.Spelt.{spelt}
 use Rattle.opl_data.proofs.spell.spell_item.Goals as goal
 
 -- src/spell.rt:165:1

@@ -1,5 +1,6 @@
 use Rattle.std.proofs.Common.{◌≡◌, ◌++◌, map, drop}
-use Rattle.opl_reader_laws.specs.Marks.{joined, kinds_of}
+use Rattle.opl_tree.specs.Marks.{joined}
+use Rattle.opl_tree.specs.Spelling.{kinds_of}
 use Rattle.opl_data.specs.Marks.{marks_item}
 use Rattle.opl_data.proofs.spell.spell_items.Given as goal
 
