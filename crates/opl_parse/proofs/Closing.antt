@@ -7,7 +7,7 @@ use Rattle.opl_grammar.specs.Tables.{starts_type}
 use Rattle.opl_grammar.specs.Rules as g
 use Rattle.opl_parse.proofs.Dims.{dims_law, type_law, fields_law}
 use Rattle.opl_parse.proofs.Examples.{post_sample, operand_sample, add_sample, neg_sample, imp_sample, expr_sample, params_sample, ordered_sample, type_sample, adds_sample, ends_sample, aggregated_sample, names_sample, fields_sample, dims_sample, listed_sample, keyed_sample, braced_sample}
-use Rattle.opl_parse.proofs.Lists.{many_shape}
+use Rattle.opl_reader_laws.proofs.Many.{many_shape}
 use Rattle.opl_parse.proofs.Params.{names_law, params_law, aggregated_law, ordered_law, adds_law, listed_law, keyed_law, braced_law, ends_rule}
 use Rattle.opl_parse.proofs.Posts.{post_law}
 use Rattle.opl_parse.proofs.Shapes.{upper_shape, optional_upper, ends_shape, field_shape, RulesLaw}

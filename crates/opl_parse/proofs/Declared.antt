@@ -1,5 +1,5 @@
 -- Declarations.
-use Rattle.std.proofs.Common.{◌≡◌, ℕ, Bool, true, false, cond, ◌⊎◌, inl, inr, List, [], ◌∷◌, ◌++◌, map, Option, refl, sym, ap, ◌∙◌, subst, arith, append_assoc}
+use Rattle.std.proofs.Common.{◌≡◌, ℕ, Bool, true, false, cond, ◌⊎◌, inl, inr, List, [], ◌∷◌, ◌++◌, Option, refl, sym, ap, ◌∙◌, subst, arith}
 use Rattle.std.specs.Option.{option_map}
 use Rattle.opl_token.specs.declared.sign.Sign.{Sign}
 use Rattle.opl_token.specs.declared.sign.Sign.TheVariants as signs
@@ -34,10 +34,8 @@ use Rattle.opl_tree.specs.declared.keyword.Keyword.TheVariants as words
 use Rattle.opl_grammar.specs.declared.look.Look.{Look}
 use Rattle.opl_grammar.specs.declared.look.Look.TheVariants as looks
 use Rattle.opl_tree.specs.Marks.{Mark, joined, schedule_word, marks_name, marks_add, marks_type, marks_dim, marks_dims, marks_initial, marks_data, marks_range, marks_enum_names, marks_enum, marks_field, marks_struct, marks_variable_type, marks_bounds, marks_variable, marks_activity, marks_unary, marks_discrete, marks_schedule, marks_decl}
-use Rattle.opl_tree.specs.Depth.{if_any, depth_dims, depth_initial, depth_data, depth_range, depth_enum_names, depth_enum, depth_struct, depth_variable_type, depth_bounds, depth_variable, depth_activity, depth_unary, depth_discrete, depth_schedule, depth_decl}
 use Rattle.opl_tree.specs.Marks as mk
 use Rattle.opl_tree.proofs.Marks.{marks_dims-is, marks_initial-External, marks_initial-Written, marks_data-is, marks_range-is, marks_enum_names-Listed, marks_enum_names-External, marks_enum-is, marks_struct-is, marks_variable_type-Int, marks_variable_type-Named, marks_bounds-is, marks_variable-is, marks_activity-is, marks_unary-is, marks_discrete-is, marks_schedule-is, marks_decl-Data, marks_decl-Range, marks_decl-Enumeration, marks_decl-Structure, marks_decl-Variable, marks_decl-Activity, marks_decl-Unary, marks_decl-Discrete, marks_decl-Schedule}
-use Rattle.opl_tree.proofs.Depth.{depth_dims-is, depth_initial-External, depth_initial-Written, depth_data-is, depth_range-is, depth_enum_names-Listed, depth_enum_names-External, depth_enum-is, depth_struct-is, depth_variable_type-Int, depth_variable_type-Named, depth_bounds-is, depth_variable-is, depth_activity-is, depth_unary-is, depth_discrete-is, depth_schedule-is, depth_decl-Data, depth_decl-Range, depth_decl-Enumeration, depth_decl-Structure, depth_decl-Variable, depth_decl-Activity, depth_decl-Unary, depth_decl-Discrete, depth_decl-Schedule}
 use Rattle.opl_grammar.specs.Input.{Input, Outcome, Parser, kind, one, sign, word, look, sees_sign, sees_word, is_sign, is_word, is_name, behind, flag}
 use Rattle.opl_grammar.specs.Input as input
 use Rattle.opl_grammar.specs.Tables.{schedule_end_in, sign_starts, word_starts_add, starts_add, type_begins, starts_type, word_starts_decl, decl_begins, starts_decl}
@@ -46,18 +44,18 @@ use Rattle.opl_grammar.specs.Declarations as gd
 use Rattle.opl_grammar.specs.Rules.{Rules}
 use Rattle.opl_parse.proofs.Dims.{type_law, type_written}
 use Rattle.opl_parse.proofs.Follow.{Ends, sign_ends}
-use Rattle.opl_parse.proofs.Forms.{placed, placed_shape, placed_law, maybe, maybe_shape, maybe_law, either, by_side, either_shape, either_law, mapped, Made, plain, plain_law}
-use Rattle.opl_parse.proofs.Levels.{opened, opened_shape, opened_law}
+use Rattle.opl_reader_laws.proofs.Forms.{placed, placed_shape, placed_law, maybe, maybe_shape, maybe_law, either, by_side, either_shape, either_law, mapped, Made, plain, plain_law}
+use Rattle.opl_reader_laws.proofs.Opened.{opened, opened_shape, opened_law}
 use Rattle.opl_parse.proofs.Ops.{schedule_end_part, schedule_end_first, schedule_end_reads, from_schedule_end}
-use Rattle.opl_parse.proofs.Options.{after_maybe, written_maybe, if_any_maybe}
-use Rattle.opl_parse.proofs.Outcomes.{and_then_assoc, steps}
-use Rattle.opl_parse.proofs.Params.{flag_shape, flag_law, no_depth}
-use Rattle.opl_parse.proofs.Phrases.{Shape, Law, Any, one_law, pair, pair_shape, pair_law}
+use Rattle.opl_reader_laws.proofs.Options.{after_maybe, written_maybe}
+use Rattle.opl_reader_laws.proofs.Outcomes.{and_then_assoc, steps}
+use Rattle.opl_parse.proofs.Params.{flag_shape, flag_law}
+use Rattle.opl_reader_laws.proofs.Phrases.{pair_eq, Shape, Law, Any, one_law, pair, pair_shape, pair_law}
 use Rattle.opl_parse.proofs.Prims.{name_law}
-use Rattle.opl_parse.proofs.Shapes.{First, name_shape, add_shape, upper_shape, optional_upper, names_shape, RulesLaw}
+use Rattle.opl_parse.proofs.Shapes.{First, name_shape, add_shape, names_shape, RulesLaw}
 use Rattle.opl_parse.proofs.Sums.{add_law, upper_law}
-use Rattle.opl_parse.proofs.Takes.{Written, written_behind}
-use Rattle.opl_parse.proofs.Tokens.{from_sign, from_word, from_name, sign_table, sign_first, sign_reads, sign_shape, word_shape, sign_law, word_law}
+use Rattle.opl_reader_laws.proofs.Takes.{Written, written_behind}
+use Rattle.opl_reader_laws.proofs.Tokens.{from_sign, from_word, from_name, sign_table, sign_first, sign_reads, sign_shape, word_shape, sign_law, word_law}
 use Rattle.opl_grammar.specs.Tables as tables
 use Rattle.opl_tree.specs.Marks.{Mark}
 use Rattle.opl_tree.specs.declared.declaration.ScheduleEnd.TheVariants as schedule_ends
@@ -65,7 +63,7 @@ use Rattle.opl_tree.specs.declared.declaration.ScheduleEnd.TheVariants as schedu
 -- ---- dimensions that may be written
 
 abbrev pub dims_tree_shape : Shape DimsTree
-dims_tree_shape = plain marks_dims depth_dims Any (First (is_sign signs.OpenBracket))
+dims_tree_shape = plain marks_dims Any (First (is_sign signs.OpenBracket))
 
 abbrev dims_tree_to : ℕ × ((Unit {0} × (DimTree × List DimTree)) × Unit {0}) → DimsTree
 dims_tree_to c = record { at = c.0; first = c.1.0.1.0; rest = c.1.0.1.1 }
@@ -77,10 +75,9 @@ dims_tree_is r i = simp steps
 dims_tree_law : {n : ℕ} {r s : Rules} → RulesLaw n r s → Law n (gd.dims_tree r) (gd.dims_tree s) dims_tree_shape
 dims_tree_law {n} {r} {s} R = plain_law (placed_law (pair_law (opened_law (sign_reads signs.OpenBracket) R.dims) (sign_law signs.CloseBracket) (λ x k h. (sign_ends signs.CloseBracket 5 (omega arith) k h, from_sign signs.CloseBracket (λ l. sees_sign signs.Comma l ≡ false) k h refl)))) dims_tree_to (record {
   made = λ t. record { of = (t.at, ((tt, (t.first, t.rest)), tt)); is = refl };
-  marks = λ c. marks_dims-is (dims_tree_to c) ∙ ap (λ ms. mk.place c.0 ∷ mk.token (mk.sign signs.OpenBracket) ∷ ms) (sym (append_assoc (marks_dim c.1.0.1.0) (mk.behind signs.Comma (map marks_dim c.1.0.1.1)) (mk.token (mk.sign signs.CloseBracket) ∷ [])));
+  marks = λ c. marks_dims-is (dims_tree_to c);
   view = λ x. tt;
   tag = λ c. refl;
-  depth = λ c. let e = depth_dims-is (dims_tree_to c) in omega arith;
   closes = λ k h. tt;
   begins = λ F k h. h;
 }) (gd.dims_tree r) (gd.dims_tree s) (dims_tree_is r) (dims_tree_is s)
@@ -94,9 +91,6 @@ optional_dims_law R = maybe_law (is_sign signs.OpenBracket) (dims_tree_law R) (�
 
 dims_written : (o : Option DimsTree) → mk.written (option_map marks_dims o) ≡ optional_dims_shape.marks o
 dims_written o = written_maybe dims_tree_shape o
-
-dims_nested : (o : Option DimsTree) → if_any (option_map depth_dims o) ≡ optional_dims_shape.depth o
-dims_nested o = if_any_maybe dims_tree_shape o
 
 -- ---- data
 
@@ -137,12 +131,8 @@ initial_spelt : (c : InitialParts) → marks_initial (initial_to c) ≡ initial_
 initial_spelt (inl c) = marks_initial-External c.0
 initial_spelt (inr t) = marks_initial-Written t
 
-initial_deep : (c : InitialParts) → depth_initial (initial_to c) ≡ initial_parts.depth c
-initial_deep (inl c) = depth_initial-External c.0
-initial_deep (inr t) = depth_initial-Written t
-
 abbrev initial_shape : Shape InitialTree
-initial_shape = plain marks_initial depth_initial (Ends 3) (λ F k. (is_sign signs.Ellipsis k ≡ true) ⊎ (starts_add k ≡ true))
+initial_shape = plain marks_initial (Ends 3) (λ F k. (is_sign signs.Ellipsis k ≡ true) ⊎ (starts_add k ≡ true))
 
 initial_law : {n : ℕ} {r s : Rules} → RulesLaw n r s → Law n (gd.initial r) (gd.initial s) initial_shape
 initial_law {n} {r} {s} R = plain_law (either_law (is_sign signs.Ellipsis) (placed_law (sign_law signs.Ellipsis)) (add_law R) (λ F k h. h) (λ F k h. add_no_ellipsis_seen (look k) h)) initial_to (record {
@@ -150,13 +140,12 @@ initial_law {n} {r} {s} R = plain_law (either_law (is_sign signs.Ellipsis) (plac
   marks = initial_spelt;
   view = λ x. tt;
   tag = λ c. refl;
-  depth = initial_deep;
   closes = λ k h. (tt, h);
   begins = λ F k h. h;
 }) (gd.initial r) (gd.initial s) (initial_is r) (initial_is s)
 
 abbrev pub data_shape : Shape DataTree
-data_shape = plain marks_data depth_data (Any) (First starts_type)
+data_shape = plain marks_data (Any) (First starts_type)
 
 abbrev data_to : ℕ × ((TypeTree) × ((NameTree) × ((Option DimsTree) × ((Unit {0}) × ((InitialTree) × (Unit {0})))))) → DataTree
 data_to c = record { at = c.0; kind = c.1.0; name = c.1.1.0; dims = c.1.1.1.0; initial = c.1.1.1.1.1.0 }
@@ -171,13 +160,12 @@ data_law {n} {r} {s} R = plain_law (placed_law (pair_law (type_law R) (pair_law 
   marks = λ c. marks_data-is (data_to c) ∙ ap (λ ms. mk.place c.0 ∷ (marks_type c.1.0 ++ (marks_name c.1.1.0 ++ (ms ++ mk.token (mk.sign signs.Equal) ∷ (marks_initial c.1.1.1.1.1.0 ++ mk.token (mk.sign signs.Semicolon) ∷ []))))) (dims_written c.1.1.1.0);
   view = λ x. tt;
   tag = λ c. refl;
-  depth = λ c. let e = depth_data-is (data_to c) in let d = dims_nested c.1.1.1.0 in omega arith;
   closes = λ k h. tt;
   begins = λ F k h. h;
 }) (gd.data_decl r) (gd.data_decl s) (data_is r) (data_is s)
 
 abbrev pub range_shape : Shape RangeTree
-range_shape = plain marks_range depth_range (Any) (First (is_word words.Range))
+range_shape = plain marks_range (Any) (First (is_word words.Range))
 
 abbrev range_to : ℕ × ((Unit {0}) × ((NameTree) × ((AddTree) × ((AddTree) × (Unit {0}))))) → RangeTree
 range_to c = record { at = c.0; name = c.1.1.0; low = c.1.1.1.0; high = c.1.1.1.1.0 }
@@ -192,7 +180,6 @@ range_law {n} {r} {s} R = plain_law (placed_law (pair_law (word_law words.Range)
   marks = λ c. marks_range-is (range_to c);
   view = λ x. tt;
   tag = λ c. refl;
-  depth = λ c. let e = depth_range-is (range_to c) in omega arith;
   closes = λ k h. tt;
   begins = λ F k h. h;
 }) (gd.range_decl r) (gd.range_decl s) (range_is r) (range_is s)
@@ -231,15 +218,11 @@ enum_names_made (enum_names.Listed at t ts) = record { of = inl (at, ((tt, (t, t
 enum_names_made (enum_names.External at b) = record { of = inr (at, (b, tt)); is = refl }
 
 enum_names_spelt : (c : EnumNamesParts) → marks_enum_names (enum_names_to c) ≡ enum_names_parts.marks c
-enum_names_spelt (inl c) = marks_enum_names-Listed c.0 c.1.0.1.0 c.1.0.1.1 ∙ ap (λ ms. mk.place c.0 ∷ mk.token (mk.sign signs.OpenBrace) ∷ ms) (sym (append_assoc (marks_name c.1.0.1.0) (mk.behind signs.Comma (map marks_name c.1.0.1.1)) (mk.token (mk.sign signs.CloseBrace) ∷ [])))
+enum_names_spelt (inl c) = marks_enum_names-Listed c.0 c.1.0.1.0 c.1.0.1.1
 enum_names_spelt (inr c) = marks_enum_names-External c.0 c.1.0
 
-enum_names_deep : (c : EnumNamesParts) → depth_enum_names (enum_names_to c) ≡ enum_names_parts.depth c
-enum_names_deep (inl c) = let e = depth_enum_names-Listed c.0 c.1.0.1.0 c.1.0.1.1 in let z = no_depth c.1.0.1.1 in omega arith
-enum_names_deep (inr c) = let e = depth_enum_names-External c.0 c.1.0 in omega arith
-
 abbrev enum_names_shape : Shape EnumNamesTree
-enum_names_shape = plain marks_enum_names depth_enum_names Any (λ F k. (is_sign signs.OpenBrace k ≡ true) ⊎ ((is_sign signs.Equal k ≡ true) ⊎ (is_sign signs.Ellipsis k ≡ true)))
+enum_names_shape = plain marks_enum_names Any (λ F k. (is_sign signs.OpenBrace k ≡ true) ⊎ ((is_sign signs.Equal k ≡ true) ⊎ (is_sign signs.Ellipsis k ≡ true)))
 
 enum_names_law : {n : ℕ} {r s : Rules} → RulesLaw n r s → Law n (enum_names_reader r) (enum_names_reader s) enum_names_shape
 enum_names_law {n} {r} {s} R = plain_law
@@ -250,13 +233,12 @@ enum_names_law {n} {r} {s} R = plain_law
       marks = enum_names_spelt;
       view = λ x. tt;
       tag = λ c. refl;
-      depth = enum_names_deep;
       closes = λ k h. (tt, tt);
       begins = λ F k h. h;
     }) (enum_names_reader r) (enum_names_reader s) (enum_names_is r) (enum_names_is s)
 
 abbrev pub enum_shape : Shape EnumTree
-enum_shape = plain marks_enum depth_enum (Any) (First (is_word words.Enum))
+enum_shape = plain marks_enum (Any) (First (is_word words.Enum))
 
 abbrev enum_to : ℕ × ((Unit {0}) × ((NameTree) × ((EnumNamesTree) × (Unit {0})))) → EnumTree
 enum_to c = record { at = c.0; name = c.1.1.0; names = c.1.1.1.0 }
@@ -271,13 +253,12 @@ enum_law {n} {r} {s} R = plain_law (placed_law (pair_law (word_law words.Enum) (
   marks = λ c. marks_enum-is (enum_to c);
   view = λ x. tt;
   tag = λ c. refl;
-  depth = λ c. let e = depth_enum-is (enum_to c) in omega arith;
   closes = λ k h. tt;
   begins = λ F k h. h;
 }) (gd.enum_decl r) (gd.enum_decl s) (enum_is r) (enum_is s)
 
 abbrev pub struct_shape : Shape StructTree
-struct_shape = plain marks_struct depth_struct (Any) (First (is_word words.Struct))
+struct_shape = plain marks_struct (Any) (First (is_word words.Struct))
 
 abbrev struct_to : ℕ × ((Unit {0}) × ((NameTree) × (((Unit {0} × (FieldTree × List FieldTree))) × ((Unit {0}) × (Unit {0}))))) → StructTree
 struct_to c = record { at = c.0; name = c.1.1.0; first = c.1.1.1.0.1.0; rest = c.1.1.1.0.1.1 }
@@ -289,10 +270,9 @@ struct_is r i = simp and_then_assoc
 pub struct_law : {n : ℕ} {r s : Rules} → RulesLaw n r s → Law n (gd.struct_decl r) (gd.struct_decl s) struct_shape
 struct_law {n} {r} {s} R = plain_law (placed_law (pair_law (word_law words.Struct) (pair_law name_law (pair_law (opened_law (sign_reads signs.OpenBrace) R.fields) (pair_law (sign_law signs.CloseBrace) (sign_law signs.Semicolon) (λ x k h. tt)) (λ x k h. (tt, from_sign signs.CloseBrace (λ l. type_begins l ≡ false) k h refl))) (λ x k h. tt)) (λ x k h. tt))) struct_to (record {
   made = λ t. record { of = (t.at, (tt, (t.name, ((tt, (t.first, t.rest)), (tt, tt))))); is = refl };
-  marks = λ c. marks_struct-is (struct_to c) ∙ ap (λ ms. mk.place c.0 ∷ mk.token (mk.word words.Struct) ∷ (marks_name c.1.1.0 ++ mk.token (mk.sign signs.OpenBrace) ∷ ms)) (sym (append_assoc (marks_field c.1.1.1.0.1.0) (mk.joined (map marks_field c.1.1.1.0.1.1)) (mk.token (mk.sign signs.CloseBrace) ∷ mk.token (mk.sign signs.Semicolon) ∷ [])));
+  marks = λ c. marks_struct-is (struct_to c);
   view = λ x. tt;
   tag = λ c. refl;
-  depth = λ c. let e = depth_struct-is (struct_to c) in omega arith;
   closes = λ k h. tt;
   begins = λ F k h. h;
 }) (gd.struct_decl r) (gd.struct_decl s) (struct_is r) (struct_is s)
@@ -318,16 +298,8 @@ variable_type_spelt : (c : VariableTypeParts) → marks_variable_type (variable_
 variable_type_spelt (inl c) = marks_variable_type-Int c.0
 variable_type_spelt (inr t) = marks_variable_type-Named t
 
-variable_type_deep : (c : VariableTypeParts) → depth_variable_type (variable_type_to c) ≡ (either_shape (placed_shape (word_shape words.Int)) name_shape).depth c
-variable_type_deep (inl c) = depth_variable_type-Int c.0
-variable_type_deep (inr t) = depth_variable_type-Named t
-
-variable_type_flat : (t : VariableTypeTree) → depth_variable_type t ≡ 0
-variable_type_flat (variable_types.Int at) = depth_variable_type-Int at
-variable_type_flat (variable_types.Named t) = depth_variable_type-Named t
-
 abbrev variable_type_shape : Shape VariableTypeTree
-variable_type_shape = plain marks_variable_type depth_variable_type Any (λ F k. (is_word words.Int k ≡ true) ⊎ (is_name k ≡ true))
+variable_type_shape = plain marks_variable_type Any (λ F k. (is_word words.Int k ≡ true) ⊎ (is_name k ≡ true))
 
 variable_type_law : {n : ℕ} (r s : Rules) → Law n (gd.variable_type r) (gd.variable_type s) variable_type_shape
 variable_type_law {n} r s = plain_law (either_law (is_word words.Int) (placed_law (word_law words.Int)) name_law (λ F k h. h) (λ F k h. from_name (λ l. sees_word words.Int l ≡ false) k h refl)) variable_type_to (record {
@@ -335,13 +307,12 @@ variable_type_law {n} r s = plain_law (either_law (is_word words.Int) (placed_la
   marks = variable_type_spelt;
   view = λ x. tt;
   tag = λ c. refl;
-  depth = variable_type_deep;
   closes = λ k h. (tt, tt);
   begins = λ F k h. h;
 }) (gd.variable_type r) (gd.variable_type s) (variable_type_is r) (variable_type_is s)
 
 abbrev pub bounds_shape : Shape BoundsTree
-bounds_shape = plain marks_bounds depth_bounds (Ends 3) (First (is_word words.In))
+bounds_shape = plain marks_bounds (Ends 3) (First (is_word words.In))
 
 abbrev bounds_to : ℕ × ((Unit {0}) × ((AddTree) × (AddTree))) → BoundsTree
 bounds_to c = record { at = c.0; low = c.1.1.0; high = c.1.1.1 }
@@ -356,7 +327,6 @@ bounds_law {n} {r} {s} R = plain_law (placed_law (pair_law (word_law words.In) (
   marks = λ c. marks_bounds-is (bounds_to c);
   view = λ x. tt;
   tag = λ c. refl;
-  depth = λ c. let e = depth_bounds-is (bounds_to c) in omega arith;
   closes = λ k h. h;
   begins = λ F k h. h;
 }) (gd.bounds r) (gd.bounds s) (bounds_is r) (bounds_is s)
@@ -369,7 +339,7 @@ bounds_meet k (inl h) = (tt, from_word words.In (λ l. sees_sign signs.OpenBrack
 bounds_meet k (inr h) = (tt, from_sign signs.Semicolon (λ l. sees_sign signs.OpenBracket l ≡ false) k h refl)
 
 abbrev pub variable_shape : Shape VariableTree
-variable_shape = plain marks_variable depth_variable (Any) (First (is_word words.Var))
+variable_shape = plain marks_variable (Any) (First (is_word words.Var))
 
 abbrev variable_to : ℕ × ((Unit {0}) × ((VariableTypeTree) × ((NameTree) × ((Option DimsTree) × ((Option BoundsTree) × (Unit {0})))))) → VariableTree
 variable_to c = record { at = c.0; kind = c.1.1.0; name = c.1.1.1.0; dims = c.1.1.1.1.0; bounds = c.1.1.1.1.1.0 }
@@ -384,7 +354,6 @@ variable_law {n} {r} {s} R = plain_law (placed_law (pair_law (word_law words.Var
   marks = λ c. marks_variable-is (variable_to c) ∙ (ap (λ ms. mk.place c.0 ∷ mk.token (mk.word words.Var) ∷ (marks_variable_type c.1.1.0 ++ (marks_name c.1.1.1.0 ++ (ms ++ (mk.written (option_map marks_bounds c.1.1.1.1.1.0) ++ mk.token (mk.sign signs.Semicolon) ∷ []))))) (dims_written c.1.1.1.1.0) ∙ ap (λ ms. mk.place c.0 ∷ mk.token (mk.word words.Var) ∷ (marks_variable_type c.1.1.0 ++ (marks_name c.1.1.1.0 ++ (optional_dims_shape.marks c.1.1.1.1.0 ++ (ms ++ mk.token (mk.sign signs.Semicolon) ∷ []))))) (written_maybe bounds_shape c.1.1.1.1.1.0));
   view = λ x. tt;
   tag = λ c. refl;
-  depth = λ c. let e = depth_variable-is (variable_to c) in let d = dims_nested c.1.1.1.1.0 in let b = if_any_maybe bounds_shape c.1.1.1.1.1.0 in let l = variable_type_flat c.1.1.0 in omega arith;
   closes = λ k h. tt;
   begins = λ F k h. h;
 }) (gd.variable_decl r) (gd.variable_decl s) (variable_is r) (variable_is s)
@@ -395,7 +364,7 @@ abbrev closed_end : List Mark
 closed_end = mk.token (mk.sign signs.CloseParenthesis) ∷ mk.token (mk.sign signs.Semicolon) ∷ []
 
 abbrev pub activity_shape : Shape ActivityTree
-activity_shape = plain marks_activity depth_activity (Any) (First (is_word words.Activity))
+activity_shape = plain marks_activity (Any) (First (is_word words.Activity))
 
 abbrev activity_to : ℕ × ((Unit {0}) × ((NameTree) × ((Option DimsTree) × (((Unit {0} × (AddTree × Option AddTree))) × ((Unit {0}) × (Unit {0})))))) → ActivityTree
 activity_to c = record { at = c.0; name = c.1.1.0; dims = c.1.1.1.0; shortest = c.1.1.1.1.0.1.0; longest = c.1.1.1.1.0.1.1 }
@@ -407,16 +376,15 @@ activity_is r i = simp and_then_assoc
 pub activity_law : {n : ℕ} {r s : Rules} → RulesLaw n r s → Law n (gd.activity_decl r) (gd.activity_decl s) activity_shape
 activity_law {n} {r} {s} R = plain_law (placed_law (pair_law (word_law words.Activity) (pair_law name_law (pair_law (optional_dims_law R) (pair_law (opened_law (sign_reads signs.OpenParenthesis) R.ends) (pair_law (sign_law signs.CloseParenthesis) (sign_law signs.Semicolon) (λ x k h. tt)) (λ x k h. ((sign_ends signs.CloseParenthesis 3 (omega arith) k h, from_sign signs.CloseParenthesis (λ l. sees_sign signs.Range l ≡ false) k h refl), sign_ends signs.CloseParenthesis 3 (omega arith) k h))) (λ x k h. (tt, from_sign signs.OpenParenthesis (λ l. sees_sign signs.OpenBracket l ≡ false) k h refl))) (λ x k h. tt)) (λ x k h. tt))) activity_to (record {
   made = λ t. record { of = (t.at, (tt, (t.name, (t.dims, ((tt, (t.shortest, t.longest)), (tt, tt)))))); is = refl };
-  marks = λ c. marks_activity-is (activity_to c) ∙ (ap (λ ms. mk.place c.0 ∷ mk.token (mk.word words.Activity) ∷ (marks_name c.1.1.0 ++ (ms ++ mk.token (mk.sign signs.OpenParenthesis) ∷ (marks_add c.1.1.1.1.0.1.0 ++ (mk.after (mk.sign signs.Range) (option_map marks_add c.1.1.1.1.0.1.1) ++ closed_end))))) (dims_written c.1.1.1.0) ∙ ap (λ ms. mk.place c.0 ∷ mk.token (mk.word words.Activity) ∷ (marks_name c.1.1.0 ++ (optional_dims_shape.marks c.1.1.1.0 ++ mk.token (mk.sign signs.OpenParenthesis) ∷ ms))) (ap (λ ms. marks_add c.1.1.1.1.0.1.0 ++ (ms ++ closed_end)) (after_maybe (mk.sign signs.Range) (sign_first signs.Range) add_shape c.1.1.1.1.0.1.1) ∙ sym (append_assoc (marks_add c.1.1.1.1.0.1.0) (optional_upper.marks c.1.1.1.1.0.1.1) closed_end)));
+  marks = λ c. marks_activity-is (activity_to c) ∙ ap (λ p. mk.place c.0 ∷ mk.token (mk.word words.Activity) ∷ (marks_name c.1.1.0 ++ (p.0 ++ (mk.nested (mk.sign signs.OpenParenthesis) (marks_add c.1.1.1.1.0.1.0 ++ p.1) ++ closed_end)))) (pair_eq (dims_written c.1.1.1.0) (after_maybe (mk.sign signs.Range) (sign_first signs.Range) add_shape c.1.1.1.1.0.1.1));
   view = λ x. tt;
   tag = λ c. refl;
-  depth = λ c. let e = depth_activity-is (activity_to c) in let d = dims_nested c.1.1.1.0 in let b = if_any_maybe upper_shape c.1.1.1.1.0.1.1 in omega arith;
   closes = λ k h. tt;
   begins = λ F k h. h;
 }) (gd.activity_decl r) (gd.activity_decl s) (activity_is r) (activity_is s)
 
 abbrev pub unary_shape : Shape UnaryTree
-unary_shape = plain marks_unary depth_unary (Any) (First (is_word words.UnaryResource))
+unary_shape = plain marks_unary (Any) (First (is_word words.UnaryResource))
 
 abbrev unary_to : ℕ × ((Unit {0}) × ((NameTree) × ((Option DimsTree) × (Unit {0})))) → UnaryTree
 unary_to c = record { at = c.0; name = c.1.1.0; dims = c.1.1.1.0 }
@@ -431,13 +399,12 @@ unary_law {n} {r} {s} R = plain_law (placed_law (pair_law (word_law words.UnaryR
   marks = λ c. marks_unary-is (unary_to c) ∙ ap (λ ms. mk.place c.0 ∷ mk.token (mk.word words.UnaryResource) ∷ (marks_name c.1.1.0 ++ (ms ++ mk.token (mk.sign signs.Semicolon) ∷ []))) (dims_written c.1.1.1.0);
   view = λ x. tt;
   tag = λ c. refl;
-  depth = λ c. let e = depth_unary-is (unary_to c) in let d = dims_nested c.1.1.1.0 in omega arith;
   closes = λ k h. tt;
   begins = λ F k h. h;
 }) (gd.unary_decl r) (gd.unary_decl s) (unary_is r) (unary_is s)
 
 abbrev pub discrete_shape : Shape DiscreteTree
-discrete_shape = plain marks_discrete depth_discrete (Any) (First (is_word words.DiscreteResource))
+discrete_shape = plain marks_discrete (Any) (First (is_word words.DiscreteResource))
 
 abbrev discrete_to : ℕ × ((Unit {0}) × ((NameTree) × ((Option DimsTree) × (((Unit {0} × AddTree)) × ((Unit {0}) × (Unit {0})))))) → DiscreteTree
 discrete_to c = record { at = c.0; name = c.1.1.0; dims = c.1.1.1.0; capacity = c.1.1.1.1.0.1 }
@@ -449,16 +416,15 @@ discrete_is r i = simp and_then_assoc
 pub discrete_law : {n : ℕ} {r s : Rules} → RulesLaw n r s → Law n (gd.discrete_decl r) (gd.discrete_decl s) discrete_shape
 discrete_law {n} {r} {s} R = plain_law (placed_law (pair_law (word_law words.DiscreteResource) (pair_law name_law (pair_law (optional_dims_law R) (pair_law (opened_law (sign_reads signs.OpenParenthesis) R.add) (pair_law (sign_law signs.CloseParenthesis) (sign_law signs.Semicolon) (λ x k h. tt)) (λ x k h. sign_ends signs.CloseParenthesis 3 (omega arith) k h)) (λ x k h. (tt, from_sign signs.OpenParenthesis (λ l. sees_sign signs.OpenBracket l ≡ false) k h refl))) (λ x k h. tt)) (λ x k h. tt))) discrete_to (record {
   made = λ t. record { of = (t.at, (tt, (t.name, (t.dims, ((tt, t.capacity), (tt, tt)))))); is = refl };
-  marks = λ c. marks_discrete-is (discrete_to c) ∙ ap (λ ms. mk.place c.0 ∷ mk.token (mk.word words.DiscreteResource) ∷ (marks_name c.1.1.0 ++ (ms ++ mk.token (mk.sign signs.OpenParenthesis) ∷ (marks_add c.1.1.1.1.0.1 ++ closed_end)))) (dims_written c.1.1.1.0);
+  marks = λ c. marks_discrete-is (discrete_to c) ∙ ap (λ ms. mk.place c.0 ∷ mk.token (mk.word words.DiscreteResource) ∷ (marks_name c.1.1.0 ++ (ms ++ (mk.nested (mk.sign signs.OpenParenthesis) (marks_add c.1.1.1.1.0.1) ++ closed_end)))) (dims_written c.1.1.1.0);
   view = λ x. tt;
   tag = λ c. refl;
-  depth = λ c. let e = depth_discrete-is (discrete_to c) in let d = dims_nested c.1.1.1.0 in omega arith;
   closes = λ k h. tt;
   begins = λ F k h. h;
 }) (gd.discrete_decl r) (gd.discrete_decl s) (discrete_is r) (discrete_is s)
 
 abbrev pub schedule_shape : Shape ScheduleTree
-schedule_shape = plain marks_schedule depth_schedule (Any) (λ F. schedule_end_first)
+schedule_shape = plain marks_schedule (Any) (λ F. schedule_end_first)
 
 abbrev schedule_to : ℕ × ((ScheduleEnd) × ((Unit {0}) × ((AddTree) × (Unit {0})))) → ScheduleTree
 schedule_to c = record { at = c.0; end = c.1.0; value = c.1.1.1.0 }
@@ -473,7 +439,6 @@ schedule_law {n} {r} {s} R = plain_law (placed_law (pair_law (one_law schedule_e
   marks = λ c. marks_schedule-is (schedule_to c);
   view = λ x. tt;
   tag = λ c. refl;
-  depth = λ c. let e = depth_schedule-is (schedule_to c) in omega arith;
   closes = λ k h. tt;
   begins = λ F k h. h;
 }) (gd.schedule_decl r) (gd.schedule_decl s) (schedule_is r) (schedule_is s)
@@ -572,17 +537,6 @@ decl_spelt (inr (inr (inr (inr (inr (inr (inl t))))))) = marks_decl-Unary t
 decl_spelt (inr (inr (inr (inr (inr (inr (inr (inl t)))))))) = marks_decl-Discrete t
 decl_spelt (inr (inr (inr (inr (inr (inr (inr (inr t)))))))) = marks_decl-Schedule t
 
-decl_deep : (c : DeclParts) → depth_decl (decl_to c) ≡ decl_parts.depth c
-decl_deep (inl t) = depth_decl-Data t
-decl_deep (inr (inl t)) = depth_decl-Range t
-decl_deep (inr (inr (inl t))) = depth_decl-Enumeration t
-decl_deep (inr (inr (inr (inl t)))) = depth_decl-Structure t
-decl_deep (inr (inr (inr (inr (inl t))))) = depth_decl-Variable t
-decl_deep (inr (inr (inr (inr (inr (inl t)))))) = depth_decl-Activity t
-decl_deep (inr (inr (inr (inr (inr (inr (inl t))))))) = depth_decl-Unary t
-decl_deep (inr (inr (inr (inr (inr (inr (inr (inl t)))))))) = depth_decl-Discrete t
-decl_deep (inr (inr (inr (inr (inr (inr (inr (inr t)))))))) = depth_decl-Schedule t
-
 type_word_decl : (w : Keyword) → type_begins (looks.Word w) ≡ true → decl_begins (looks.Word w) ≡ true
 type_word_decl words.Int h = refl
 type_word_decl w h = cc
@@ -600,7 +554,7 @@ type_starts_decl looks.Nothing h = cc
 type_starts_decl looks.Other h = cc
 
 abbrev pub decl_shape : Shape DeclTree
-decl_shape = plain marks_decl depth_decl Any (First starts_decl)
+decl_shape = plain marks_decl Any (First starts_decl)
 
 pub decl_law : {n : ℕ} {r s : Rules} → RulesLaw n r s → Law n (gd.decl r) (gd.decl s) decl_shape
 decl_law {n} {r} {s} R = plain_law (either_law starts_type (data_law R) (either_law (is_word words.Range) (range_law R) (either_law (is_word words.Enum) (enum_law R) (either_law (is_word words.Struct) (struct_law R) (either_law (is_word words.Var) (variable_law R) (either_law (is_word words.Activity) (activity_law R) (either_law (is_word words.UnaryResource) (unary_law R) (either_law (is_word words.DiscreteResource) (discrete_law R) (schedule_law R)
@@ -616,7 +570,6 @@ decl_law {n} {r} {s} R = plain_law (either_law starts_type (data_law R) (either_
       marks = decl_spelt;
       view = λ x. tt;
       tag = λ c. refl;
-      depth = decl_deep;
       closes = λ k h. (tt, (tt, (tt, (tt, (tt, (tt, (tt, (tt, tt))))))));
       begins = λ F k h. (by_side (λ a. type_starts_decl (look k) a) (by_side (λ a. from_word words.Range (λ l. decl_begins l ≡ true) k a refl) (by_side (λ a. from_word words.Enum (λ l. decl_begins l ≡ true) k a refl) (by_side (λ a. from_word words.Struct (λ l. decl_begins l ≡ true) k a refl) (by_side (λ a. from_word words.Var (λ l. decl_begins l ≡ true) k a refl) (by_side (λ a. from_word words.Activity (λ l. decl_begins l ≡ true) k a refl) (by_side (λ a. from_word words.UnaryResource (λ l. decl_begins l ≡ true) k a refl) (by_side (λ a. from_word words.DiscreteResource (λ l. decl_begins l ≡ true) k a refl) (λ a. from_schedule_end (λ l. decl_begins l ≡ true) k a (λ a. schedule_starts a)))))))))) h;
     }) (gd.decl r) (gd.decl s) (decl_is r) (decl_is s)

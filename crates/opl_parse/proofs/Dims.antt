@@ -1,5 +1,5 @@
 -- Sets that are just a name, dimensions, types and fields.
-use Rattle.std.proofs.Common.{◌≡◌, ℕ, max, true, false, cond, ◌⊎◌, inl, inr, List, [], ◌∷◌, ◌++◌, map, Option, Some, None, Ok, refl, sym, ap, ◌∙◌, subst, arith, append_assoc, append-nil}
+use Rattle.std.proofs.Common.{◌≡◌, ℕ, true, false, cond, ◌⊎◌, inl, inr, List, [], ◌∷◌, ◌++◌, map, Option, Some, None, Ok, refl, sym, ap, ◌∙◌, subst, arith, append_assoc, append-nil}
 use Rattle.std.specs.Option.{option_map}
 use Rattle.opl_token.specs.declared.sign.Sign.TheVariants as signs
 use Rattle.opl_token.specs.declared.token.Kind.{Kind}
@@ -20,10 +20,8 @@ use Rattle.opl_tree.specs.declared.expression.CompareTree.TheOpen.{PrimTree-F}
 use Rattle.opl_tree.specs.declared.declaration.TypeTree.TheViews.{out-TypeTree, roll-TypeTree, roll-out-TypeTree}
 use Rattle.opl_tree.specs.declared.declaration.TypeTree.TheOpen.{TypeTree-F}
 use Rattle.opl_tree.specs.Marks.{Mark, joined, marks_name, marks_add, marks_post, marks_suffix, marks_prim, marks_set, marks_type, marks_dim, marks_field}
-use Rattle.opl_tree.specs.Depth.{greatest, if_any, depth_add, depth_post, depth_suffix, depth_prim, depth_set, depth_type, depth_dim}
 use Rattle.opl_tree.specs.Marks as mk
 use Rattle.opl_tree.proofs.Marks.{marks_name-is, marks_prim-Named, marks_post-of, marks_post-is, marks_set-of, marks_set-is, marks_type-Int, marks_type-Named, marks_type-Set, marks_dim-is, marks_field-is}
-use Rattle.opl_tree.proofs.Depth.{depth_prim-Named, depth_post-is, depth_set-is, depth_type-Int, depth_type-Named, depth_type-Set, depth_dim-is, depth_field-is}
 use Rattle.opl_grammar.specs.Input.{Input, Outcome, Parser, kind, and_then, pure, sign, word, sees_sign, sees_word, is_sign, is_word}
 use Rattle.opl_grammar.specs.Input.{place as place_at}
 use Rattle.opl_grammar.specs.Tables.{starts_add, type_begins, starts_type}
@@ -31,20 +29,21 @@ use Rattle.opl_grammar.specs.Just.{alone, without, OnePrim, post_of_add, name_at
 use Rattle.opl_grammar.specs.Rules as g
 use Rattle.opl_grammar.specs.Rules.{Rules}
 use Rattle.opl_parse.proofs.Follow.{Ends, no_word, sign_ends, word_ends}
-use Rattle.opl_parse.proofs.Forms.{placed, placed_shape, placed_law, either, by_side, either_shape, either_law, mapped, Made, plain_law}
-use Rattle.opl_parse.proofs.Led.{each_law}
-use Rattle.opl_parse.proofs.Levels.{opened, opened_shape, opened_law}
-use Rattle.opl_parse.proofs.Lists.{many_law}
-use Rattle.opl_parse.proofs.Looked.{by_view, look_at, looked, looked_shape, Narrows, looked_law}
-use Rattle.opl_parse.proofs.Narrow.{places, Within, within_place, within_takes, within_begins, within_begun, wide_mul_is, add_narrow, wide_add, add_back, wide_add_is}
-use Rattle.opl_parse.proofs.Options.{then_same}
-use Rattle.opl_parse.proofs.Outcomes.{and_then_assoc, steps}
-use Rattle.opl_parse.proofs.Phrases.{Shape, Law, Any, pair, pair_shape, pair_law}
+use Rattle.opl_reader_laws.proofs.Forms.{placed, placed_shape, placed_law, either, by_side, either_shape, either_law, mapped, Made, plain_law}
+use Rattle.opl_reader_laws.proofs.Led.{each_law}
+use Rattle.opl_reader_laws.proofs.Opened.{opened, opened_shape, opened_law}
+use Rattle.opl_reader_laws.proofs.Many.{many_law}
+use Rattle.opl_reader_laws.proofs.Looked.{by_view, look_at, looked, looked_shape, Narrows, looked_law}
+use Rattle.opl_reader_laws.proofs.Places.{places, Within, within_place}
+use Rattle.opl_parse.proofs.Narrow.{wide_mul_is, add_narrow, wide_add, add_back, wide_add_is}
+use Rattle.opl_reader_laws.proofs.Options.{then_same}
+use Rattle.opl_reader_laws.proofs.Outcomes.{and_then_assoc, steps}
+use Rattle.opl_reader_laws.proofs.Phrases.{Shape, Law, Any, pair, pair_shape, pair_law}
 use Rattle.opl_parse.proofs.Prims.{name_law}
 use Rattle.opl_parse.proofs.Shapes.{First, name_shape, set_shape, type_shape, field_shape, fields_shape, dim_shape, dims_shape, RulesLaw}
 use Rattle.opl_parse.proofs.Sums.{set_law}
-use Rattle.opl_parse.proofs.Takes.{Takes, Written, written_behind}
-use Rattle.opl_parse.proofs.Tokens.{from_sign, from_word, from_name, sign_table, sign_first, sign_reads, sign_shape, word_shape, sign_law, word_law}
+use Rattle.opl_reader_laws.proofs.Takes.{Takes, Written, written_behind}
+use Rattle.opl_reader_laws.proofs.Tokens.{from_sign, from_word, from_name, sign_table, sign_first, sign_reads, sign_shape, word_shape, sign_law, word_law}
 use Rattle.opl_tree.specs.Marks.{Mark}
 use Rattle.opl_grammar.specs.Just.{OnePrim}
 
@@ -60,18 +59,15 @@ within_trans {ms} {ns} {os} v w = by_places v.at ms v.is where
   by_places [] ms e = record { at = w.at; is = e ∙ w.is }
   by_places (x ∷ xs) ms e = subst (λ y. Within y os) (sym e) (within_place x (by_places xs (places xs ns) refl))
 
--- what is just a name
-record Named (ms : List Mark) (depth : ℕ) (n : NameTree) : Type 0 where
-  within : Within ms (marks_name n)
-  deep : 0 ≡ depth
+-- ---- sets that are just a name
 
-prim_named : (t : PrimTree) (n : NameTree) → name_of_prim t ≡ Some n → Named (marks_prim t) (depth_prim t) n
+prim_named : (t : PrimTree) (n : NameTree) → name_of_prim t ≡ Some n → Within (marks_prim t) (marks_name n)
 unfolding name_of_prim
-prim_named t n = subst (λ x. name_at_prim (out-PrimTree t) ≡ Some n → Named (marks_prim x) (depth_prim x) n) (roll-out-PrimTree t) (by_layer (out-PrimTree t)) where
-  by_layer : (x : OnePrim) → name_at_prim x ≡ Some n → Named (marks_prim (roll-PrimTree x)) (depth_prim (roll-PrimTree x)) n
+prim_named t n = subst (λ x. name_at_prim (out-PrimTree t) ≡ Some n → Within (marks_prim x) (marks_name n)) (roll-out-PrimTree t) (by_layer (out-PrimTree t)) where
+  by_layer : (x : OnePrim) → name_at_prim x ≡ Some n → Within (marks_prim (roll-PrimTree x)) (marks_name n)
   by_layer (PrimTree-F.Named u) h =
       let e = some_same h in
-      subst (λ x. Named (marks_prim x) (depth_prim x) n) (sym (prims.rolls-Named u)) (record { within = record { at = []; is = marks_prim-Named u ∙ ap marks_name e }; deep = sym (depth_prim-Named u) })
+      subst (λ x. Within (marks_prim x) (marks_name n)) (sym (prims.rolls-Named u)) (record { at = []; is = marks_prim-Named u ∙ ap marks_name e })
   by_layer (PrimTree-F.Number at v) h = absurd (none_some h)
   by_layer (PrimTree-F.Bracket at u) h = absurd (none_some h)
   by_layer (PrimTree-F.Record at u us) h = absurd (none_some h)
@@ -83,33 +79,28 @@ prim_named t n = subst (λ x. name_at_prim (out-PrimTree t) ≡ Some n → Named
   by_layer (PrimTree-F.AllDifferent at u) h = absurd (none_some h)
   by_layer (PrimTree-F.Question at op u) h = absurd (none_some h)
 
-post_named : (t : PostTree) (n : NameTree) → name_of_post t ≡ Some n → Named (marks_post t) (depth_post t) n
+post_named : (t : PostTree) (n : NameTree) → name_of_post t ≡ Some n → Within (marks_post t) (marks_name n)
 unfolding name_of_post
 post_named t n h = by_rest (out-PostTree t).suffixes refl h where
-  by_rest : (ts : List SuffixTree) → (out-PostTree t).suffixes ≡ ts → alone ts (name_of_prim (out-PostTree t).prim) ≡ Some n → Named (marks_post t) (depth_post t) n
+  by_rest : (ts : List SuffixTree) → (out-PostTree t).suffixes ≡ ts → alone ts (name_of_prim (out-PostTree t).prim) ≡ Some n → Within (marks_post t) (marks_name n)
   by_rest [] e k =
       let c = prim_named (out-PostTree t).prim n k in
       let ms : marks_post t ≡ mk.place (out-PostTree t).at ∷ marks_prim (out-PostTree t).prim = marks_post-is t ∙ (ap (λ ts. mk.place (out-PostTree t).at ∷ (marks_prim (out-PostTree t).prim ++ mk.joined (map marks_suffix ts))) e ∙ ap (λ ms. mk.place (out-PostTree t).at ∷ ms) (append-nil (marks_prim (out-PostTree t).prim))) in
-      let d : depth_post t ≡ max (depth_prim (out-PostTree t).prim) 0 = depth_post-is t ∙ ap (λ ts. max (depth_prim (out-PostTree t).prim) (greatest (map depth_suffix ts))) e in
-      let l = c.deep in
-      record { within = subst (λ ms. Within ms (marks_name n)) (sym ms) (within_place (out-PostTree t).at c.within); deep = omega arith }
+      subst (λ ms. Within ms (marks_name n)) (sym ms) (within_place (out-PostTree t).at c)
   by_rest (x ∷ ts) e k = absurd (none_some k)
 
-set_named : (t : SetTree) (n : NameTree) → name_of t ≡ Some n → Named (marks_set t) (depth_set t) n
+set_named : (t : SetTree) (n : NameTree) → name_of t ≡ Some n → Within (marks_set t) (marks_name n)
 unfolding name_of
 set_named t n h = by_high (out-SetTree t).high refl h where
-  by_post : (out-SetTree t).high ≡ None → (o : Option PostTree) → post_of_add (out-SetTree t).low ≡ o → name_of_found o ≡ Some n → Named (marks_set t) (depth_set t) n
+  by_post : (out-SetTree t).high ≡ None → (o : Option PostTree) → post_of_add (out-SetTree t).low ≡ o → name_of_found o ≡ Some n → Within (marks_set t) (marks_name n)
   by_post e None k l = absurd (none_some l)
   by_post e (Some p) k l =
       let c = add_narrow (out-SetTree t).low p k in
       let q = post_named p n l in
       let ms : marks_set t ≡ mk.place (out-SetTree t).at ∷ marks_add (out-SetTree t).low = marks_set-is t ∙ (ap (λ o. mk.place (out-SetTree t).at ∷ (marks_add (out-SetTree t).low ++ mk.after (mk.sign signs.Range) (option_map marks_add o))) e ∙ ap (λ ms. mk.place (out-SetTree t).at ∷ ms) (append-nil (marks_add (out-SetTree t).low))) in
-      let d : depth_set t ≡ max (depth_add (out-SetTree t).low) 0 = depth_set-is t ∙ ap (λ o. max (depth_add (out-SetTree t).low) (if_any (option_map depth_add o))) e in
-      let l' = c.deep in
-      let l'' = q.deep in
-      record { within = subst (λ ms. Within ms (marks_name n)) (sym ms) (within_place (out-SetTree t).at (within_trans c.within q.within)); deep = omega arith }
+      subst (λ ms. Within ms (marks_name n)) (sym ms) (within_place (out-SetTree t).at (within_trans c q))
 
-  by_high : (o : Option AddTree) → (out-SetTree t).high ≡ o → without o (name_of_found (post_of_add (out-SetTree t).low)) ≡ Some n → Named (marks_set t) (depth_set t) n
+  by_high : (o : Option AddTree) → (out-SetTree t).high ≡ o → without o (name_of_found (post_of_add (out-SetTree t).low)) ≡ Some n → Within (marks_set t) (marks_name n)
   by_high None e k = by_post e (post_of_add (out-SetTree t).low) refl k
   by_high (Some x) e k = absurd (none_some k)
 
@@ -139,13 +130,10 @@ named_post_is at n = marks_post-of at (prims.Named n) [] ∙ ap (λ ms. mk.place
 named_set_is : (at : ℕ) (n : NameTree) → marks_set (named_set at n) ≡ mk.place at ∷ mk.place at ∷ mk.place at ∷ mk.place at ∷ marks_name n
 named_set_is at n = marks_set-of at (wide_add at (named_post at n)) None ∙ ap (λ ms. mk.place at ∷ ms) (append-nil (marks_add (wide_add at (named_post at n))) ∙ (wide_add_is at (named_post at n) ∙ ap (λ ms. mk.place at ∷ ms) (wide_mul_is at (named_post at n) ∙ ap (λ ms. mk.place at ∷ ms) (named_post_is at n))))
 
-pub name_narrows : Narrows set_shape name_of marks_name (λ t. 0)
+pub name_narrows : Narrows set_shape name_of marks_name
 name_narrows = record {
   known = λ a b h. h;
-  takes = λ a c v i j h. within_takes (set_named a c v).within i j h;
-  begins = λ a c v i j h. within_begins (set_named a c v).within i j h;
-  writes = λ a c v i j h. within_begun (set_named a c v).within i j h;
-  deep = λ a c v. (set_named a c v).deep;
+  within = set_named;
   wide = named_set;
   back = named_back;
   there = λ i c j h. subst (λ ms. Takes ms i j) (sym (named_set_is (place_at i) c)) (refl, (refl, (refl, (refl, h))));
@@ -193,15 +181,11 @@ abbrev in_set_shape : Shape InSet
 in_set_shape = pair_shape (word_shape words.In) set_shape
 
 abbrev dim_parts : Shape DimParts
-dim_parts = placed_shape (looked_shape (is_word words.In) set_shape marks_name (λ t. 0) in_set_shape (First starts_add Any))
+dim_parts = placed_shape (looked_shape (is_word words.In) set_shape marks_name in_set_shape (First starts_add Any))
 
 dim_spelt : (at : ℕ) (c : SetTree ⊎ (NameTree × InSet)) → marks_dim (dim_at at c) ≡ dim_parts.marks (at, c)
 dim_spelt at (inl t) = marks_dim-is (dim_at at (inl t))
 dim_spelt at (inr c) = marks_dim-is (dim_at at (inr c)) ∙ ap (λ ms. mk.place at ∷ ms) (append_assoc (marks_name c.0) (mk.token (mk.word words.In) ∷ []) (marks_set c.1.1))
-
-dim_deep : (at : ℕ) (c : SetTree ⊎ (NameTree × InSet)) → depth_dim (dim_at at c) ≡ dim_parts.depth (at, c)
-dim_deep at (inl t) = depth_dim-is (dim_at at (inl t))
-dim_deep at (inr c) = let e = depth_dim-is (dim_at at (inr c)) in omega arith
 
 pub dim_law : {n : ℕ} {r s : Rules} → RulesLaw n r s → Law n (g.dim r) (g.dim s) dim_shape
 dim_law {n} {r} {s} R = plain_law
@@ -210,7 +194,6 @@ dim_law {n} {r} {s} R = plain_law
       marks = λ c. dim_spelt c.0 c.1;
       view = λ x. tt;
       tag = λ c. refl;
-      depth = λ c. dim_deep c.0 c.1;
       closes = λ k h. (omega arith, (omega arith, no_word words.In 5 (λ e. omega (arith, e)) k h));
       begins = λ F k h. h;
     }) (g.dim r) (g.dim s) (dim_is r) (dim_is s)
@@ -256,11 +239,6 @@ type_spelt (inl c) = marks_type-Int c.0
 type_spelt (inr (inl c)) = marks_type-Set c.0 c.1.0.1
 type_spelt (inr (inr t)) = marks_type-Named t
 
-type_deep : (c : TypeParts) → depth_type (type_to c) ≡ type_parts.depth c
-type_deep (inl c) = depth_type-Int c.0
-type_deep (inr (inl c)) = let e = depth_type-Set c.0 c.1.0.1 in omega arith
-type_deep (inr (inr t)) = depth_type-Named t
-
 pub type_law : {n : ℕ} {r s : Rules} → RulesLaw n r s → Law n (g.type_tree r) (g.type_tree s) type_shape
 type_law {n} {r} {s} R = plain_law
     (either_law (is_word words.Int) (placed_law (word_law words.Int)) (either_law (is_sign signs.OpenBrace) (placed_law (pair_law (opened_law (sign_reads signs.OpenBrace) R.type_tree) (sign_law signs.CloseBrace) (λ x k h. tt))) name_law
@@ -270,7 +248,6 @@ type_law {n} {r} {s} R = plain_law
       marks = type_spelt;
       view = λ x. tt;
       tag = λ c. refl;
-      depth = type_deep;
       closes = λ k h. (tt, (tt, tt));
       begins = λ F k h. by_side (λ a. from_word words.Int (λ l. type_begins l ≡ true) k a refl) (λ a. by_side (λ b. from_sign signs.OpenBrace (λ l. type_begins l ≡ true) k b refl) (λ b. from_name (λ l. type_begins l ≡ true) k b refl) a) h;
     }) (g.type_tree r) (g.type_tree s) (type_is r) (type_is s)
@@ -298,7 +275,6 @@ field_law {n} {r} {s} R = plain_law (placed_law (pair_law (type_law R) (pair_law
   marks = λ c. marks_field-is (field_to c);
   view = λ x. tt;
   tag = λ c. refl;
-  depth = λ c. let e = depth_field-is (field_to c) in omega arith;
   closes = λ k h. tt;
   begins = λ F k h. h;
 }) (g.field r) (g.field s) (field_is r) (field_is s)

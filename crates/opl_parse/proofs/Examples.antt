@@ -25,17 +25,19 @@ use Rattle.opl_tree.proofs.Marks.{marks_name-is, marks_pattern-Single, marks_neg
 use Rattle.opl_grammar.specs.Input.{Input, kind, is_sign, is_word, is_name}
 use Rattle.opl_grammar.specs.Tables.{type_begins, starts_type}
 use Rattle.opl_parse.proofs.Dims.{comma_dims}
-use Rattle.opl_parse.proofs.Led.{each_shape}
-use Rattle.opl_parse.proofs.Lists.{many_shape}
+use Rattle.opl_reader_laws.proofs.Led.{each_shape}
+use Rattle.opl_reader_laws.proofs.Many.{many_shape}
 use Rattle.opl_parse.proofs.Narrow.{wide_mul, wide_mul_is, wide_add, wide_add_is, wide_compare, wide_compare_is, wide_neg, wide_and_is, wide_or_is, wide_imp, wide_imp_is, wide_expr, wide_expr_is}
-use Rattle.opl_parse.proofs.Options.{or_true_right}
+use Rattle.opl_reader_laws.proofs.Options.{or_true_right}
 use Rattle.opl_parse.proofs.Params.{params_close, comma_meets}
-use Rattle.opl_parse.proofs.Phrases.{Shape, Samples, pair_shape, Meets}
+use Rattle.opl_reader_laws.proofs.Phrases.{Shape, Samples, pair_shape, Meets}
 use Rattle.opl_parse.proofs.Shapes.{name_shape, post_shape, operand_shape, mul_shape, add_shape, neg_shape, imp_shape, expr_shape, starts_pattern, starts_group, params_shape, ordered_shape, adds_shape, listed_shape, keyed_shape, braced_shape, optional_upper, ends_shape, names_shape, chosen_shape, aggregated_shape, type_shape, field_shape, fields_shape, dim_shape, dims_shape}
-use Rattle.opl_parse.proofs.Takes.{Takes, takes_join}
-use Rattle.opl_parse.proofs.Tokens.{look_of_text, empty_name, name_reads}
+use Rattle.opl_reader_laws.proofs.Levels.{takes_raised}
+use Rattle.opl_reader_laws.proofs.Takes.{Takes, takes_join}
+use Rattle.opl_reader_laws.proofs.Tokens.{look_of_text, empty_name, name_reads}
 use Rattle.opl_tree.specs.Marks.{Mark}
-use Rattle.opl_parse.proofs.Takes.{before as before_part}
+use Rattle.opl_reader_laws.proofs.Levels.{takes_raised}
+use Rattle.opl_reader_laws.proofs.Takes.{before as before_part}
 
 -- ---- one phrase behind another, and no phrase
 
@@ -188,7 +190,7 @@ chosen_sample tail h =
     record {
       whole = before_part (mk.sign signs.OpenParenthesis) a.whole;
       value = a.value;
-      takes = ((refl, tt), takes_join (marks_params a.value) (mk.token (mk.sign signs.CloseParenthesis) ∷ []) a.whole closed tail a.takes ((refl, tt), refl));
+      takes = ((refl, tt), takes_join (mk.raised (marks_params a.value)) (mk.token (mk.sign signs.CloseParenthesis) ∷ []) a.whole closed tail (takes_raised (marks_params a.value) a.whole closed a.takes) ((refl, tt), refl));
       starts = λ F k. refl;
     }
 

@@ -9,7 +9,7 @@ use Rattle.opl_tree.specs.declared.keyword.Keyword.TheVariants as words
 use Rattle.opl_grammar.specs.declared.look.Look.{Look}
 use Rattle.opl_grammar.specs.declared.look.Look.TheVariants as looks
 use Rattle.opl_grammar.specs.Input.{look, sees_sign, is_sign, is_word, sign_seen}
-use Rattle.opl_parse.proofs.Tokens.{sees_sign_true, sees_word_true, from_sign, from_word}
+use Rattle.opl_reader_laws.proofs.Tokens.{sees_sign_true, sees_word_true, from_sign, from_word}
 use Rattle.opl_grammar.specs.Tables.{through, relation_of, add_op_of, mul_op_seen, mul_sign_of, mul_word_of, is_relation, is_add_op, is_mul_op, starts_suffix}
 
 -- suffixes 1, products 2, sums 3, sets 4, comparisons 5, `&` 6, `\/` 7, `=>` 8, `<=>` 9, items 10, and all else 11

@@ -1,5 +1,5 @@
 -- Expressions that are just a post.
-use Rattle.std.proofs.Common.{◌≡◌, ℕ, max, List, [], ◌∷◌, ◌++◌, map, Option, Some, None, refl, sym, ap, ◌∙◌, subst, arith, append-nil}
+use Rattle.std.proofs.Common.{◌≡◌, ℕ, List, [], ◌∷◌, ◌++◌, map, Option, Some, None, refl, sym, ap, ◌∙◌, subst, append-nil}
 use Rattle.std.specs.Option.{option_map}
 use Rattle.opl_token.specs.declared.sign.Sign.TheVariants as signs
 use Rattle.opl_tree.specs.declared.expression.ExprTree.{ExprTree}
@@ -22,58 +22,17 @@ use Rattle.opl_tree.specs.declared.expression.SignTree.TheVariants as factors
 use Rattle.opl_tree.specs.declared.expression.CompareTree.TheViews.{out-AddTree, roll-AddTree, out-roll-AddTree, out-AndTree, roll-AndTree, out-roll-AndTree, out-ExprTree, roll-ExprTree, out-roll-ExprTree, out-ImpTree, roll-ImpTree, out-roll-ImpTree, out-OrTree, roll-OrTree, out-roll-OrTree, out-CompareTree, roll-CompareTree, roll-out-CompareTree, out-roll-CompareTree, out-MulTree, roll-MulTree, roll-out-MulTree, out-roll-MulTree, out-NegTree, roll-NegTree, roll-out-NegTree, out-roll-NegTree, out-SignTree, roll-SignTree, roll-out-SignTree}
 use Rattle.opl_tree.specs.declared.expression.CompareTree.TheOpen.{CompareTree-F, MulTree-F, NegTree-F, SignTree-F}
 use Rattle.opl_tree.specs.Marks.{Mark, joined, marks_expr, marks_imp, marks_or, marks_and, marks_neg, marks_compare, marks_add, marks_add_step, marks_mul, marks_sign, marks_post}
-use Rattle.opl_tree.specs.Depth.{greatest, nested_if_any, depth_expr, depth_imp, depth_or, depth_and, depth_neg, depth_compare, depth_add, depth_add_step, depth_mul, depth_sign, depth_post}
 use Rattle.opl_tree.specs.Marks as mk
 use Rattle.opl_tree.proofs.Marks.{marks_compare-Single, marks_mul-Product, marks_neg-Compare, marks_sign-Postfix, marks_add-of, marks_add-is, marks_and-of, marks_and-is, marks_expr-of, marks_expr-is, marks_imp-of, marks_imp-is, marks_or-of, marks_or-is}
-use Rattle.opl_tree.proofs.Depth.{depth_compare-Single, depth_mul-Product, depth_neg-Compare, depth_sign-Postfix, depth_add-is, depth_and-is, depth_expr-is, depth_imp-is, depth_or-is}
-use Rattle.opl_grammar.specs.Input.{Input}
 use Rattle.opl_grammar.specs.Input.{place as place_at}
 use Rattle.opl_grammar.specs.Just.{alone, without, OneCompare, OneMul, OneNeg, OneSign, post_at_sign, post_of_sign, post_at_mul, post_of_mul, post_of_add, post_at_compare, post_of_compare, post_at_neg, post_of_neg, post_of_and, post_of_or, post_of_imp, post_of}
-use Rattle.opl_parse.proofs.Looked.{Narrows}
+use Rattle.opl_reader_laws.proofs.Looked.{Narrows}
 use Rattle.opl_parse.proofs.Shapes.{expr_shape}
 use Rattle.opl_parse.proofs.Sums.{post_of_postfix}
-use Rattle.opl_parse.proofs.Takes.{Takes, Begins}
+use Rattle.opl_reader_laws.proofs.Places.{places, Within, within_place}
+use Rattle.opl_reader_laws.proofs.Takes.{Takes}
 use Rattle.opl_tree.specs.Marks.{Mark}
 use Rattle.opl_grammar.specs.Just.{OneSign, OneMul, OneCompare, OneNeg}
-
--- some places, and then the rest
-abbrev pub places : List ℕ → List Mark → List Mark
-places [] ms = ms
-places (n ∷ ns) ms = mk.place n ∷ places ns ms
-
--- marks that are the others behind some places
-pub record Within (ms ns : List Mark) : Type 0 where
-  pub at : List ℕ
-  pub is : ms ≡ places at ns
-
-pub within_place : {ms ns : List Mark} (at : ℕ) → Within ms ns → Within (mk.place at ∷ ms) ns
-within_place at w = record { at = at ∷ w.at; is = ap (λ xs. mk.place at ∷ xs) w.is }
-
-places_takes : (ns : List ℕ) (ms : List Mark) (i j : Input) → Takes (places ns ms) i j → Takes ms i j
-places_takes [] ms i j h = h
-places_takes (n ∷ ns) ms i j h = places_takes ns ms i j h.1
-
-places_begin : (ns : List ℕ) (ms : List Mark) (i j : Input) → Begins ms i j → Begins (places ns ms) i j
-places_begin [] ms i j h = h
-places_begin (n ∷ ns) ms i j h = places_begin ns ms i j h
-
-places_begun : (ns : List ℕ) (ms : List Mark) (i j : Input) → Begins (places ns ms) i j → Begins ms i j
-places_begun [] ms i j h = h
-places_begun (n ∷ ns) ms i j h = places_begun ns ms i j h
-
-pub within_takes : {ms ns : List Mark} → Within ms ns → (i j : Input) → Takes ms i j → Takes ns i j
-within_takes {ms} {ns} w i j h = places_takes w.at ns i j (subst (λ xs. Takes xs i j) w.is h)
-
-pub within_begins : {ms ns : List Mark} → Within ms ns → (i j : Input) → Begins ns i j → Begins ms i j
-within_begins {ms} {ns} w i j h = subst (λ xs. Begins xs i j) (sym w.is) (places_begin w.at ns i j h)
-
-pub within_begun : {ms ns : List Mark} → Within ms ns → (i j : Input) → Begins ms i j → Begins ns i j
-within_begun {ms} {ns} w i j h = places_begun w.at ns i j (subst (λ xs. Begins xs i j) w.is h)
-
--- what is just a post
-pub record Narrow (ms : List Mark) (depth : ℕ) (p : PostTree) : Type 0 where
-  pub within : Within ms (marks_post p)
-  pub deep : depth_post p ≡ depth
 
 none_some : {A : Type 0} {a : A} → ◌≡◌ {A = Option A} None (Some a) → ⊥
 none_some h = cc
@@ -83,33 +42,28 @@ some_same h = cc
 
 -- ---- factors and products
 
-sign_narrow : (t : SignTree) (p : PostTree) → post_of_sign t ≡ Some p → Narrow (marks_sign t) (depth_sign t) p
+sign_narrow : (t : SignTree) (p : PostTree) → post_of_sign t ≡ Some p → Within (marks_sign t) (marks_post p)
 unfolding post_of_sign
-sign_narrow t p = subst (λ x. post_at_sign (out-SignTree t) ≡ Some p → Narrow (marks_sign x) (depth_sign x) p) (roll-out-SignTree t) (by_layer (out-SignTree t)) where
-  by_layer : (x : OneSign) → post_at_sign x ≡ Some p → Narrow (marks_sign (roll-SignTree x)) (depth_sign (roll-SignTree x)) p
+sign_narrow t p = subst (λ x. post_at_sign (out-SignTree t) ≡ Some p → Within (marks_sign x) (marks_post p)) (roll-out-SignTree t) (by_layer (out-SignTree t)) where
+  by_layer : (x : OneSign) → post_at_sign x ≡ Some p → Within (marks_sign (roll-SignTree x)) (marks_post p)
   by_layer (SignTree-F.Postfix u) h =
       let e = some_same h in
-      subst (λ x. Narrow (marks_sign x) (depth_sign x) p) (sym (factors.rolls-Postfix u)) (record {
-        within = record { at = []; is = marks_sign-Postfix u ∙ ap marks_post e };
-        deep = sym (depth_sign-Postfix u ∙ ap depth_post e);
-      })
+      subst (λ x. Within (marks_sign x) (marks_post p)) (sym (factors.rolls-Postfix u)) (record { at = []; is = marks_sign-Postfix u ∙ ap marks_post e })
   by_layer (SignTree-F.Negative at u) h = absurd (none_some h)
 
-pub mul_narrow : (t : MulTree) (p : PostTree) → post_of_mul t ≡ Some p → Narrow (marks_mul t) (depth_mul t) p
+pub mul_narrow : (t : MulTree) (p : PostTree) → post_of_mul t ≡ Some p → Within (marks_mul t) (marks_post p)
 unfolding post_of_mul
-mul_narrow t p = subst (λ x. post_at_mul (out-MulTree t) ≡ Some p → Narrow (marks_mul x) (depth_mul x) p) (roll-out-MulTree t) (by_layer (out-MulTree t)) where
-  by_product : (at : ℕ) (u : SignTree) (xs : List MulStep) (l : Option LastStep) → alone xs (without l (post_of_sign u)) ≡ Some p → Narrow (marks_mul (muls.Product at u xs l)) (depth_mul (muls.Product at u xs l)) p
+mul_narrow t p = subst (λ x. post_at_mul (out-MulTree t) ≡ Some p → Within (marks_mul x) (marks_post p)) (roll-out-MulTree t) (by_layer (out-MulTree t)) where
+  by_product : (at : ℕ) (u : SignTree) (xs : List MulStep) (l : Option LastStep) → alone xs (without l (post_of_sign u)) ≡ Some p → Within (marks_mul (muls.Product at u xs l)) (marks_post p)
   by_product at u [] None h =
       let c = sign_narrow u p h in
       let ms : marks_mul (muls.Product at u [] None) ≡ mk.place at ∷ marks_sign u = marks_mul-Product at u [] None ∙ ap (λ ms. mk.place at ∷ ms) (append-nil (marks_sign u)) in
-      let d = depth_mul-Product at u [] None in
-      let e = c.deep in
-      record { within = subst (λ ms. Within ms (marks_post p)) (sym ms) (within_place at c.within); deep = omega arith }
+      subst (λ ms. Within ms (marks_post p)) (sym ms) (within_place at c)
   by_product at u [] (Some x) h = absurd (none_some h)
   by_product at u (x ∷ xs) l h = absurd (none_some h)
 
-  by_layer : (x : OneMul) → post_at_mul x ≡ Some p → Narrow (marks_mul (roll-MulTree x)) (depth_mul (roll-MulTree x)) p
-  by_layer (MulTree-F.Product at u xs l) h = subst (λ x. Narrow (marks_mul x) (depth_mul x) p) (sym (muls.rolls-Product at u xs l)) (by_product at u xs l h)
+  by_layer : (x : OneMul) → post_at_mul x ≡ Some p → Within (marks_mul (roll-MulTree x)) (marks_post p)
+  by_layer (MulTree-F.Product at u xs l) h = subst (λ x. Within (marks_mul x) (marks_post p)) (sym (muls.rolls-Product at u xs l)) (by_product at u xs l h)
   by_layer (MulTree-F.Opened u) h = absurd (none_some h)
 
 abbrev pub wide_mul : ℕ → PostTree → MulTree
@@ -124,16 +78,14 @@ wide_mul_is at p = marks_mul-Product at (factors.Postfix p) [] None ∙ ap (λ m
 
 -- ---- sums, comparisons and what joins them
 
-pub add_narrow : (t : AddTree) (p : PostTree) → post_of_add t ≡ Some p → Narrow (marks_add t) (depth_add t) p
+pub add_narrow : (t : AddTree) (p : PostTree) → post_of_add t ≡ Some p → Within (marks_add t) (marks_post p)
 unfolding post_of_add
 add_narrow t p h = by_rest (out-AddTree t).rest refl h where
-  by_rest : (ts : List AddStep) → (out-AddTree t).rest ≡ ts → alone ts (post_of_mul (out-AddTree t).first) ≡ Some p → Narrow (marks_add t) (depth_add t) p
+  by_rest : (ts : List AddStep) → (out-AddTree t).rest ≡ ts → alone ts (post_of_mul (out-AddTree t).first) ≡ Some p → Within (marks_add t) (marks_post p)
   by_rest [] e k =
       let c = mul_narrow (out-AddTree t).first p k in
       let ms : marks_add t ≡ mk.place (out-AddTree t).at ∷ marks_mul (out-AddTree t).first = marks_add-is t ∙ (ap (λ ts. mk.place (out-AddTree t).at ∷ (marks_mul (out-AddTree t).first ++ mk.joined (map marks_add_step ts))) e ∙ ap (λ ms. mk.place (out-AddTree t).at ∷ ms) (append-nil (marks_mul (out-AddTree t).first))) in
-      let d : depth_add t ≡ max (depth_mul (out-AddTree t).first) 0 = depth_add-is t ∙ ap (λ ts. max (depth_mul (out-AddTree t).first) (greatest (map depth_add_step ts))) e in
-      let l = c.deep in
-      record { within = subst (λ ms. Within ms (marks_post p)) (sym ms) (within_place (out-AddTree t).at c.within); deep = omega arith }
+      subst (λ ms. Within ms (marks_post p)) (sym ms) (within_place (out-AddTree t).at c)
   by_rest (x ∷ ts) e k = absurd (none_some k)
 
 abbrev pub wide_add : ℕ → PostTree → AddTree
@@ -146,16 +98,13 @@ add_back at p = ap (λ v. alone v.rest (post_of_mul v.first)) (out-roll-AddTree 
 pub wide_add_is : (at : ℕ) (p : PostTree) → marks_add (wide_add at p) ≡ mk.place at ∷ marks_mul (wide_mul at p)
 wide_add_is at p = marks_add-of at (wide_mul at p) [] ∙ ap (λ ms. mk.place at ∷ ms) (append-nil (marks_mul (wide_mul at p)))
 
-pub compare_narrow : (t : CompareTree) (p : PostTree) → post_of_compare t ≡ Some p → Narrow (marks_compare t) (depth_compare t) p
+pub compare_narrow : (t : CompareTree) (p : PostTree) → post_of_compare t ≡ Some p → Within (marks_compare t) (marks_post p)
 unfolding post_of_compare
-compare_narrow t p = subst (λ x. post_at_compare (out-CompareTree t) ≡ Some p → Narrow (marks_compare x) (depth_compare x) p) (roll-out-CompareTree t) (by_layer (out-CompareTree t)) where
-  by_layer : (x : OneCompare) → post_at_compare x ≡ Some p → Narrow (marks_compare (roll-CompareTree x)) (depth_compare (roll-CompareTree x)) p
+compare_narrow t p = subst (λ x. post_at_compare (out-CompareTree t) ≡ Some p → Within (marks_compare x) (marks_post p)) (roll-out-CompareTree t) (by_layer (out-CompareTree t)) where
+  by_layer : (x : OneCompare) → post_at_compare x ≡ Some p → Within (marks_compare (roll-CompareTree x)) (marks_post p)
   by_layer (CompareTree-F.Single at u) h =
       let c = add_narrow u p h in
-      subst (λ x. Narrow (marks_compare x) (depth_compare x) p) (sym (compares.rolls-Single at u)) (record {
-        within = subst (λ ms. Within ms (marks_post p)) (sym (marks_compare-Single at u)) (within_place at c.within);
-        deep = c.deep ∙ sym (depth_compare-Single at u);
-      })
+      subst (λ x. Within (marks_compare x) (marks_post p)) (sym (compares.rolls-Single at u)) (subst (λ ms. Within ms (marks_post p)) (sym (marks_compare-Single at u)) (within_place at c))
   by_layer (CompareTree-F.Related at u op v) h = absurd (none_some h)
   by_layer (CompareTree-F.Member at u v) h = absurd (none_some h)
 
@@ -169,16 +118,13 @@ compare_back at p = ap post_of_compare (sym (compares.rolls-Single at (wide_add 
 pub wide_compare_is : (at : ℕ) (p : PostTree) → marks_compare (wide_compare at p) ≡ mk.place at ∷ marks_add (wide_add at p)
 wide_compare_is at p = marks_compare-Single at (wide_add at p)
 
-pub neg_narrow : (t : NegTree) (p : PostTree) → post_of_neg t ≡ Some p → Narrow (marks_neg t) (depth_neg t) p
+pub neg_narrow : (t : NegTree) (p : PostTree) → post_of_neg t ≡ Some p → Within (marks_neg t) (marks_post p)
 unfolding post_of_neg
-neg_narrow t p = subst (λ x. post_at_neg (out-NegTree t) ≡ Some p → Narrow (marks_neg x) (depth_neg x) p) (roll-out-NegTree t) (by_layer (out-NegTree t)) where
-  by_layer : (x : OneNeg) → post_at_neg x ≡ Some p → Narrow (marks_neg (roll-NegTree x)) (depth_neg (roll-NegTree x)) p
+neg_narrow t p = subst (λ x. post_at_neg (out-NegTree t) ≡ Some p → Within (marks_neg x) (marks_post p)) (roll-out-NegTree t) (by_layer (out-NegTree t)) where
+  by_layer : (x : OneNeg) → post_at_neg x ≡ Some p → Within (marks_neg (roll-NegTree x)) (marks_post p)
   by_layer (NegTree-F.Compare u) h =
       let c = compare_narrow u p h in
-      subst (λ x. Narrow (marks_neg x) (depth_neg x) p) (sym (negs.rolls-Compare u)) (record {
-        within = subst (λ ms. Within ms (marks_post p)) (sym (marks_neg-Compare u)) c.within;
-        deep = c.deep ∙ sym (depth_neg-Compare u);
-      })
+      subst (λ x. Within (marks_neg x) (marks_post p)) (sym (negs.rolls-Compare u)) (subst (λ ms. Within ms (marks_post p)) (sym (marks_neg-Compare u)) c)
   by_layer (NegTree-F.Not at u) h = absurd (none_some h)
 
 abbrev pub wide_neg : ℕ → PostTree → NegTree
@@ -188,16 +134,14 @@ pub neg_back : (at : ℕ) (p : PostTree) → post_of_neg (wide_neg at p) ≡ Som
 unfolding post_of_neg
 neg_back at p = ap post_of_neg (sym (negs.rolls-Compare (wide_compare at p))) ∙ (ap post_at_neg (out-roll-NegTree (NegTree-F.Compare (wide_compare at p))) ∙ compare_back at p)
 
-pub and_narrow : (t : AndTree) (p : PostTree) → post_of_and t ≡ Some p → Narrow (marks_and t) (depth_and t) p
+pub and_narrow : (t : AndTree) (p : PostTree) → post_of_and t ≡ Some p → Within (marks_and t) (marks_post p)
 unfolding post_of_and
 and_narrow t p h = by_rest (out-AndTree t).rest refl h where
-  by_rest : (ts : List NegTree) → (out-AndTree t).rest ≡ ts → alone ts (post_of_neg (out-AndTree t).first) ≡ Some p → Narrow (marks_and t) (depth_and t) p
+  by_rest : (ts : List NegTree) → (out-AndTree t).rest ≡ ts → alone ts (post_of_neg (out-AndTree t).first) ≡ Some p → Within (marks_and t) (marks_post p)
   by_rest [] e k =
       let c = neg_narrow (out-AndTree t).first p k in
       let ms : marks_and t ≡ mk.place (out-AndTree t).at ∷ marks_neg (out-AndTree t).first = marks_and-is t ∙ (ap (λ ts. mk.place (out-AndTree t).at ∷ (marks_neg (out-AndTree t).first ++ mk.behind signs.And (map marks_neg ts))) e ∙ ap (λ ms. mk.place (out-AndTree t).at ∷ ms) (append-nil (marks_neg (out-AndTree t).first))) in
-      let d : depth_and t ≡ max (depth_neg (out-AndTree t).first) 0 = depth_and-is t ∙ ap (λ ts. max (depth_neg (out-AndTree t).first) (greatest (map depth_neg ts))) e in
-      let l = c.deep in
-      record { within = subst (λ ms. Within ms (marks_post p)) (sym ms) (within_place (out-AndTree t).at c.within); deep = omega arith }
+      subst (λ ms. Within ms (marks_post p)) (sym ms) (within_place (out-AndTree t).at c)
   by_rest (x ∷ ts) e k = absurd (none_some k)
 
 abbrev pub wide_and : ℕ → PostTree → AndTree
@@ -210,16 +154,14 @@ and_back at p = ap (λ v. alone v.rest (post_of_neg v.first)) (out-roll-AndTree 
 pub wide_and_is : (at : ℕ) (p : PostTree) → marks_and (wide_and at p) ≡ mk.place at ∷ marks_neg (wide_neg at p)
 wide_and_is at p = marks_and-of at (wide_neg at p) [] ∙ ap (λ ms. mk.place at ∷ ms) (append-nil (marks_neg (wide_neg at p)))
 
-pub or_narrow : (t : OrTree) (p : PostTree) → post_of_or t ≡ Some p → Narrow (marks_or t) (depth_or t) p
+pub or_narrow : (t : OrTree) (p : PostTree) → post_of_or t ≡ Some p → Within (marks_or t) (marks_post p)
 unfolding post_of_or
 or_narrow t p h = by_rest (out-OrTree t).rest refl h where
-  by_rest : (ts : List AndTree) → (out-OrTree t).rest ≡ ts → alone ts (post_of_and (out-OrTree t).first) ≡ Some p → Narrow (marks_or t) (depth_or t) p
+  by_rest : (ts : List AndTree) → (out-OrTree t).rest ≡ ts → alone ts (post_of_and (out-OrTree t).first) ≡ Some p → Within (marks_or t) (marks_post p)
   by_rest [] e k =
       let c = and_narrow (out-OrTree t).first p k in
       let ms : marks_or t ≡ mk.place (out-OrTree t).at ∷ marks_and (out-OrTree t).first = marks_or-is t ∙ (ap (λ ts. mk.place (out-OrTree t).at ∷ (marks_and (out-OrTree t).first ++ mk.behind signs.Or (map marks_and ts))) e ∙ ap (λ ms. mk.place (out-OrTree t).at ∷ ms) (append-nil (marks_and (out-OrTree t).first))) in
-      let d : depth_or t ≡ max (depth_and (out-OrTree t).first) 0 = depth_or-is t ∙ ap (λ ts. max (depth_and (out-OrTree t).first) (greatest (map depth_and ts))) e in
-      let l = c.deep in
-      record { within = subst (λ ms. Within ms (marks_post p)) (sym ms) (within_place (out-OrTree t).at c.within); deep = omega arith }
+      subst (λ ms. Within ms (marks_post p)) (sym ms) (within_place (out-OrTree t).at c)
   by_rest (x ∷ ts) e k = absurd (none_some k)
 
 abbrev pub wide_or : ℕ → PostTree → OrTree
@@ -232,16 +174,14 @@ or_back at p = ap (λ v. alone v.rest (post_of_and v.first)) (out-roll-OrTree (r
 pub wide_or_is : (at : ℕ) (p : PostTree) → marks_or (wide_or at p) ≡ mk.place at ∷ marks_and (wide_and at p)
 wide_or_is at p = marks_or-of at (wide_and at p) [] ∙ ap (λ ms. mk.place at ∷ ms) (append-nil (marks_and (wide_and at p)))
 
-pub imp_narrow : (t : ImpTree) (p : PostTree) → post_of_imp t ≡ Some p → Narrow (marks_imp t) (depth_imp t) p
+pub imp_narrow : (t : ImpTree) (p : PostTree) → post_of_imp t ≡ Some p → Within (marks_imp t) (marks_post p)
 unfolding post_of_imp
 imp_narrow t p h = by_conclusion (out-ImpTree t).conclusion refl h where
-  by_conclusion : (o : Option ImpTree) → (out-ImpTree t).conclusion ≡ o → without o (post_of_or (out-ImpTree t).premise) ≡ Some p → Narrow (marks_imp t) (depth_imp t) p
+  by_conclusion : (o : Option ImpTree) → (out-ImpTree t).conclusion ≡ o → without o (post_of_or (out-ImpTree t).premise) ≡ Some p → Within (marks_imp t) (marks_post p)
   by_conclusion None e k =
       let c = or_narrow (out-ImpTree t).premise p k in
-      let ms : marks_imp t ≡ mk.place (out-ImpTree t).at ∷ marks_or (out-ImpTree t).premise = marks_imp-is t ∙ (ap (λ o. mk.place (out-ImpTree t).at ∷ (marks_or (out-ImpTree t).premise ++ mk.after (mk.sign signs.Implies) (option_map marks_imp o))) e ∙ ap (λ ms. mk.place (out-ImpTree t).at ∷ ms) (append-nil (marks_or (out-ImpTree t).premise))) in
-      let d : depth_imp t ≡ max (depth_or (out-ImpTree t).premise) 0 = depth_imp-is t ∙ ap (λ o. max (depth_or (out-ImpTree t).premise) (nested_if_any (option_map depth_imp o))) e in
-      let l = c.deep in
-      record { within = subst (λ ms. Within ms (marks_post p)) (sym ms) (within_place (out-ImpTree t).at c.within); deep = omega arith }
+      let ms : marks_imp t ≡ mk.place (out-ImpTree t).at ∷ marks_or (out-ImpTree t).premise = marks_imp-is t ∙ (ap (λ o. mk.place (out-ImpTree t).at ∷ (marks_or (out-ImpTree t).premise ++ mk.after_level (mk.sign signs.Implies) (option_map marks_imp o))) e ∙ ap (λ ms. mk.place (out-ImpTree t).at ∷ ms) (append-nil (marks_or (out-ImpTree t).premise))) in
+      subst (λ ms. Within ms (marks_post p)) (sym ms) (within_place (out-ImpTree t).at c)
   by_conclusion (Some x) e k = absurd (none_some k)
 
 abbrev pub wide_imp : ℕ → PostTree → ImpTree
@@ -254,16 +194,14 @@ imp_back at p = ap (λ v. without v.conclusion (post_of_or v.premise)) (out-roll
 pub wide_imp_is : (at : ℕ) (p : PostTree) → marks_imp (wide_imp at p) ≡ mk.place at ∷ marks_or (wide_or at p)
 wide_imp_is at p = marks_imp-of at (wide_or at p) None ∙ ap (λ ms. mk.place at ∷ ms) (append-nil (marks_or (wide_or at p)))
 
-pub expr_narrow : (t : ExprTree) (p : PostTree) → post_of t ≡ Some p → Narrow (marks_expr t) (depth_expr t) p
+pub expr_narrow : (t : ExprTree) (p : PostTree) → post_of t ≡ Some p → Within (marks_expr t) (marks_post p)
 unfolding post_of
 expr_narrow t p h = by_rest (out-ExprTree t).rest refl h where
-  by_rest : (ts : List ImpTree) → (out-ExprTree t).rest ≡ ts → alone ts (post_of_imp (out-ExprTree t).first) ≡ Some p → Narrow (marks_expr t) (depth_expr t) p
+  by_rest : (ts : List ImpTree) → (out-ExprTree t).rest ≡ ts → alone ts (post_of_imp (out-ExprTree t).first) ≡ Some p → Within (marks_expr t) (marks_post p)
   by_rest [] e k =
       let c = imp_narrow (out-ExprTree t).first p k in
       let ms : marks_expr t ≡ mk.place (out-ExprTree t).at ∷ marks_imp (out-ExprTree t).first = marks_expr-is t ∙ (ap (λ ts. mk.place (out-ExprTree t).at ∷ (marks_imp (out-ExprTree t).first ++ mk.behind signs.Equivalent (map marks_imp ts))) e ∙ ap (λ ms. mk.place (out-ExprTree t).at ∷ ms) (append-nil (marks_imp (out-ExprTree t).first))) in
-      let d : depth_expr t ≡ max (depth_imp (out-ExprTree t).first) 0 = depth_expr-is t ∙ ap (λ ts. max (depth_imp (out-ExprTree t).first) (greatest (map depth_imp ts))) e in
-      let l = c.deep in
-      record { within = subst (λ ms. Within ms (marks_post p)) (sym ms) (within_place (out-ExprTree t).at c.within); deep = omega arith }
+      subst (λ ms. Within ms (marks_post p)) (sym ms) (within_place (out-ExprTree t).at c)
   by_rest (x ∷ ts) e k = absurd (none_some k)
 
 abbrev pub wide_expr : ℕ → PostTree → ExprTree
@@ -282,13 +220,10 @@ wide_post_is at p = wide_expr_is at p ∙ ap (λ ms. mk.place at ∷ ms) (wide_i
     (marks_neg-Compare (wide_compare at p) ∙ (wide_compare_is at p ∙ ap (λ ms. mk.place at ∷ ms) (wide_add_is at p ∙ ap (λ ms. mk.place at ∷ ms) (wide_mul_is at p)))))))
 
 -- an expression that is just a post
-pub post_narrows : Narrows expr_shape post_of marks_post depth_post
+pub post_narrows : Narrows expr_shape post_of marks_post
 post_narrows = record {
   known = λ a b h. h;
-  takes = λ a c v i j h. within_takes (expr_narrow a c v).within i j h;
-  begins = λ a c v i j h. within_begins (expr_narrow a c v).within i j h;
-  writes = λ a c v i j h. within_begun (expr_narrow a c v).within i j h;
-  deep = λ a c v. (expr_narrow a c v).deep;
+  within = expr_narrow;
   wide = wide_expr;
   back = expr_back;
   there = λ i c j h. subst (λ ms. Takes ms i j) (sym (wide_post_is (place_at i) c)) (refl, (refl, (refl, (refl, (refl, (refl, (refl, h)))))));

@@ -34,8 +34,8 @@ use Rattle.opl_grammar.specs.declared.look.Look.{Look}
 use Rattle.opl_grammar.specs.declared.look.Look.TheVariants as looks
 use Rattle.opl_grammar.specs.Input.{look}
 use Rattle.opl_grammar.specs.Tables.{mul_sign_of, mul_word_of, mul_op_seen, mul_op_in, direction_of, direction_in, relation_of, relation_in, add_op_of, add_op_in, separator_of, separator_in, aggregate_of, aggregate_in, call_of, call_in, question_of, question_in, schedule_end_of, schedule_end_in, optimum_of, optimum_in, branch_of, branch_in, label_of, label_in}
-use Rattle.opl_parse.proofs.Phrases.{Reads}
-use Rattle.opl_parse.proofs.Tokens.{some_eq, look_sign, look_word, look_of_text, sign_table_reads, word_table_reads, from_sign_table, from_word_table}
+use Rattle.opl_reader_laws.proofs.Phrases.{Reads}
+use Rattle.opl_reader_laws.proofs.Tokens.{some_eq, look_sign, look_word, look_of_text, sign_table_reads, word_table_reads, from_sign_table, from_word_table}
 
 relation_found : (s : Sign) (a : Relation) → relation_of s ≡ Some a → s ≡ relation_sign a
 relation_found signs.Equal a h = ap relation_sign (some_eq h)

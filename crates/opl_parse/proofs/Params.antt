@@ -1,5 +1,5 @@
 -- Parameters, and the lists that stand in brackets.
-use Rattle.std.proofs.Common.{◌≡◌, ℕ, max, ◌<◌, Bool, true, false, ◌⊎◌, inl, inr, List, [], ◌∷◌, ◌++◌, map, Option, Some, None, refl, sym, ap, ◌∙◌, subst, arith, append_assoc}
+use Rattle.std.proofs.Common.{◌≡◌, ℕ, ◌<◌, Bool, true, false, ◌⊎◌, inl, inr, List, [], ◌∷◌, ◌++◌, map, Option, Some, None, refl, sym, ap, ◌∙◌, subst, arith}
 use Rattle.std.specs.Prelude.{◌||◌, is_some}
 use Rattle.opl_token.specs.declared.sign.Sign.TheVariants as signs
 use Rattle.opl_token.specs.declared.token.Kind.{Kind}
@@ -21,37 +21,35 @@ use Rattle.opl_tree.specs.declared.expression.CompareTree.TheViews.{out-GroupSte
 use Rattle.opl_grammar.specs.declared.parts.Braced.{Braced}
 use Rattle.opl_grammar.specs.declared.parts.Braced.TheVariants as braces
 use Rattle.opl_tree.specs.Marks.{Part, joined, separator_sign, marks_name, marks_pattern, marks_add, marks_keyed, marks_params, marks_group_step, marks_group, marks_order}
-use Rattle.opl_tree.specs.Depth.{greatest, depth_pattern, depth_add, depth_keyed, depth_params, depth_group_step, depth_group, depth_order}
 use Rattle.opl_tree.specs.Marks as mk
 use Rattle.opl_tree.proofs.Marks.{marks_pattern-Single, marks_pattern-Record, marks_group_step-of, marks_group_step-is, marks_group-of, marks_keyed-of, marks_params-of, marks_order-is, marks_ordered_params-is}
-use Rattle.opl_tree.proofs.Depth.{depth_pattern-Single, depth_pattern-Record, depth_group_step-of, depth_group-of, depth_keyed-of, depth_params-of, depth_order-is, depth_ordered_params-is}
 use Rattle.opl_grammar.specs.Input.{Input, Parser, one, sign, word, sees_sign, sees_word, is_sign, is_word, is_name, many, behind, after_each, sign_seen, flag}
 use Rattle.opl_grammar.specs.Input as input
 use Rattle.opl_grammar.specs.Tables.{through, separator_of, separator_in, direction_in, is_separator, starts_add}
 use Rattle.opl_grammar.specs.Rules as g
 use Rattle.opl_grammar.specs.Rules.{Rules}
 use Rattle.opl_parse.proofs.Follow.{sign_binds, binds, Ends, sign_ends, word_ends}
-use Rattle.opl_parse.proofs.Forms.{placed, placed_shape, placed_law, maybe, maybe_marks, maybe_depth, maybe_shape, maybe_law, either, by_side, either_shape, either_law, mapped, Made, stricter, stricter_law, plain, plain_law}
-use Rattle.opl_parse.proofs.Led.{led_shape, led_law, each_shape, each_law}
-use Rattle.opl_parse.proofs.Levels.{opened, opened_shape, opened_law}
-use Rattle.opl_parse.proofs.Lists.{many_law}
+use Rattle.opl_reader_laws.proofs.Forms.{placed, placed_shape, placed_law, maybe, maybe_marks, maybe_shape, maybe_law, either, by_side, either_shape, either_law, mapped, Made, stricter, stricter_law, plain, plain_law}
+use Rattle.opl_reader_laws.proofs.Led.{led_shape, led_law, each_shape, each_law}
+use Rattle.opl_reader_laws.proofs.Opened.{opened, opened_shape, opened_law}
+use Rattle.opl_reader_laws.proofs.Many.{many_law}
 use Rattle.opl_parse.proofs.Ops.{separator_part, separator_reads, from_separator, direction_reads}
-use Rattle.opl_parse.proofs.Options.{after_maybe, written_maybe, if_any_maybe, or_true_left, or_true_right}
-use Rattle.opl_parse.proofs.Otherwise.{otherwise_shape, otherwise_law}
-use Rattle.opl_parse.proofs.Outcomes.{and_then_assoc, steps}
-use Rattle.opl_parse.proofs.Phrases.{Shape, Law, one_shape, Reads, one_law, pair, pair_shape, pair_law}
+use Rattle.opl_reader_laws.proofs.Options.{after_maybe, written_maybe, or_true_left, or_true_right}
+use Rattle.opl_reader_laws.proofs.Otherwise.{otherwise_shape, otherwise_law}
+use Rattle.opl_reader_laws.proofs.Outcomes.{and_then_assoc, steps}
+use Rattle.opl_reader_laws.proofs.Phrases.{Shape, Law, one_shape, Reads, one_law, pair, pair_shape, pair_law}
 use Rattle.opl_parse.proofs.Prims.{name_law}
-use Rattle.opl_parse.proofs.Shapes.{First, name_shape, add_shape, expr_shape, starts_pattern, pattern_shape, group_shape, EndsParams, params_shape, ordered_shape, adds_shape, listed_shape, keyed_part_shape, keyed_shape, marks_braced, depth_braced, braced_shape, ends_shape, names_shape, chosen_shape, aggregated_shape, RulesLaw}
+use Rattle.opl_parse.proofs.Shapes.{First, name_shape, add_shape, expr_shape, starts_pattern, pattern_shape, group_shape, EndsParams, params_shape, ordered_shape, adds_shape, listed_shape, keyed_part_shape, keyed_shape, marks_braced, braced_shape, ends_shape, names_shape, chosen_shape, aggregated_shape, RulesLaw}
 use Rattle.opl_parse.proofs.Sums.{mul_law, add_law, ends_law, set_law}
-use Rattle.opl_parse.proofs.Takes.{Written}
-use Rattle.opl_parse.proofs.Tokens.{from_sign, from_word, from_name, sign_table, sign_first, sign_reads, word_reads, sign_shape, sign_law, word_law}
+use Rattle.opl_reader_laws.proofs.Takes.{Written}
+use Rattle.opl_reader_laws.proofs.Tokens.{from_sign, from_word, from_name, sign_table, sign_first, sign_reads, word_reads, sign_shape, sign_law, word_law}
 use Rattle.opl_parse.proofs.Truths.{expr_law}
 use Rattle.opl_tree.specs.declared.expression.GroupSeparator.TheVariants as separators
 
 -- ---- a word or a sign that may be written, and whether it is
 
 abbrev pub flag_shape : (Option Kind → Bool) → Part → Shape Bool
-flag_shape test part = plain (λ b. mk.optional part b) (λ b. 0) (λ k. test k ≡ false) (λ F k. (test k ≡ true) ⊎ F k)
+flag_shape test part = plain (λ b. mk.optional part b) (λ k. test k ≡ false) (λ F k. (test k ≡ true) ⊎ F k)
 
 abbrev flagged : Option (Unit {0}) → Bool
 flagged None = false
@@ -66,7 +64,6 @@ flag_law {n} {table} {part} {first} test r passes = plain_law (maybe_law test (o
   marks = marks;
   view = λ x. tt;
   tag = λ c. refl;
-  depth = deep;
   closes = λ k h. (tt, h);
   begins = λ F k h. h;
 }) (input.flag test (one table)) (input.flag test (one table)) (flag_is test table) (flag_is test table) where
@@ -78,19 +75,11 @@ flag_law {n} {table} {part} {first} test r passes = plain_law (maybe_law test (o
   marks None = refl
   marks (Some u) = refl
 
-  deep : (o : Option (Unit {0})) → 0 ≡ maybe_depth (one_shape (λ u. part) first) o
-  deep None = refl
-  deep (Some u) = refl
-
 -- ---- names and patterns
 
 pub names_law : {n : ℕ} → Law n g.names g.names names_shape
 unfolding g.names
 names_law = pair_law name_law (each_law signs.Comma name_law (λ k h. tt)) (λ x k h. tt)
-
-pub no_depth : {A : Type 0} (xs : List A) → greatest (map (λ (x : A). 0) xs) ≡ 0
-no_depth [] = refl
-no_depth (x ∷ xs) = let e = no_depth xs in omega arith
 
 abbrev PatternParts : Type 0
 PatternParts = (ℕ × ((Unit {0} × (NameTree × List NameTree)) × Unit {0})) ⊎ NameTree
@@ -114,12 +103,8 @@ pattern_made (patterns.Single t) = record { of = inr t; is = refl }
 pattern_made (patterns.Record at t ts) = record { of = inl (at, ((tt, (t, ts)), tt)); is = refl }
 
 pattern_spelt : (c : PatternParts) → marks_pattern (pattern_to c) ≡ pattern_parts.marks c
-pattern_spelt (inl c) = marks_pattern-Record c.0 c.1.0.1.0 c.1.0.1.1 ∙ ap (λ ms. mk.place c.0 ∷ mk.token (mk.sign signs.Less) ∷ ms) (sym (append_assoc (marks_name c.1.0.1.0) (mk.behind signs.Comma (map marks_name c.1.0.1.1)) (mk.token (mk.sign signs.Greater) ∷ [])))
+pattern_spelt (inl c) = marks_pattern-Record c.0 c.1.0.1.0 c.1.0.1.1
 pattern_spelt (inr t) = marks_pattern-Single t
-
-pattern_deep : (c : PatternParts) → depth_pattern (pattern_to c) ≡ pattern_parts.depth c
-pattern_deep (inl c) = let e = depth_pattern-Record c.0 c.1.0.1.0 c.1.0.1.1 in let z = no_depth c.1.0.1.1 in omega arith
-pattern_deep (inr t) = depth_pattern-Single t
 
 pub pattern_law : {n : ℕ} {r s : Rules} → RulesLaw n r s → Law n (g.pattern r) (g.pattern s) pattern_shape
 pattern_law {n} {r} {s} R = plain_law
@@ -129,7 +114,6 @@ pattern_law {n} {r} {s} R = plain_law
       marks = pattern_spelt;
       view = λ x. tt;
       tag = λ c. refl;
-      depth = pattern_deep;
       closes = λ k h. (tt, tt);
       begins = λ F k h. by_side (λ a. or_true_left (is_sign signs.Less k) (is_name k) a) (λ a. or_true_right (is_sign signs.Less k) (is_name k) a) h;
     }) (g.pattern r) (g.pattern s) (pattern_is r) (pattern_is s)
@@ -158,7 +142,6 @@ group_law {n} {r} {s} R = plain_law
       marks = λ c. marks_group-of c.0 c.1.0 c.1.1.0 c.1.1.1.0 c.1.1.1.1.1;
       view = λ x. tt;
       tag = λ c. refl;
-      depth = λ c. let e = depth_group-of c.0 c.1.0 c.1.1.0 c.1.1.1.0 c.1.1.1.1.1 in omega arith;
       closes = λ k h. h;
       begins = λ F k h. by_side (λ a. or_true_left (is_word words.Ordered k) (starts_pattern k) a) (λ a. or_true_right (is_word words.Ordered k) (starts_pattern k) a) h;
     }) (g.group r) (g.group s) (group_is r) (group_is s)
@@ -178,7 +161,7 @@ unfolding g.group_step
 group_step_is r i = simp steps
 
 abbrev group_step_shape : Shape GroupStep
-group_step_shape = plain marks_group_step depth_group_step (Ends 4) (First is_separator)
+group_step_shape = plain marks_group_step (Ends 4) (First is_separator)
 
 group_step_law : {n : ℕ} {r s : Rules} → RulesLaw n r s → Law n (g.group_step r) (g.group_step s) group_step_shape
 group_step_law {n} {r} {s} R = plain_law (pair_law (one_law separator_reads) (group_law R) (λ x k h. tt)) group_step_to (record {
@@ -186,7 +169,6 @@ group_step_law {n} {r} {s} R = plain_law (pair_law (one_law separator_reads) (gr
   marks = λ c. marks_group_step-of c.0 c.1;
   view = λ x. tt;
   tag = λ c. refl;
-  depth = λ c. let e = depth_group_step-of c.0 c.1 in omega arith;
   closes = λ k h. h;
   begins = λ F k h. h;
 }) (g.group_step r) (g.group_step s) (group_step_is r) (group_step_is s)
@@ -239,7 +221,6 @@ params_law {n} {r} {s} R = plain_law
       marks = λ c. marks_params-of c.0 c.1.0 c.1.1.0 c.1.1.1 ∙ ap (λ ms. mk.place c.0 ∷ (marks_group c.1.0 ++ (mk.joined (map marks_group_step c.1.1.0) ++ ms))) (after_maybe (mk.sign signs.Colon) (sign_first signs.Colon) expr_shape c.1.1.1);
       view = λ x. tt;
       tag = λ c. refl;
-      depth = λ c. depth_params-of c.0 c.1.0 c.1.1.0 c.1.1.1 ∙ ap (λ d. max (depth_group c.1.0) (max (greatest (map depth_group_step c.1.1.0)) d)) (if_any_maybe condition_shape c.1.1.1);
       closes = λ k h. let e = h.0 in ((h.0, h.1.1), (omega arith, h.1.0));
       begins = λ F k h. h;
     }) (g.params r) (g.params s) (params_is r) (params_is s)
@@ -257,7 +238,6 @@ chosen_law {n} {r} {s} R = plain_law (pair_law (opened_law (sign_reads signs.Ope
   marks = λ c. refl;
   view = λ x. tt;
   tag = λ c. refl;
-  depth = λ c. omega arith;
   closes = λ k h. tt;
   begins = λ F k h. h;
 }) (g.chosen r) (g.chosen s) (chosen_is r) (chosen_is s)
@@ -279,7 +259,7 @@ unfolding g.order
 order_is r i = simp steps
 
 abbrev order_shape : Shape OrderTree
-order_shape = plain marks_order depth_order (Ends 3) (First (is_word words.Ordered))
+order_shape = plain marks_order (Ends 3) (First (is_word words.Ordered))
 
 order_law : {n : ℕ} {r s : Rules} → RulesLaw n r s → Law n (g.order r) (g.order s) order_shape
 order_law {n} {r} {s} R = plain_law (placed_law (pair_law (word_law words.Ordered) (pair_law (word_law words.By) (pair_law (one_law direction_reads) (add_law R) (λ x k h. tt)) (λ x k h. tt)) (λ x k h. tt))) order_to (record {
@@ -287,7 +267,6 @@ order_law {n} {r} {s} R = plain_law (placed_law (pair_law (word_law words.Ordere
   marks = λ c. marks_order-is (order_to c);
   view = λ x. tt;
   tag = λ c. refl;
-  depth = λ c. let e = depth_order-is (order_to c) in omega arith;
   closes = λ k h. h;
   begins = λ F k h. h;
 }) (g.order r) (g.order s) (order_is r) (order_is s)
@@ -312,7 +291,6 @@ ordered_law {n} {r} {s} R = plain_law (placed_law (pair_law (params_law R) (stri
   marks = λ c. marks_ordered_params-is (ordered_to c) ∙ ap (λ ms. mk.place c.0 ∷ (marks_params c.1.0 ++ ms)) (written_maybe order_shape c.1.1);
   view = λ x. tt;
   tag = λ c. refl;
-  depth = λ c. depth_ordered_params-is (ordered_to c) ∙ ap (λ d. max (depth_params c.1.0) d) (if_any_maybe order_shape c.1.1);
   closes = λ k h. let e = h.0.0 in ((omega arith, h.1), h.0);
   begins = λ F k h. h;
 }) (g.ordered_params r) (g.ordered_params s) (ordered_is r) (ordered_is s)
@@ -343,17 +321,12 @@ listed_spelt : (o : Option (AddTree × List AddTree)) → mk.several signs.Comma
 listed_spelt None = refl
 listed_spelt (Some c) = refl
 
-listed_deep : (o : Option (AddTree × List AddTree)) → greatest (map depth_add (all_of o)) ≡ maybe_depth adds_shape o
-listed_deep None = refl
-listed_deep (Some c) = refl
-
 pub listed_law : {n : ℕ} {r s : Rules} → RulesLaw n r s → Law n (g.listed r) (g.listed s) listed_shape
 listed_law {n} {r} {s} R = plain_law (maybe_law starts_add (adds_law R) (λ F k h. h)) all_of (record {
   made = all_made;
   marks = listed_spelt;
   view = λ x. tt;
   tag = λ c. refl;
-  depth = listed_deep;
   closes = λ k h. h;
   begins = λ F k h. h;
 }) (g.listed r) (g.listed s) (listed_is r) (listed_is s)
@@ -373,7 +346,6 @@ keyed_part_law {n} {r} {s} R = plain_law (pair_law (add_law R) (pair_law (sign_l
   marks = λ c. marks_keyed-of c.0 c.1.1;
   view = λ x. tt;
   tag = λ c. refl;
-  depth = λ c. let e = depth_keyed-of c.0 c.1.1 in omega arith;
   closes = λ k h. h;
   begins = λ F k h. h;
 }) (g.keyed_part r) (g.keyed_part s) (keyed_part_is r) (keyed_part_is s)
@@ -389,10 +361,6 @@ keyed_spelt : (o : Option (KeyedTree × List KeyedTree)) → mk.several signs.Co
 keyed_spelt None = refl
 keyed_spelt (Some c) = refl
 
-keyed_deep : (o : Option (KeyedTree × List KeyedTree)) → greatest (map depth_keyed (all_of o)) ≡ maybe_depth keyed_parts_shape o
-keyed_deep None = refl
-keyed_deep (Some c) = refl
-
 pub keyed_law : {n : ℕ} {r s : Rules} → RulesLaw n r s → Law n (g.keyed r) (g.keyed s) keyed_shape
 keyed_law {n} {r} {s} R = plain_law
     (maybe_law starts_add (pair_law (keyed_part_law R) (each_law signs.Comma (keyed_part_law R) (sign_ends signs.Comma 3 (omega arith))) (λ x k h. comma_meets k h)) (λ F k h. h)) all_of (record {
@@ -400,7 +368,6 @@ keyed_law {n} {r} {s} R = plain_law
       marks = keyed_spelt;
       view = λ x. tt;
       tag = λ c. refl;
-      depth = keyed_deep;
       closes = λ k h. h;
       begins = λ F k h. h;
     }) (g.keyed r) (g.keyed s) (keyed_is r) (keyed_is s)
@@ -455,13 +422,6 @@ braced_spelt (Some c) = by_tail c.0 c.1 where
   by_tail t (inl d) = refl
   by_tail t (inr ts) = refl
 
-braced_deep : (c : BracedParts) → depth_braced (braced_to c) ≡ braced_parts.depth c
-braced_deep None = refl
-braced_deep (Some c) = by_tail c.0 c.1 where
-  by_tail : (t : AddTree) (d : BraceTail) → depth_braced (braced_to (Some (t, d))) ≡ braced_parts.depth (Some (t, d))
-  by_tail t (inl d) = omega arith
-  by_tail t (inr ts) = refl
-
 pub braced_law : {n : ℕ} {r s : Rules} → RulesLaw n r s → Law n (g.braced r) (g.braced s) braced_shape
 braced_law {n} {r} {s} R = plain_law
     (maybe_law starts_add (pair_law (add_law R) (otherwise_law (is_sign signs.Bar) (pair_law (sign_law signs.Bar) (params_law R) (λ x k h. tt)) (each_law signs.Comma (add_law R) (sign_ends signs.Comma 3 (omega arith))) (λ F k h. h) comma_leaves) tail_meets) (λ F k h. h)) braced_to (record {
@@ -469,7 +429,6 @@ braced_law {n} {r} {s} R = plain_law
       marks = braced_spelt;
       view = λ x. tt;
       tag = λ c. refl;
-      depth = braced_deep;
       closes = λ k h. let e = h.0.0.0 in ((h.0.0, ((omega arith, h.0.1), h.1.1)), h.1.0);
       begins = λ F k h. h;
     }) (g.braced r) (g.braced s) (braced_is r) (braced_is s)

@@ -1,5 +1,5 @@
 -- A prim with its suffixes.
-use Rattle.std.proofs.Common.{◌≡◌, ℕ, Bool, true, false, ◌⊎◌, inl, inr, List, [], ◌∷◌, map, Option, refl, sym, ap, ◌∙◌, subst, arith, append_assoc}
+use Rattle.std.proofs.Common.{◌≡◌, ℕ, Bool, true, false, ◌⊎◌, inl, inr, List, [], ◌∷◌, map, Option, refl, sym, ap, ◌∙◌, subst, arith}
 use Rattle.std.specs.Prelude.{◌||◌, is_some}
 use Rattle.opl_token.specs.declared.sign.Sign.TheVariants as signs
 use Rattle.opl_token.specs.declared.token.Kind.{Kind}
@@ -30,25 +30,23 @@ use Rattle.opl_tree.specs.declared.expression.SuffixTree.TheVariants as suffixes
 use Rattle.opl_tree.specs.declared.expression.CompareTree.TheViews.{out-PostTree, roll-PostTree, roll-out-PostTree, out-roll-PostTree, out-SubscriptsTree, roll-SubscriptsTree, roll-out-SubscriptsTree, out-SuffixTree, roll-SuffixTree, roll-out-SuffixTree}
 use Rattle.opl_tree.specs.declared.expression.CompareTree.TheOpen.{SuffixTree-F}
 use Rattle.opl_tree.specs.Marks.{marks_add, marks_suffix, marks_subscripts}
-use Rattle.opl_tree.specs.Depth.{depth_suffix}
 use Rattle.opl_tree.specs.Marks as mk
 use Rattle.opl_tree.proofs.Marks.{marks_suffix-Subscripts, marks_suffix-Field, marks_post-of, marks_subscripts-of, marks_subscripts-is}
-use Rattle.opl_tree.proofs.Depth.{depth_suffix-Subscripts, depth_suffix-Field, depth_post-of, depth_subscripts-of}
 use Rattle.opl_grammar.specs.Input.{Input, Parser, one, sign, sees_sign, is_sign, any_in, many}
 use Rattle.opl_grammar.specs.Tables.{starts_suffix}
 use Rattle.opl_grammar.specs.Just.{alone, name_of_prim, name_of_post}
 use Rattle.opl_grammar.specs.Rules as g
 use Rattle.opl_grammar.specs.Rules.{Rules}
 use Rattle.opl_parse.proofs.Follow.{no_suffix, sign_ends}
-use Rattle.opl_parse.proofs.Forms.{placed, placed_shape, placed_law, either, by_side, either_shape, either_law, mapped, Made, plain, plain_law}
-use Rattle.opl_parse.proofs.Levels.{opened, opened_law}
-use Rattle.opl_parse.proofs.Lists.{many_law}
-use Rattle.opl_parse.proofs.Outcomes.{steps}
-use Rattle.opl_parse.proofs.Phrases.{Shape, Law, Any, one_law, pair, pair_shape, pair_law}
+use Rattle.opl_reader_laws.proofs.Forms.{placed, placed_shape, placed_law, either, by_side, either_shape, either_law, mapped, Made, plain, plain_law}
+use Rattle.opl_reader_laws.proofs.Opened.{opened, opened_law}
+use Rattle.opl_reader_laws.proofs.Many.{many_law}
+use Rattle.opl_reader_laws.proofs.Outcomes.{steps}
+use Rattle.opl_reader_laws.proofs.Phrases.{Shape, Law, Any, one_law, pair, pair_shape, pair_law}
 use Rattle.opl_parse.proofs.Prims.{prim_law}
 use Rattle.opl_parse.proofs.Shapes.{post_shape, suffix_shape, subscripts_shape, RulesLaw}
-use Rattle.opl_parse.proofs.Takes.{Written}
-use Rattle.opl_parse.proofs.Tokens.{from_sign, sign_table, sign_reads, sign_shape, sign_law, any_reads}
+use Rattle.opl_reader_laws.proofs.Takes.{Written}
+use Rattle.opl_reader_laws.proofs.Tokens.{from_sign, sign_table, sign_reads, sign_shape, sign_law, any_reads}
 
 -- ---- fields and subscripts
 
@@ -56,7 +54,7 @@ abbrev pub any_first : Option Kind → Type 0
 any_first k = is_some (any_in k) ≡ true
 
 abbrev field_name_shape : Shape NameTree
-field_name_shape = plain (λ t. mk.place t.at ∷ mk.token (mk.any t.text) ∷ []) (λ t. 0) Any (λ F. any_first)
+field_name_shape = plain (λ t. mk.place t.at ∷ mk.token (mk.any t.text) ∷ []) Any (λ F. any_first)
 
 abbrev field_name_to : ℕ × List ℕ → NameTree
 field_name_to c = record { at = c.0; text = c.1 }
@@ -71,7 +69,6 @@ field_name_law = plain_law (placed_law (one_law any_reads)) field_name_to (recor
   marks = λ c. refl;
   view = λ x. tt;
   tag = λ c. refl;
-  depth = λ c. refl;
   closes = λ k h. tt;
   begins = λ F k h. h;
 }) g.field_name g.field_name field_name_is field_name_is
@@ -91,10 +88,9 @@ subscripts_law {n} {r} {s} R = plain_law
     (placed_law (pair_law (opened_law (sign_reads signs.OpenBracket) R.adds) (sign_law signs.CloseBracket) (λ x k h. (sign_ends signs.CloseBracket 3 (omega arith) k h, from_sign signs.CloseBracket (λ l. sees_sign signs.Comma l ≡ false) k h refl))))
     subscripts_to (record {
       made = λ t. record { of = ((out-SubscriptsTree t).at, ((tt, ((out-SubscriptsTree t).first, (out-SubscriptsTree t).rest)), tt)); is = roll-out-SubscriptsTree t };
-      marks = λ c. marks_subscripts-of c.0 c.1.0.1.0 c.1.0.1.1 ∙ ap (λ ms. mk.place c.0 ∷ mk.token (mk.sign signs.OpenBracket) ∷ ms) (sym (append_assoc (marks_add c.1.0.1.0) (mk.behind signs.Comma (map marks_add c.1.0.1.1)) (mk.token (mk.sign signs.CloseBracket) ∷ [])));
+      marks = λ c. marks_subscripts-of c.0 c.1.0.1.0 c.1.0.1.1;
       view = λ x. tt;
       tag = λ c. refl;
-      depth = λ c. let e = depth_subscripts-of c.0 c.1.0.1.0 c.1.0.1.1 in omega arith;
       closes = λ k h. tt;
       begins = λ F k h. h;
     }) (g.subscripts r) (g.subscripts s) (subscripts_is r) (subscripts_is s)
@@ -132,10 +128,6 @@ suffix_spelt : (c : SuffixParts) → marks_suffix (suffix_to c) ≡ suffix_parts
 suffix_spelt (inl t) = marks_suffix-Subscripts t
 suffix_spelt (inr c) = marks_suffix-Field c.0 c.1.1
 
-suffix_deep : (c : SuffixParts) → depth_suffix (suffix_to c) ≡ suffix_parts.depth c
-suffix_deep (inl t) = depth_suffix-Subscripts t
-suffix_deep (inr c) = let e = depth_suffix-Field c.0 c.1.1 in omega arith
-
 pub suffix_law : {n : ℕ} {r s : Rules} → RulesLaw n r s → Law n (g.suffix r) (g.suffix s) suffix_shape
 suffix_law {n} {r} {s} R = plain_law
     (either_law (is_sign signs.OpenBracket) (subscripts_law R) (placed_law (pair_law (sign_law signs.Dot) field_name_law (λ x k h. tt))) (λ F k h. h) (λ F k h. from_sign signs.Dot (λ l. sees_sign signs.OpenBracket l ≡ false) k h refl))
@@ -144,7 +136,6 @@ suffix_law {n} {r} {s} R = plain_law
       marks = suffix_spelt;
       view = λ x. tt;
       tag = λ c. refl;
-      depth = suffix_deep;
       closes = λ k h. (tt, tt);
       begins = λ F k h. by_side (λ a. from_sign signs.OpenBracket (λ l. (sees_sign signs.OpenBracket l || sees_sign signs.Dot l) ≡ true) k a refl) (λ a. from_sign signs.Dot (λ l. (sees_sign signs.OpenBracket l || sees_sign signs.Dot l) ≡ true) k a refl) h;
     }) (g.suffix r) (g.suffix s) (suffix_is r) (suffix_is s)
@@ -188,7 +179,6 @@ post_law {n} {r} {s} R = plain_law
       marks = λ c. marks_post-of c.0 c.1.0 c.1.1;
       view = λ x. alone_kind x.1 x.0;
       tag = λ c. ap is_some (name_of_post_is c.0 c.1.0 c.1.1) ∙ alone_some (λ (t : SuffixTree). tt) c.1.1 (name_of_prim c.1.0);
-      depth = λ c. depth_post-of c.0 c.1.0 c.1.1;
       closes = λ k h. (tt, no_suffix k h);
       begins = λ F k h. h;
     }) (g.post r) (g.post s) (post_is r) (post_is s)

@@ -1,5 +1,5 @@
 -- What an expression begins with.
-use Rattle.std.proofs.Common.{◌≡◌, ℕ, ℤ, suc, Bool, true, false, cond, ◌⊎◌, inl, inr, List, [], ◌∷◌, ◌++◌, map, refl, sym, ap, ◌∙◌, subst, arith, append_assoc}
+use Rattle.std.proofs.Common.{◌≡◌, ℕ, ℤ, Bool, true, false, cond, ◌⊎◌, inl, inr, List, [], ◌∷◌, ◌++◌, refl, sym, ap, ◌∙◌, subst, arith}
 use Rattle.std.specs.Prelude.{is_some}
 use Rattle.opl_token.specs.declared.sign.Sign.TheVariants as signs
 use Rattle.opl_tree.specs.declared.expression.NameTree.{NameTree}
@@ -18,23 +18,21 @@ use Rattle.opl_grammar.specs.declared.parts.Braced.{Braced}
 use Rattle.opl_grammar.specs.declared.parts.Braced.TheVariants as braces
 use Rattle.opl_grammar.specs.declared.look.Look.TheVariants as looks
 use Rattle.opl_tree.specs.Marks.{call_word, question_word, marks_add, marks_prim, marks_params}
-use Rattle.opl_tree.specs.Depth.{depth_prim}
 use Rattle.opl_tree.specs.Marks as mk
 use Rattle.opl_tree.proofs.Marks.{marks_name-is, marks_prim-Number, marks_prim-Named, marks_prim-Bracket, marks_prim-Record, marks_prim-Listed, marks_prim-Described, marks_prim-Array, marks_prim-KeyedArray, marks_prim-Call, marks_prim-AllDifferent, marks_prim-Question}
-use Rattle.opl_tree.proofs.Depth.{depth_prim-Number, depth_prim-Named, depth_prim-Bracket, depth_prim-Record, depth_prim-Listed, depth_prim-Described, depth_prim-Array, depth_prim-KeyedArray, depth_prim-Call, depth_prim-AllDifferent, depth_prim-Question}
 use Rattle.opl_grammar.specs.Input.{Input, Outcome, Parser, kind, one, sign, word, sees_sign, sees_word, sees_name, sees_number, is_sign, is_word, is_name, is_number, name_in, number_in, sign_seen, word_seen}
 use Rattle.opl_grammar.specs.Tables.{through, call_of, call_in, question_in, separator_of, is_call, sign_starts, word_starts_add}
 use Rattle.opl_grammar.specs.Just.{OnePrim, name_at_prim, name_of_prim}
 use Rattle.opl_grammar.specs.Rules as g
 use Rattle.opl_grammar.specs.Rules.{Rules}
 use Rattle.opl_parse.proofs.Follow.{sign_ends}
-use Rattle.opl_parse.proofs.Forms.{placed, placed_shape, placed_law, either, by_side, either_shape, either_law, mapped, Made, plain_law}
-use Rattle.opl_parse.proofs.Levels.{opened, opened_shape, opened_law}
+use Rattle.opl_reader_laws.proofs.Forms.{placed, placed_shape, placed_law, either, by_side, either_shape, either_law, mapped, Made, plain_law}
+use Rattle.opl_reader_laws.proofs.Opened.{opened, opened_shape, opened_law}
 use Rattle.opl_parse.proofs.Ops.{call_part, call_first, call_reads, from_call, question_part, question_first, question_reads, from_question}
-use Rattle.opl_parse.proofs.Outcomes.{steps}
-use Rattle.opl_parse.proofs.Phrases.{Shape, Law, one_shape, one_law, pair, pair_shape, pair_law}
-use Rattle.opl_parse.proofs.Shapes.{prim_sign, prim_word, name_shape, prim_shape, asked_shape, add_shape, expr_shape, adds_shape, listed_shape, keyed_shape, marks_braced, depth_braced, braced_shape, RulesLaw}
-use Rattle.opl_parse.proofs.Tokens.{from_sign, from_word, from_name, from_number, sign_table, sign_first, sign_reads, sign_shape, word_shape, sign_law, word_law, name_reads, number_reads}
+use Rattle.opl_reader_laws.proofs.Outcomes.{steps}
+use Rattle.opl_reader_laws.proofs.Phrases.{Shape, Law, one_shape, one_law, pair, pair_shape, pair_law}
+use Rattle.opl_parse.proofs.Shapes.{prim_sign, prim_word, name_shape, prim_shape, asked_shape, add_shape, expr_shape, adds_shape, listed_shape, keyed_shape, marks_braced, braced_shape, RulesLaw}
+use Rattle.opl_reader_laws.proofs.Tokens.{from_sign, from_word, from_name, from_number, sign_table, sign_first, sign_reads, sign_shape, word_shape, sign_law, word_law, name_reads, number_reads}
 use Rattle.opl_grammar.specs.Tables as tables
 use Rattle.opl_grammar.specs.Just.{OnePrim}
 use Rattle.opl_tree.specs.declared.expression.CallOp.TheVariants as call_ops
@@ -55,7 +53,6 @@ name_law = plain_law (placed_law (one_law name_reads)) name_to (record {
   marks = λ c. marks_name-is (name_to c);
   view = λ x. tt;
   tag = λ c. refl;
-  depth = λ c. refl;
   closes = λ k h. tt;
   begins = λ F k h. h;
 }) g.name g.name name_is name_is
@@ -72,7 +69,6 @@ asked_law {n} {r} {s} R = plain_law (pair_law (opened_law (sign_reads signs.Open
   marks = λ c. refl;
   view = λ x. tt;
   tag = λ c. refl;
-  depth = λ c. omega arith;
   closes = λ k h. tt;
   begins = λ F k h. h;
 }) (g.asked r) (g.asked s) (asked_is r) (asked_is s)
@@ -293,37 +289,21 @@ prim_layer_made (PrimTree-F.Question at op t) = record { of = inr (inr (inr (inr
 prim_made : (t : PrimTree) → Made prim_to t
 prim_made t = subst (Made prim_to) (roll-out-PrimTree t) (prim_layer_made (out-PrimTree t))
 
-braces_marks : (at : ℕ) (b : Braced) → marks_prim (g.set_prim_at at b) ≡ mk.place at ∷ mk.token (mk.sign signs.OpenBrace) ∷ (marks_braced b ++ mk.token (mk.sign signs.CloseBrace) ∷ [])
+braces_marks : (at : ℕ) (b : Braced) → marks_prim (g.set_prim_at at b) ≡ mk.place at ∷ (mk.nested (mk.sign signs.OpenBrace) (marks_braced b) ++ mk.token (mk.sign signs.CloseBrace) ∷ [])
 braces_marks at (braces.Listed ts) = marks_prim-Listed at ts
-braces_marks at (braces.Described t u) = marks_prim-Described at t u ∙ ap (λ ms. mk.place at ∷ mk.token (mk.sign signs.OpenBrace) ∷ ms) (sym (append_assoc (marks_add t) (mk.token (mk.sign signs.Bar) ∷ marks_params u) (mk.token (mk.sign signs.CloseBrace) ∷ [])))
-
-braces_depth : (at : ℕ) (b : Braced) → depth_prim (g.set_prim_at at b) ≡ suc (depth_braced b)
-braces_depth at (braces.Listed ts) = let e = depth_prim-Listed at ts in omega arith
-braces_depth at (braces.Described t u) = let e = depth_prim-Described at t u in omega arith
+braces_marks at (braces.Described t u) = marks_prim-Described at t u
 
 prim_spelt : (c : PrimParts) → marks_prim (prim_to c) ≡ prim_parts.marks c
 prim_spelt (inl t) = marks_prim-Named t
 prim_spelt (inr (inl c)) = marks_prim-Number c.0 c.1
 prim_spelt (inr (inr (inl c))) = marks_prim-Bracket c.0 c.1.0.1
-prim_spelt (inr (inr (inr (inl c)))) = marks_prim-Record c.0 c.1.0.1.0 c.1.0.1.1 ∙ ap (λ ms. mk.place c.0 ∷ mk.token (mk.sign signs.Less) ∷ ms) (sym (append_assoc (marks_add c.1.0.1.0) (mk.behind signs.Comma (map marks_add c.1.0.1.1)) (mk.token (mk.sign signs.Greater) ∷ [])))
+prim_spelt (inr (inr (inr (inl c)))) = marks_prim-Record c.0 c.1.0.1.0 c.1.0.1.1
 prim_spelt (inr (inr (inr (inr (inl c))))) = braces_marks c.0 c.1.0.1
 prim_spelt (inr (inr (inr (inr (inr (inl c)))))) = marks_prim-Array c.0 c.1.0.1
 prim_spelt (inr (inr (inr (inr (inr (inr (inl c))))))) = marks_prim-KeyedArray c.0 c.1.0.1
 prim_spelt (inr (inr (inr (inr (inr (inr (inr (inl c)))))))) = marks_prim-AllDifferent c.0 c.1.1.0.1
 prim_spelt (inr (inr (inr (inr (inr (inr (inr (inr (inl c))))))))) = marks_prim-Call c.0 c.1.0 c.1.1.0.1
 prim_spelt (inr (inr (inr (inr (inr (inr (inr (inr (inr c))))))))) = marks_prim-Question c.0 c.1.0 c.1.1
-
-prim_deep : (c : PrimParts) → depth_prim (prim_to c) ≡ prim_parts.depth c
-prim_deep (inl t) = let e = depth_prim-Named t in omega arith
-prim_deep (inr (inl c)) = let e = depth_prim-Number c.0 c.1 in omega arith
-prim_deep (inr (inr (inl c))) = let e = depth_prim-Bracket c.0 c.1.0.1 in omega arith
-prim_deep (inr (inr (inr (inl c)))) = let e = depth_prim-Record c.0 c.1.0.1.0 c.1.0.1.1 in omega arith
-prim_deep (inr (inr (inr (inr (inl c))))) = let e = braces_depth c.0 c.1.0.1 in omega arith
-prim_deep (inr (inr (inr (inr (inr (inl c)))))) = let e = depth_prim-Array c.0 c.1.0.1 in omega arith
-prim_deep (inr (inr (inr (inr (inr (inr (inl c))))))) = let e = depth_prim-KeyedArray c.0 c.1.0.1 in omega arith
-prim_deep (inr (inr (inr (inr (inr (inr (inr (inl c)))))))) = let e = depth_prim-AllDifferent c.0 c.1.1.0.1 in omega arith
-prim_deep (inr (inr (inr (inr (inr (inr (inr (inr (inl c))))))))) = let e = depth_prim-Call c.0 c.1.0 c.1.1.0.1 in omega arith
-prim_deep (inr (inr (inr (inr (inr (inr (inr (inr (inr c))))))))) = let e = depth_prim-Question c.0 c.1.0 c.1.1 in omega arith
 
 -- the name of a prim, by its layer
 name_layer : (x : OnePrim) → name_of_prim (roll-PrimTree x) ≡ name_at_prim x
@@ -356,7 +336,6 @@ prim_law {n} {r} {s} R = plain_law (prim_parts_law R) prim_to (record {
   marks = prim_spelt;
   view = prim_view;
   tag = prim_tag;
-  depth = prim_deep;
   closes = λ k h. (tt, (tt, (tt, (tt, (tt, (tt, (tt, (tt, (tt, tt)))))))));
   begins = λ F k h. (by_side (λ a. from_name (λ l. tables.begins prim_sign prim_word l ≡ true) k a refl) (by_side (λ a. from_number (λ l. tables.begins prim_sign prim_word l ≡ true) k a refl) (by_side (λ a. from_sign signs.OpenParenthesis (λ l. tables.begins prim_sign prim_word l ≡ true) k a refl) (by_side (λ a. from_sign signs.Less (λ l. tables.begins prim_sign prim_word l ≡ true) k a refl) (by_side (λ a. from_sign signs.OpenBrace (λ l. tables.begins prim_sign prim_word l ≡ true) k a refl) (by_side (λ a. from_sign signs.OpenBracket (λ l. tables.begins prim_sign prim_word l ≡ true) k a refl) (by_side (λ a. from_sign signs.OpenAssociation (λ l. tables.begins prim_sign prim_word l ≡ true) k a refl) (by_side (λ a. from_word words.AllDifferent (λ l. tables.begins prim_sign prim_word l ≡ true) k a refl) (by_side (λ a. from_call (λ l. tables.begins prim_sign prim_word l ≡ true) k a (λ a. call_starts a)) (λ a. from_question (λ l. tables.begins prim_sign prim_word l ≡ true) k a (λ a. question_starts a))))))))))) h;
 }) (g.prim r) (g.prim s) (prim_is r) (prim_is s)

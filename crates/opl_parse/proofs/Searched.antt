@@ -1,5 +1,5 @@
 -- The search section and its statements.
-use Rattle.std.proofs.Common.{◌≡◌, ℕ, zero, suc, max, ◌<◌, ◌≤◌, true, false, cond, ◌⊎◌, inl, inr, List, [], ◌∷◌, ◌++◌, map, Option, Some, None, Ok, refl, sym, ap, ◌∙◌, subst, arith, append_assoc, pos}
+use Rattle.std.proofs.Common.{◌≡◌, ℕ, zero, suc, ◌<◌, ◌≤◌, true, false, cond, ◌⊎◌, inl, inr, List, [], ◌∷◌, ◌++◌, map, Option, Some, None, Ok, refl, sym, ap, ◌∙◌, subst, arith, append_assoc, pos}
 use Rattle.std.specs.Prelude.{is_some}
 use Rattle.std.specs.Option.{option_map}
 use Rattle.opl_token.specs.declared.sign.Sign.TheVariants as signs
@@ -22,10 +22,8 @@ use Rattle.opl_tree.specs.declared.search.StatementTree.TheOpen.{StatementTree-F
 use Rattle.opl_grammar.specs.declared.look.Look.{Look}
 use Rattle.opl_grammar.specs.declared.look.Look.TheVariants as looks
 use Rattle.opl_tree.specs.Marks.{branch_word, label_word, marks_expr, marks_post, marks_ordered_params, marks_statement, marks_statements, marks_search_block, marks_search}
-use Rattle.opl_tree.specs.Depth.{greatest, if_any, depth_expr, depth_post, depth_ordered_params, depth_statement, depth_statements, depth_search_block, depth_search}
 use Rattle.opl_tree.specs.Marks as mk
 use Rattle.opl_tree.proofs.Marks.{marks_statement-Block, marks_statement-Try, marks_statement-Branch, marks_statement-Once, marks_statement-While, marks_statement-If, marks_statement-Label, marks_statement-Precedes, marks_statement-Constraint, marks_statements-Empty, marks_statements-Several, marks_search_block-of, marks_search-is}
-use Rattle.opl_tree.proofs.Depth.{depth_statement-Block, depth_statement-Try, depth_statement-Branch, depth_statement-Once, depth_statement-While, depth_statement-If, depth_statement-Label, depth_statement-Precedes, depth_statement-Constraint, depth_statements-Empty, depth_statements-Several, depth_search_block-of, depth_search-is}
 use Rattle.opl_grammar.specs.Input.{Input, Outcome, Parser, kind, and_then, pure, one, sign, word, look, sees_sign, sees_word, is_sign, is_word, behind, after_each, word_seen}
 use Rattle.opl_grammar.specs.Input.{place as place_at}
 use Rattle.opl_grammar.specs.Tables.{through, branch_of, branch_in, label_of, label_in, is_branch, is_label, sign_starts, word_starts_expr, word_starts_statement, starts_statement}
@@ -34,32 +32,33 @@ use Rattle.opl_grammar.specs.Rules as g
 use Rattle.opl_grammar.specs.Search as gs
 use Rattle.opl_grammar.specs.Rules.{Rules}
 use Rattle.opl_grammar.specs.Search.{StatementRules}
-use Rattle.opl_parse.proofs.Behind.{Tail, tail_shape, behind_law}
+use Rattle.opl_reader_laws.proofs.Behind.{Tail, tail_shape, behind_law}
 use Rattle.opl_parse.proofs.Closing.{rules_law}
 use Rattle.opl_parse.proofs.Examples.{pair_samples, one_post, zeros_take, one_expr_is, expr_sample, ordered_sample}
 use Rattle.opl_parse.proofs.Follow.{word_binds, Ends, no_word, sign_ends, word_ends}
-use Rattle.opl_parse.proofs.Forms.{placed, placed_shape, placed_law, maybe, maybe_shape, maybe_law, either, by_side, either_shape, either_law, mapped, Made, plain, plain_law}
-use Rattle.opl_parse.proofs.Guarded.{guarded, guarded_shape, Bare, guarded_law}
-use Rattle.opl_parse.proofs.Led.{led_shape, led_law, each_law}
-use Rattle.opl_parse.proofs.Levels.{Entry, opened, opened_shape, opened_law}
-use Rattle.opl_parse.proofs.Looked.{by_view, look_at, looked, looked_shape, looked_law}
+use Rattle.opl_reader_laws.proofs.Forms.{placed, placed_shape, placed_law, maybe, maybe_shape, maybe_law, either, by_side, either_shape, either_law, mapped, Made, plain, plain_law}
+use Rattle.opl_reader_laws.proofs.Guarded.{guarded, guarded_shape, Bare, guarded_law}
+use Rattle.opl_reader_laws.proofs.Led.{led_shape, led_law, each_law}
+use Rattle.opl_reader_laws.proofs.Opened.{Entry, opened, opened_shape, opened_law}
+use Rattle.opl_reader_laws.proofs.Looked.{by_view, look_at, looked, looked_shape, looked_law}
 use Rattle.opl_parse.proofs.Narrow.{wide_expr, post_narrows}
 use Rattle.opl_parse.proofs.Ops.{branch_part, branch_first, branch_reads, from_branch, label_part, label_first, label_reads, from_label}
-use Rattle.opl_parse.proofs.Options.{after_maybe, if_any_maybe, then_same}
-use Rattle.opl_parse.proofs.Outcomes.{and_then_assoc, steps}
+use Rattle.opl_reader_laws.proofs.Options.{after_maybe, then_same}
+use Rattle.opl_reader_laws.proofs.Outcomes.{and_then_assoc, steps}
 use Rattle.opl_parse.proofs.Params.{params_close}
-use Rattle.opl_parse.proofs.Phrases.{Shape, Samples, Law, Any, one_shape, one_law, pair, pair_shape, pair_law}
+use Rattle.opl_reader_laws.proofs.Phrases.{Shape, Samples, Law, Any, one_shape, one_law, pair, pair_shape, pair_law}
 use Rattle.opl_parse.proofs.Posts.{post_law}
 use Rattle.opl_parse.proofs.Prims.{asked_law}
 use Rattle.opl_parse.proofs.Shapes.{starts_expr, First, asked_shape, expr_shape, RulesLaw}
-use Rattle.opl_parse.proofs.Sided.{with_place, sided, sided_shape, sided_law}
+use Rattle.opl_reader_laws.proofs.Sided.{with_place, sided, sided_shape, sided_law}
 use Rattle.opl_parse.proofs.Stated.{Later, later_read, later_shape, no_first, unguarded, guard_passes, later_same}
-use Rattle.opl_parse.proofs.Takes.{Takes, takes_join}
-use Rattle.opl_parse.proofs.Tokens.{from_sign, from_word, is_word_same, sign_table, word_table, sign_first, word_first, sign_reads, word_reads, sign_law, word_law}
+use Rattle.opl_reader_laws.proofs.Takes.{Takes, takes_join}
+use Rattle.opl_reader_laws.proofs.Tokens.{from_sign, from_word, is_word_same, sign_table, word_table, sign_first, word_first, sign_reads, word_reads, sign_law, word_law}
 use Rattle.opl_parse.proofs.Truths.{expr_law}
 use Rattle.opl_grammar.specs.Tables as tables
 use Rattle.opl_tree.specs.Marks.{Mark}
-use Rattle.opl_parse.proofs.Takes.{before as before_part}
+use Rattle.opl_reader_laws.proofs.Levels.{takes_raised}
+use Rattle.opl_reader_laws.proofs.Takes.{before as before_part}
 use Rattle.opl_tree.specs.declared.search.BranchOp.TheVariants as branch_ops
 use Rattle.opl_tree.specs.declared.search.LabelOp.TheVariants as label_ops
 
@@ -76,7 +75,7 @@ abbrev posted_read : Rules → Parser Posted
 posted_read r = sided (looked (g.expr r) (is_word words.Precedes) post_of (later_read r))
 
 abbrev posted_shape : Shape Posted
-posted_shape = sided_shape (looked_shape (is_word words.Precedes) expr_shape marks_post depth_post later_shape (First starts_expr Any))
+posted_shape = sided_shape (looked_shape (is_word words.Precedes) expr_shape marks_post later_shape (First starts_expr Any))
 
 posted_by : (r : Rules) (u : StatementRules) (at : ℕ) (t : ExprTree) (o : Option PostTree) (j : Input) →
     cond {A = Outcome StatementTree} (is_word words.Precedes (kind j)) (gs.posted_precedes r u at o j) (Ok (statements_are.Constraint t, j))
@@ -107,36 +106,34 @@ posted_closes k h = (omega arith, (omega arith, no_word words.Precedes 10 (λ e.
 -- ---- the shapes of statements
 
 abbrev pub statement_shape : Shape StatementTree
-statement_shape = plain marks_statement depth_statement (Ends 10) (First starts_statement)
+statement_shape = plain marks_statement (Ends 10) (First starts_statement)
 
 abbrev pub EndsStatements : Option Kind → Type 0
 EndsStatements k = Ends 10 k × ((starts_statement k ≡ false) × (is_sign signs.Semicolon k ≡ false))
 
 abbrev pub statements_shape : Shape StatementsTree
-statements_shape = plain marks_statements depth_statements EndsStatements (λ F k. (starts_statement k ≡ true) ⊎ F k)
+statements_shape = plain marks_statements EndsStatements (λ F k. (starts_statement k ≡ true) ⊎ F k)
 
 abbrev pub Alternatives : Type 0
 Alternatives = StatementsTree × StatementsTree × List StatementsTree
 
 abbrev pub alternatives_shape : Shape Alternatives
-alternatives_shape = plain (λ c. marks_statements c.0 ++ mk.token (mk.sign signs.Bar) ∷ (marks_statements c.1 ++ (mk.behind signs.Bar (map marks_statements c.2) ++ mk.token (mk.word words.EndTry) ∷ [])))
-    (λ c. max (depth_statements c.0) (max (depth_statements c.1) (greatest (map depth_statements c.2)))) Any (λ F k. (starts_statement k ≡ true) ⊎ (is_sign signs.Bar k ≡ true))
+alternatives_shape = plain (λ c. marks_statements c.0 ++ mk.token (mk.sign signs.Bar) ∷ (marks_statements c.1 ++ (mk.behind signs.Bar (map marks_statements c.2) ++ mk.token (mk.word words.EndTry) ∷ []))) Any (λ F k. (starts_statement k ≡ true) ⊎ (is_sign signs.Bar k ≡ true))
 
 abbrev pub ordered_chosen_shape : Shape OrderedParamsTree
-ordered_chosen_shape = plain (λ t. mk.token (mk.sign signs.OpenParenthesis) ∷ (marks_ordered_params t ++ mk.token (mk.sign signs.CloseParenthesis) ∷ [])) (λ t. suc (depth_ordered_params t)) Any (First (is_sign signs.OpenParenthesis))
+ordered_chosen_shape = plain (λ t. mk.nested (mk.sign signs.OpenParenthesis) (marks_ordered_params t) ++ mk.token (mk.sign signs.CloseParenthesis) ∷ []) Any (First (is_sign signs.OpenParenthesis))
 
 abbrev pub branch_shape : Shape (OrderedParamsTree × StatementTree)
 branch_shape = pair_shape ordered_chosen_shape statement_shape
 
 abbrev pub repeated_shape : Shape (ExprTree × StatementTree)
-repeated_shape = plain (λ c. marks_expr c.0 ++ mk.token (mk.word words.Do) ∷ marks_statement c.1) (λ c. max (depth_expr c.0) (depth_statement c.1)) (Ends 10) (First starts_expr)
+repeated_shape = plain (λ c. marks_expr c.0 ++ mk.token (mk.word words.Do) ∷ marks_statement c.1) (Ends 10) (First starts_expr)
 
 abbrev pub Choice : Type 0
 Choice = ExprTree × StatementsTree × Option StatementsTree
 
 abbrev pub choice_shape : Shape Choice
-choice_shape = plain (λ c. marks_expr c.0 ++ mk.token (mk.word words.Then) ∷ (marks_statements c.1 ++ (mk.after (mk.word words.Else) (option_map marks_statements c.2) ++ mk.token (mk.word words.EndIf) ∷ [])))
-    (λ c. max (depth_expr c.0) (max (depth_statements c.1) (if_any (option_map depth_statements c.2)))) Any (First starts_expr)
+choice_shape = plain (λ c. marks_expr c.0 ++ mk.token (mk.word words.Then) ∷ (marks_statements c.1 ++ (mk.after (mk.word words.Else) (option_map marks_statements c.2) ++ mk.token (mk.word words.EndIf) ∷ []))) Any (First starts_expr)
 
 pub record StatementLaws (n : ℕ) (u v : StatementRules) : Type 1 where
   pub statements : Entry n u.statements v.statements statements_shape
@@ -149,7 +146,7 @@ pub record StatementLaws (n : ℕ) (u v : StatementRules) : Type 1 where
 -- ---- blocks
 
 abbrev pub search_block_shape : Shape SearchBlockTree
-search_block_shape = plain marks_search_block depth_search_block Any (First (is_sign signs.OpenBrace))
+search_block_shape = plain marks_search_block Any (First (is_sign signs.OpenBrace))
 
 abbrev search_block_to : ℕ × ((Unit {0} × StatementsTree) × Unit {0}) → SearchBlockTree
 search_block_to c = roll-SearchBlockTree (record { at = c.0; statements = c.1.0.1 })
@@ -167,7 +164,6 @@ search_block_law {n} r s {u} {v} L = plain_law (placed_law (pair_law (opened_law
   marks = λ c. marks_search_block-of c.0 c.1.0.1;
   view = λ x. tt;
   tag = λ c. refl;
-  depth = λ c. let e = depth_search_block-of c.0 c.1.0.1 in omega arith;
   closes = λ k h. tt;
   begins = λ F k h. h;
 }) (gs.search_block r u) (gs.search_block s v) (search_block_is r u) (search_block_is s v)
@@ -387,32 +383,19 @@ posted_spelt : (c : Posted) → marks_statement (posted_to c) ≡ mk.unbraced �
 posted_spelt (inl t) = marks_statement-Constraint t
 posted_spelt (inr c) = marks_statement-Precedes c.0 c.1.0 c.1.1.1
 
-posted_deep : (c : Posted) → depth_statement (posted_to c) ≡ posted_shape.depth c
-posted_deep (inl t) = depth_statement-Constraint t
-posted_deep (inr c) = let e = depth_statement-Precedes c.0 c.1.0 c.1.1.1 in omega arith
-
-try_spelt : (at : ℕ) (c : Alternatives) → marks_statement (statements_are.Try at c.0 c.1 c.2) ≡ mk.place at ∷ mk.token (mk.word words.Try) ∷ alternatives_shape.marks c
+try_spelt : (at : ℕ) (c : Alternatives) → marks_statement (statements_are.Try at c.0 c.1 c.2) ≡ mk.place at ∷ mk.nested (mk.word words.Try) (alternatives_shape.marks c)
 try_spelt at c = marks_statement-Try at c.0 c.1 c.2
 
 statement_spelt : (c : StatementParts) → marks_statement (statement_to c) ≡ statement_parts.marks c
 statement_spelt (inl t) = marks_statement-Block t
 statement_spelt (inr (inl c)) = try_spelt c.0 c.1.1
-statement_spelt (inr (inr (inl c))) = marks_statement-Branch c.0 c.1.0 c.1.1.0 c.1.1.1 ∙ ap (λ ms. mk.place c.0 ∷ mk.token (branch_part c.1.0) ∷ mk.token (mk.sign signs.OpenParenthesis) ∷ ms) (sym (append_assoc (marks_ordered_params c.1.1.0) (mk.token (mk.sign signs.CloseParenthesis) ∷ []) (marks_statement c.1.1.1)))
+statement_spelt (inr (inr (inl c))) = marks_statement-Branch c.0 c.1.0 c.1.1.0 c.1.1.1
+    ∙ ap (λ ms. mk.place c.0 ∷ mk.nested (branch_part c.1.0) ms) (sym (append_assoc (mk.nested (mk.sign signs.OpenParenthesis) (marks_ordered_params c.1.1.0)) (mk.token (mk.sign signs.CloseParenthesis) ∷ []) (marks_statement c.1.1.1)))
 statement_spelt (inr (inr (inr (inl c)))) = marks_statement-Once c.0 c.1.1
 statement_spelt (inr (inr (inr (inr (inl c))))) = marks_statement-While c.0 c.1.1.0 c.1.1.1
 statement_spelt (inr (inr (inr (inr (inr (inl c)))))) = marks_statement-If c.0 c.1.1.0 c.1.1.1 c.1.1.2
 statement_spelt (inr (inr (inr (inr (inr (inr (inl c))))))) = marks_statement-Label c.0 c.1.0 c.1.1
 statement_spelt (inr (inr (inr (inr (inr (inr (inr c))))))) = posted_spelt c
-
-statement_deep : (c : StatementParts) → depth_statement (statement_to c) ≡ statement_parts.depth c
-statement_deep (inl t) = depth_statement-Block t
-statement_deep (inr (inl c)) = let e = depth_statement-Try c.0 c.1.1.0 c.1.1.1 c.1.1.2 in omega arith
-statement_deep (inr (inr (inl c))) = let e = depth_statement-Branch c.0 c.1.0 c.1.1.0 c.1.1.1 in omega arith
-statement_deep (inr (inr (inr (inl c)))) = let e = depth_statement-Once c.0 c.1.1 in omega arith
-statement_deep (inr (inr (inr (inr (inl c))))) = let e = depth_statement-While c.0 c.1.1.0 c.1.1.1 in omega arith
-statement_deep (inr (inr (inr (inr (inr (inl c)))))) = let e = depth_statement-If c.0 c.1.1.0 c.1.1.1 c.1.1.2 in omega arith
-statement_deep (inr (inr (inr (inr (inr (inr (inl c))))))) = let e = depth_statement-Label c.0 c.1.0 c.1.1 in omega arith
-statement_deep (inr (inr (inr (inr (inr (inr (inr c))))))) = posted_deep c
 
 pub statement_law : {n : ℕ} {r s : Rules} {u v : StatementRules} → RulesLaw n r s → StatementLaws n u v → Law n (gs.statement r u) (gs.statement s v) statement_shape
 statement_law {n} {r} {s} {u} {v} R L = plain_law (either_law (is_sign signs.OpenBrace) (search_block_law r s L) (either_law (is_word words.Try) (placed_law (opened_law (word_reads words.Try) L.alternatives)) (either_law is_branch (placed_law (opened_law branch_reads L.branch)) (either_law (is_word words.Once) (placed_law (opened_law (word_reads words.Once) L.statement)) (either_law (is_word words.While) (placed_law (opened_law (word_reads words.While) L.repeated)) (either_law (is_word words.If) (placed_law (opened_law (word_reads words.If) L.choice)) (either_law is_label (placed_law (pair_law (one_law label_reads) (asked_law R) (λ x k h. tt))) (posted_law R)
@@ -427,7 +410,6 @@ statement_law {n} {r} {s} {u} {v} R L = plain_law (either_law (is_sign signs.Ope
       marks = statement_spelt;
       view = λ x. tt;
       tag = λ c. refl;
-      depth = statement_deep;
       closes = λ k h. (tt, (tt, (h, (h, (h, (tt, (tt, posted_closes k h)))))));
       begins = λ F k h. (by_side (λ a. from_sign signs.OpenBrace (λ l. tables.begins sign_starts word_starts_statement l ≡ true) k a refl) (by_side (λ a. from_word words.Try (λ l. tables.begins sign_starts word_starts_statement l ≡ true) k a refl) (by_side (λ a. from_branch (λ l. tables.begins sign_starts word_starts_statement l ≡ true) k a branch_starts) (by_side (λ a. from_word words.Once (λ l. tables.begins sign_starts word_starts_statement l ≡ true) k a refl) (by_side (λ a. from_word words.While (λ l. tables.begins sign_starts word_starts_statement l ≡ true) k a refl) (by_side (λ a. from_word words.If (λ l. tables.begins sign_starts word_starts_statement l ≡ true) k a refl) (by_side (λ a. from_label (λ l. tables.begins sign_starts word_starts_statement l ≡ true) k a label_starts) (λ a. expr_seen_statement (look k) a.0)))))))) h;
     }) (gs.statement r u) (gs.statement s v) (statement_is r u) (statement_is s v)
@@ -469,10 +451,6 @@ statements_spelt : (at : ℕ) (o : Option (StatementTree × Tail StatementTree))
 statements_spelt at None = marks_statements-Empty at
 statements_spelt at (Some c) = marks_statements-Several at c.0 c.1.0 c.1.1
 
-statements_deep : (at : ℕ) (o : Option (StatementTree × Tail StatementTree)) → depth_statements (statements_at at o) ≡ statements_parts.depth (at, o)
-statements_deep at None = depth_statements-Empty at
-statements_deep at (Some c) = depth_statements-Several at c.0 c.1.0 c.1.1
-
 semicolon_ends : (k : Option Kind) → is_sign signs.Semicolon k ≡ true → Ends 10 k
 semicolon_ends k h = sign_ends signs.Semicolon 10 (omega arith) k h
 
@@ -487,7 +465,6 @@ statements_law {n} {r} {s} {u} {v} R L = plain_law
       marks = λ c. statements_spelt c.0 c.1;
       view = λ x. tt;
       tag = λ c. refl;
-      depth = λ c. statements_deep c.0 c.1;
       closes = λ k h. (h, h.1.0);
       begins = λ F k h. h;
     }) (gs.statements r u) (gs.statements s v) (statements_is r u) (statements_is s v)
@@ -528,7 +505,6 @@ alternatives_law {n} {r} {s} {u} {v} R L = plain_law
       marks = λ c. refl;
       view = λ x. tt;
       tag = λ c. refl;
-      depth = λ c. omega arith;
       closes = λ k h. tt;
       begins = λ F k h. h;
     }) (gs.alternatives r u) (gs.alternatives s v) (alternatives_is r u) (alternatives_is s v)
@@ -545,7 +521,6 @@ ordered_chosen_law {n} {r} {s} u v R = plain_law (pair_law (opened_law (sign_rea
   marks = λ c. refl;
   view = λ x. tt;
   tag = λ c. refl;
-  depth = λ c. omega arith;
   closes = λ k h. tt;
   begins = λ F k h. h;
 }) (gs.ordered_chosen r u) (gs.ordered_chosen s v) (ordered_chosen_is r u) (ordered_chosen_is s v)
@@ -564,7 +539,6 @@ repeated_law {n} {r} {s} {u} {v} R L = plain_law (pair_law (expr_law R) (pair_la
   marks = λ c. refl;
   view = λ x. tt;
   tag = λ c. refl;
-  depth = λ c. omega arith;
   closes = λ k h. h;
   begins = λ F k h. h;
 }) (gs.repeated r u) (gs.repeated s v) (repeated_is r u) (repeated_is s v)
@@ -600,7 +574,6 @@ choice_law {n} {r} {s} {u} {v} R L = plain_law
       marks = λ c. ap (λ ms. marks_expr c.0 ++ mk.token (mk.word words.Then) ∷ (marks_statements c.1.1.0 ++ (ms ++ mk.token (mk.word words.EndIf) ∷ []))) (after_maybe (mk.word words.Else) (word_first words.Else) statements_shape c.1.1.1.0);
       view = λ x. tt;
       tag = λ c. refl;
-      depth = λ c. let e = if_any_maybe otherwise_statements c.1.1.1.0 in omega arith;
       closes = λ k h. tt;
       begins = λ F k h. h;
     }) (gs.choice r u) (gs.choice s v) (choice_is r u) (choice_is s v)
@@ -628,7 +601,7 @@ ordered_chosen_sample tail h =
     record {
       whole = before_part (mk.sign signs.OpenParenthesis) a.whole;
       value = a.value;
-      takes = ((refl, tt), takes_join (marks_ordered_params a.value) (mk.token (mk.sign signs.CloseParenthesis) ∷ []) a.whole closed tail a.takes ((refl, tt), refl));
+      takes = ((refl, tt), takes_join (mk.raised (marks_ordered_params a.value)) (mk.token (mk.sign signs.CloseParenthesis) ∷ []) a.whole closed tail (takes_raised (marks_ordered_params a.value) a.whole closed a.takes) ((refl, tt), refl));
       starts = λ F k. refl;
     }
 
@@ -705,7 +678,7 @@ statement_laws (suc n) (suc k) h = statements_next n k (rules_law n k (omega ari
 -- ---- the section
 
 abbrev pub search_shape : Shape SearchTree
-search_shape = plain marks_search depth_search Any (First (is_word words.Search))
+search_shape = plain marks_search Any (First (is_word words.Search))
 
 abbrev search_to : ℕ × (Unit {0} × (SearchBlockTree × Unit {0})) → SearchTree
 search_to c = record { at = c.0; block = c.1.1.0 }
@@ -720,7 +693,6 @@ search_law {n} r s {u} {v} L = plain_law (placed_law (pair_law (word_law words.S
   marks = λ c. marks_search-is (search_to c);
   view = λ x. tt;
   tag = λ c. refl;
-  depth = λ c. let e = depth_search-is (search_to c) in omega arith;
   closes = λ k h. tt;
   begins = λ F k h. h;
 }) (gs.search_section r u) (gs.search_section s v) (search_is r u) (search_is s v)

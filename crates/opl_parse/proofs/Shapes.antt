@@ -1,5 +1,5 @@
 -- The shape of each phrase of expressions, and of what stands in brackets.
-use Rattle.std.proofs.Common.{◌≡◌, ℕ, suc, max, Bool, true, false, ◌⊎◌, List, [], ◌∷◌, ◌++◌, map, Option, Some, None}
+use Rattle.std.proofs.Common.{◌≡◌, ℕ, Bool, true, false, ◌⊎◌, List, [], ◌∷◌, ◌++◌, map, Option, Some, None}
 use Rattle.std.specs.Prelude.{◌||◌, is_some}
 use Rattle.opl_token.specs.declared.sign.Sign.{Sign}
 use Rattle.opl_token.specs.declared.sign.Sign.TheVariants as signs
@@ -33,19 +33,18 @@ use Rattle.opl_grammar.specs.declared.parts.Operand.TheVariants as operands
 use Rattle.opl_grammar.specs.declared.parts.Braced.{Braced}
 use Rattle.opl_grammar.specs.declared.parts.Braced.TheVariants as braces
 use Rattle.opl_tree.specs.Marks.{Mark, marks_name, marks_pattern, marks_expr, marks_imp, marks_or, marks_and, marks_neg, marks_compare, marks_add, marks_mul, marks_open, marks_sign, marks_post, marks_suffix, marks_subscripts, marks_prim, marks_keyed, marks_set, marks_params, marks_group, marks_type, marks_dim, marks_field, marks_ordered_params}
-use Rattle.opl_tree.specs.Depth.{greatest, depth_pattern, depth_expr, depth_imp, depth_or, depth_and, depth_neg, depth_compare, depth_add, depth_mul, depth_open, depth_sign, depth_post, depth_suffix, depth_subscripts, depth_prim, depth_keyed, depth_set, depth_params, depth_group, depth_type, depth_dim, depth_field, depth_ordered_params}
 use Rattle.opl_tree.specs.Marks as mk
 use Rattle.opl_grammar.specs.Input.{look, is_sign, is_word, is_name}
 use Rattle.opl_grammar.specs.Tables.{is_separator, sign_starts, word_starts_expr, starts_add, starts_suffix, starts_type}
 use Rattle.opl_grammar.specs.Just.{post_of_sign, post_of_mul, post_of_add, post_of_compare, post_of_neg, post_of_and, post_of_or, post_of_imp, post_of, name_of_prim, name_of_post, name_of}
 use Rattle.opl_grammar.specs.Rules.{Rules}
 use Rattle.opl_parse.proofs.Follow.{Ends}
-use Rattle.opl_parse.proofs.Forms.{maybe_shape, stricter, tagged, plain}
-use Rattle.opl_parse.proofs.Led.{led_shape, each_shape}
-use Rattle.opl_parse.proofs.Levels.{Entry}
-use Rattle.opl_parse.proofs.Lists.{many_shape}
-use Rattle.opl_parse.proofs.Phrases.{Shape, Any, pair_shape}
-use Rattle.opl_parse.proofs.Tokens.{sign_first}
+use Rattle.opl_reader_laws.proofs.Forms.{maybe_shape, stricter, tagged, plain}
+use Rattle.opl_reader_laws.proofs.Led.{led_shape, each_shape}
+use Rattle.opl_reader_laws.proofs.Opened.{Entry}
+use Rattle.opl_reader_laws.proofs.Many.{many_shape}
+use Rattle.opl_reader_laws.proofs.Phrases.{Shape, Any, pair_shape}
+use Rattle.opl_reader_laws.proofs.Tokens.{sign_first}
 use Rattle.opl_grammar.specs.Tables as tables
 use Rattle.opl_tree.specs.Marks.{Mark}
 
@@ -93,32 +92,28 @@ First test F k = test k ≡ true
 -- ---- expressions
 
 abbrev pub name_shape : Shape NameTree
-name_shape = plain marks_name (λ t. 0) Any (First is_name)
+name_shape = plain marks_name Any (First is_name)
 
 abbrev pub prim_shape : Shape PrimTree
-prim_shape = tagged marks_prim depth_prim (λ t. is_some (name_of_prim t)) Any (First starts_prim)
+prim_shape = tagged marks_prim (λ t. is_some (name_of_prim t)) Any (First starts_prim)
 
 abbrev pub post_shape : Shape PostTree
-post_shape = tagged marks_post depth_post (λ t. is_some (name_of_post t)) (Ends 1) (First starts_prim)
+post_shape = tagged marks_post (λ t. is_some (name_of_post t)) (Ends 1) (First starts_prim)
 
 -- (POST)
 abbrev pub asked_shape : Shape PostTree
-asked_shape = plain (λ t. mk.token (mk.sign signs.OpenParenthesis) ∷ (marks_post t ++ mk.token (mk.sign signs.CloseParenthesis) ∷ [])) (λ t. suc (depth_post t)) Any (First (is_sign signs.OpenParenthesis))
+asked_shape = plain (λ t. mk.nested (mk.sign signs.OpenParenthesis) (marks_post t) ++ mk.token (mk.sign signs.CloseParenthesis) ∷ []) Any (First (is_sign signs.OpenParenthesis))
 
 abbrev pub suffix_shape : Shape SuffixTree
-suffix_shape = plain marks_suffix depth_suffix Any (First starts_suffix)
+suffix_shape = plain marks_suffix Any (First starts_suffix)
 
 abbrev pub subscripts_shape : Shape SubscriptsTree
-subscripts_shape = plain marks_subscripts depth_subscripts Any (First (is_sign signs.OpenBracket))
+subscripts_shape = plain marks_subscripts Any (First (is_sign signs.OpenBracket))
 
 -- the tokens of an operand
 abbrev pub marks_operand : Operand → List Mark
 marks_operand (operands.Open t) = marks_open t
 marks_operand (operands.Sign t) = marks_sign t
-
-abbrev pub depth_operand : Operand → ℕ
-depth_operand (operands.Open t) = depth_open t
-depth_operand (operands.Sign t) = depth_sign t
 
 -- an open operand ends with a product, any other with a post
 abbrev pub operand_ends : Option (Option Bool) → Option Kind → Type 0
@@ -130,7 +125,6 @@ operand_shape = record {
   marks = marks_operand;
   Tag = Option (Option Bool);
   tag = operand_kind;
-  depth = depth_operand;
   fits = λ t. Unit {0};
   ends = operand_ends;
   closes = Ends 2;
@@ -138,31 +132,31 @@ operand_shape = record {
 }
 
 abbrev pub mul_shape : Shape MulTree
-mul_shape = tagged marks_mul depth_mul (λ t. post_kind (post_of_mul t)) (Ends 2) (First starts_add)
+mul_shape = tagged marks_mul (λ t. post_kind (post_of_mul t)) (Ends 2) (First starts_add)
 
 abbrev pub add_shape : Shape AddTree
-add_shape = tagged marks_add depth_add (λ t. post_kind (post_of_add t)) (Ends 3) (First starts_add)
+add_shape = tagged marks_add (λ t. post_kind (post_of_add t)) (Ends 3) (First starts_add)
 
 abbrev pub set_shape : Shape SetTree
-set_shape = tagged marks_set depth_set (λ t. is_some (name_of t)) (Ends 4) (First starts_add)
+set_shape = tagged marks_set (λ t. is_some (name_of t)) (Ends 4) (First starts_add)
 
 abbrev pub compare_shape : Shape CompareTree
-compare_shape = tagged marks_compare depth_compare (λ t. is_some (post_of_compare t)) (Ends 5) (First starts_add)
+compare_shape = tagged marks_compare (λ t. is_some (post_of_compare t)) (Ends 5) (First starts_add)
 
 abbrev pub neg_shape : Shape NegTree
-neg_shape = tagged marks_neg depth_neg (λ t. is_some (post_of_neg t)) (Ends 5) (First starts_expr)
+neg_shape = tagged marks_neg (λ t. is_some (post_of_neg t)) (Ends 5) (First starts_expr)
 
 abbrev pub and_shape : Shape AndTree
-and_shape = tagged marks_and depth_and (λ t. is_some (post_of_and t)) (Ends 6) (First starts_expr)
+and_shape = tagged marks_and (λ t. is_some (post_of_and t)) (Ends 6) (First starts_expr)
 
 abbrev pub or_shape : Shape OrTree
-or_shape = tagged marks_or depth_or (λ t. is_some (post_of_or t)) (Ends 7) (First starts_expr)
+or_shape = tagged marks_or (λ t. is_some (post_of_or t)) (Ends 7) (First starts_expr)
 
 abbrev pub imp_shape : Shape ImpTree
-imp_shape = tagged marks_imp depth_imp (λ t. is_some (post_of_imp t)) (Ends 8) (First starts_expr)
+imp_shape = tagged marks_imp (λ t. is_some (post_of_imp t)) (Ends 8) (First starts_expr)
 
 abbrev pub expr_shape : Shape ExprTree
-expr_shape = tagged marks_expr depth_expr (λ t. is_some (post_of t)) (Ends 9) (First starts_expr)
+expr_shape = tagged marks_expr (λ t. is_some (post_of t)) (Ends 9) (First starts_expr)
 
 -- ---- parameters
 
@@ -173,20 +167,20 @@ abbrev pub starts_group : Option Kind → Bool
 starts_group k = is_word words.Ordered k || starts_pattern k
 
 abbrev pub pattern_shape : Shape PatternTree
-pattern_shape = plain marks_pattern depth_pattern Any (First starts_pattern)
+pattern_shape = plain marks_pattern Any (First starts_pattern)
 
 abbrev pub group_shape : Shape GroupTree
-group_shape = plain marks_group depth_group (Ends 4) (First starts_group)
+group_shape = plain marks_group (Ends 4) (First starts_group)
 
 -- neither a group nor a condition goes on
 abbrev pub EndsParams : Option Kind → Type 0
 EndsParams k = Ends 9 k × ((is_separator k ≡ false) × (is_sign signs.Colon k ≡ false))
 
 abbrev pub params_shape : Shape ParamsTree
-params_shape = plain marks_params depth_params EndsParams (First starts_group)
+params_shape = plain marks_params EndsParams (First starts_group)
 
 abbrev pub ordered_shape : Shape OrderedParamsTree
-ordered_shape = plain marks_ordered_params depth_ordered_params (λ k. EndsParams k × (is_word words.Ordered k ≡ false)) (First starts_group)
+ordered_shape = plain marks_ordered_params (λ k. EndsParams k × (is_word words.Ordered k ≡ false)) (First starts_group)
 
 -- ---- what stands in brackets
 
@@ -201,27 +195,23 @@ abbrev pub begins_list : (Option Kind → Type 0) → Option Kind → Type 0
 begins_list F k = (starts_add k ≡ true) ⊎ F k
 
 abbrev pub listed_shape : Shape (List AddTree)
-listed_shape = plain (λ xs. mk.several signs.Comma (map marks_add xs)) (λ xs. greatest (map depth_add xs)) EndsList begins_list
+listed_shape = plain (λ xs. mk.several signs.Comma (map marks_add xs)) EndsList begins_list
 
 abbrev pub keyed_part_shape : Shape KeyedTree
-keyed_part_shape = plain marks_keyed depth_keyed (Ends 3) (First starts_add)
+keyed_part_shape = plain marks_keyed (Ends 3) (First starts_add)
 
 abbrev pub keyed_shape : Shape (List KeyedTree)
-keyed_shape = plain (λ xs. mk.several signs.Comma (map marks_keyed xs)) (λ xs. greatest (map depth_keyed xs)) EndsList begins_list
+keyed_shape = plain (λ xs. mk.several signs.Comma (map marks_keyed xs)) EndsList begins_list
 
 abbrev pub marks_braced : Braced → List Mark
 marks_braced (braces.Listed xs) = mk.several signs.Comma (map marks_add xs)
 marks_braced (braces.Described t params) = marks_add t ++ mk.token (mk.sign signs.Bar) ∷ marks_params params
 
-abbrev pub depth_braced : Braced → ℕ
-depth_braced (braces.Listed xs) = greatest (map depth_add xs)
-depth_braced (braces.Described t params) = max (depth_add t) (depth_params params)
-
 abbrev pub EndsBraced : Option Kind → Type 0
 EndsBraced k = (EndsParams k × (is_sign signs.Comma k ≡ false)) × ((starts_add k ≡ false) × (is_sign signs.Bar k ≡ false))
 
 abbrev pub braced_shape : Shape Braced
-braced_shape = plain marks_braced depth_braced EndsBraced begins_list
+braced_shape = plain marks_braced EndsBraced begins_list
 
 abbrev pub upper_shape : Shape AddTree
 upper_shape = led_shape (mk.sign signs.Range) (sign_first signs.Range) add_shape
@@ -237,10 +227,10 @@ names_shape = pair_shape name_shape (each_shape signs.Comma name_shape)
 
 -- (PARAMS) and what it stands before
 abbrev pub marks_chosen : ParamsTree → List Mark
-marks_chosen t = mk.token (mk.sign signs.OpenParenthesis) ∷ (marks_params t ++ mk.token (mk.sign signs.CloseParenthesis) ∷ [])
+marks_chosen t = mk.nested (mk.sign signs.OpenParenthesis) (marks_params t) ++ mk.token (mk.sign signs.CloseParenthesis) ∷ []
 
 abbrev pub chosen_shape : Shape ParamsTree
-chosen_shape = plain marks_chosen (λ t. suc (depth_params t)) Any (First (is_sign signs.OpenParenthesis))
+chosen_shape = plain marks_chosen Any (First (is_sign signs.OpenParenthesis))
 
 abbrev pub aggregated_shape : Shape (ParamsTree × MulTree)
 aggregated_shape = pair_shape chosen_shape mul_shape
@@ -248,16 +238,16 @@ aggregated_shape = pair_shape chosen_shape mul_shape
 -- ---- types and dimensions
 
 abbrev pub type_shape : Shape TypeTree
-type_shape = plain marks_type depth_type Any (First starts_type)
+type_shape = plain marks_type Any (First starts_type)
 
 abbrev pub field_shape : Shape FieldTree
-field_shape = plain marks_field depth_field Any (First starts_type)
+field_shape = plain marks_field Any (First starts_type)
 
 abbrev pub fields_shape : Shape (FieldTree × List FieldTree)
 fields_shape = pair_shape field_shape (many_shape starts_type field_shape)
 
 abbrev pub dim_shape : Shape DimTree
-dim_shape = plain marks_dim depth_dim (Ends 5) (First starts_add)
+dim_shape = plain marks_dim (Ends 5) (First starts_add)
 
 abbrev pub dims_shape : Shape (DimTree × List DimTree)
 dims_shape = pair_shape dim_shape (each_shape signs.Comma dim_shape)

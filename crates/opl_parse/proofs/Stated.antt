@@ -1,5 +1,5 @@
 -- Items of a block.
-use Rattle.std.proofs.Common.{◌≡◌, ℕ, zero, suc, max, ◌≤◌, Bool, true, false, cond, ◌⊎◌, inl, inr, List, [], ◌∷◌, ◌++◌, Option, Some, None, Ok, refl, sym, ap, ◌∙◌, subst, arith, append_assoc, pos}
+use Rattle.std.proofs.Common.{◌≡◌, ℕ, zero, suc, ◌≤◌, Bool, true, false, cond, ◌⊎◌, inl, inr, List, [], ◌∷◌, ◌++◌, Option, Some, None, Ok, refl, sym, ap, ◌∙◌, subst, arith, append_assoc, pos}
 use Rattle.std.specs.Prelude.{◌||◌}
 use Rattle.std.specs.Option.{option_map}
 use Rattle.opl_token.specs.declared.sign.Sign.TheVariants as signs
@@ -26,10 +26,8 @@ use Rattle.opl_tree.specs.declared.instruction.ItemTree.TheOpen.{ItemTree-F, Ite
 use Rattle.opl_grammar.specs.declared.look.Look.{Look}
 use Rattle.opl_grammar.specs.declared.look.Look.TheVariants as looks
 use Rattle.opl_tree.specs.Marks.{Mark, optimum_word, marks_name, marks_expr, marks_add, marks_post, marks_subscripts, marks_params, marks_item, marks_items, marks_block, marks_instr}
-use Rattle.opl_tree.specs.Depth.{if_any, nested_if_any, depth_expr, depth_add, depth_post, depth_item, depth_items, depth_block, depth_instr}
 use Rattle.opl_tree.specs.Marks as mk
 use Rattle.opl_tree.proofs.Marks.{marks_requires-is, marks_item-Block, marks_item-ForAll, marks_item-If, marks_item-Precedes, marks_item-Requires, marks_item-Constraint, marks_items-Empty, marks_items-Several, marks_block-of, marks_instr-Solve, marks_instr-Optimize}
-use Rattle.opl_tree.proofs.Depth.{depth_requires-is, depth_item-Block, depth_item-ForAll, depth_item-If, depth_item-Precedes, depth_item-Requires, depth_item-Constraint, depth_items-Empty, depth_items-Several, depth_block-of, depth_instr-Solve, depth_instr-Optimize}
 use Rattle.opl_grammar.specs.Input.{Input, Outcome, Parser, kind, and_then, ◌>>=◌, pure, one, sign, word, look, sees_sign, sees_word, is_sign, is_word, behind}
 use Rattle.opl_grammar.specs.Input.{place as place_at}
 use Rattle.opl_grammar.specs.Tables.{optimum_in, sign_starts, word_starts_expr, word_starts_item, starts_item}
@@ -38,37 +36,37 @@ use Rattle.opl_grammar.specs.Rules as g
 use Rattle.opl_grammar.specs.Items as gi
 use Rattle.opl_grammar.specs.Rules.{Rules}
 use Rattle.opl_grammar.specs.Items.{ItemRules}
-use Rattle.opl_parse.proofs.Behind.{Tail, tail_shape, behind_law}
+use Rattle.opl_reader_laws.proofs.Behind.{Tail, tail_shape, behind_law}
 use Rattle.opl_parse.proofs.Closing.{rules_law}
 use Rattle.opl_parse.proofs.Examples.{pair_samples, one_post, zeros_take, one_expr_is, expr_sample, chosen_sample}
 use Rattle.opl_parse.proofs.Follow.{Ends, no_sign, no_word, sign_ends, word_ends}
-use Rattle.opl_parse.proofs.Forms.{placed, placed_shape, placed_law, maybe, maybe_shape, maybe_law, either, by_side, either_shape, either_law, mapped, Made, plain, plain_law}
-use Rattle.opl_parse.proofs.Guarded.{guarded, guarded_shape, Bare, guarded_law}
-use Rattle.opl_parse.proofs.Led.{led_shape, led_law}
-use Rattle.opl_parse.proofs.Levels.{Entry, opened, opened_shape, opened_law}
-use Rattle.opl_parse.proofs.Looked.{by_view, look_at, looked, looked_shape, looked_law}
+use Rattle.opl_reader_laws.proofs.Forms.{placed, placed_shape, placed_law, maybe, maybe_shape, maybe_law, either, by_side, either_shape, either_law, mapped, Made, plain, plain_law}
+use Rattle.opl_reader_laws.proofs.Guarded.{guarded, guarded_shape, Bare, guarded_law}
+use Rattle.opl_reader_laws.proofs.Led.{led_shape, led_law}
+use Rattle.opl_reader_laws.proofs.Opened.{Entry, opened, opened_shape, opened_law}
+use Rattle.opl_reader_laws.proofs.Looked.{by_view, look_at, looked, looked_shape, looked_law}
 use Rattle.opl_parse.proofs.Narrow.{wide_expr, post_narrows}
 use Rattle.opl_parse.proofs.Ops.{optimum_part, optimum_first, optimum_reads, from_optimum}
-use Rattle.opl_parse.proofs.Options.{after_maybe, written_maybe, if_any_maybe, then_same, any_of, or_true_left, or_true_right, or_false}
-use Rattle.opl_parse.proofs.Outcomes.{and_then_assoc, steps}
+use Rattle.opl_reader_laws.proofs.Options.{after_maybe, written_maybe, then_same, any_of, or_true_left, or_true_right, or_false}
+use Rattle.opl_reader_laws.proofs.Outcomes.{and_then_assoc, steps}
 use Rattle.opl_parse.proofs.Params.{chosen_law}
-use Rattle.opl_parse.proofs.Phrases.{Shape, Samples, Law, Any, one_shape, one_law, pair, pair_shape, pair_law}
+use Rattle.opl_reader_laws.proofs.Phrases.{Shape, Samples, Law, Any, one_shape, one_law, pair, pair_shape, pair_law}
 use Rattle.opl_parse.proofs.Posts.{subscripts_law, post_law}
 use Rattle.opl_parse.proofs.Prims.{name_law}
 use Rattle.opl_parse.proofs.Shapes.{starts_expr, First, name_shape, post_shape, subscripts_shape, expr_shape, chosen_shape, RulesLaw}
-use Rattle.opl_parse.proofs.Sided.{with_place, sided, sided_shape, sided_law}
-use Rattle.opl_parse.proofs.Takes.{Takes, takes_join}
-use Rattle.opl_parse.proofs.Tokens.{from_sign, from_word, from_name, is_word_same, sign_table, word_table, word_first, sign_reads, word_reads, sign_shape, word_shape, sign_law, word_law}
+use Rattle.opl_reader_laws.proofs.Sided.{with_place, sided, sided_shape, sided_law}
+use Rattle.opl_reader_laws.proofs.Takes.{Takes, takes_join}
+use Rattle.opl_reader_laws.proofs.Tokens.{from_sign, from_word, from_name, is_word_same, sign_table, word_table, word_first, sign_reads, word_reads, sign_shape, word_shape, sign_law, word_law}
 use Rattle.opl_parse.proofs.Truths.{expr_law}
 use Rattle.opl_grammar.specs.Tables as tables
 use Rattle.opl_tree.specs.Marks.{Mark}
-use Rattle.opl_parse.proofs.Takes.{before as before_part}
+use Rattle.opl_reader_laws.proofs.Takes.{before as before_part}
 use Rattle.opl_tree.specs.declared.instruction.Optimum.TheVariants as optima
 
 -- ---- what an item that begins with an expression goes on with
 
 abbrev pub demand_shape : Shape AddTree
-demand_shape = plain (λ t. mk.token (mk.sign signs.OpenParenthesis) ∷ (marks_add t ++ mk.token (mk.sign signs.CloseParenthesis) ∷ [])) (λ t. suc (depth_add t)) Any (First (is_sign signs.OpenParenthesis))
+demand_shape = plain (λ t. mk.nested (mk.sign signs.OpenParenthesis) (marks_add t) ++ mk.token (mk.sign signs.CloseParenthesis) ∷ []) Any (First (is_sign signs.OpenParenthesis))
 
 demand_is : (r : Rules) (u : ItemRules) (i : Input) → gi.demand r u i ≡ mapped (λ (c : (Unit {0} × AddTree) × Unit {0}). c.0.1) (pair (opened (sign_table signs.OpenParenthesis) r.add) (sign signs.CloseParenthesis)) i
 unfolding gi.demand
@@ -80,7 +78,6 @@ demand_law {n} {r} {s} u v R = plain_law (pair_law (opened_law (sign_reads signs
   marks = λ c. refl;
   view = λ x. tt;
   tag = λ c. refl;
-  depth = λ c. omega arith;
   closes = λ k h. tt;
   begins = λ F k h. h;
 }) (gi.demand r u) (gi.demand s v) (demand_is r u) (demand_is s v)
@@ -146,7 +143,7 @@ abbrev stated_read : Rules → ItemRules → Parser Stated
 stated_read r u = sided (looked_read r u)
 
 abbrev stated_shape : Shape Stated
-stated_shape = sided_shape (looked_shape goes_on expr_shape marks_post depth_post rest_shape (First starts_expr Any))
+stated_shape = sided_shape (looked_shape goes_on expr_shape marks_post rest_shape (First starts_expr Any))
 
 requires_is : (r : Rules) (u : ItemRules) (at : ℕ) (p : PostTree) (j : Input) → gi.requires_tree r u at p j ≡ and_then (demanded_read r u j) (λ d. pure (requires_to at p d))
 unfolding gi.requires_tree
@@ -196,13 +193,13 @@ stated_closes k h = (omega arith, ((omega arith, (tt, no_sign signs.OpenBracket 
 -- ---- the shapes of items
 
 abbrev pub item_shape : Shape ItemTree
-item_shape = plain marks_item depth_item (Ends 10) (First starts_item)
+item_shape = plain marks_item (Ends 10) (First starts_item)
 
 abbrev pub EndsItems : Option Kind → Type 0
 EndsItems k = Ends 10 k × ((starts_item k ≡ false) × (is_sign signs.Semicolon k ≡ false))
 
 abbrev pub items_shape : Shape ItemsTree
-items_shape = plain marks_items depth_items EndsItems (λ F k. (starts_item k ≡ true) ⊎ F k)
+items_shape = plain marks_items EndsItems (λ F k. (starts_item k ≡ true) ⊎ F k)
 
 abbrev pub for_all_shape : Shape (ParamsTree × ItemTree)
 for_all_shape = pair_shape chosen_shape item_shape
@@ -213,11 +210,8 @@ Branches = ExprTree × ItemsTree × Option ItemsTree
 abbrev pub branches_marks : Branches → List Mark
 branches_marks c = marks_expr c.0 ++ mk.token (mk.word words.Then) ∷ (marks_items c.1 ++ (mk.after (mk.word words.Else) (option_map marks_items c.2) ++ mk.token (mk.word words.EndIf) ∷ []))
 
-abbrev pub branches_depth : Branches → ℕ
-branches_depth c = max (depth_expr c.0) (max (depth_items c.1) (if_any (option_map depth_items c.2)))
-
 abbrev pub branches_shape : Shape Branches
-branches_shape = plain branches_marks branches_depth Any (First starts_expr)
+branches_shape = plain branches_marks Any (First starts_expr)
 
 pub record ItemLaws (n : ℕ) (u v : ItemRules) : Type 1 where
   pub items : Entry n u.items v.items items_shape
@@ -227,7 +221,7 @@ pub record ItemLaws (n : ℕ) (u v : ItemRules) : Type 1 where
 -- ---- blocks
 
 abbrev pub block_shape : Shape BlockTree
-block_shape = plain marks_block depth_block Any (First (is_sign signs.OpenBrace))
+block_shape = plain marks_block Any (First (is_sign signs.OpenBrace))
 
 abbrev block_to : ℕ × ((Unit {0} × ItemsTree) × Unit {0}) → BlockTree
 block_to c = roll-BlockTree (record { at = c.0; items = c.1.0.1 })
@@ -245,7 +239,6 @@ block_law {n} r s {u} {v} L = plain_law (placed_law (pair_law (opened_law (sign_
   marks = λ c. marks_block-of c.0 c.1.0.1;
   view = λ x. tt;
   tag = λ c. refl;
-  depth = λ c. let e = depth_block-of c.0 c.1.0.1 in omega arith;
   closes = λ k h. tt;
   begins = λ F k h. h;
 }) (gi.block r u) (gi.block s v) (block_is r u) (block_is s v)
@@ -326,10 +319,6 @@ demand_marks : (o : Option AddTree) → mk.enclosed signs.OpenParenthesis signs.
 demand_marks None = refl
 demand_marks (Some t) = refl
 
-demand_depth : (o : Option AddTree) → nested_if_any (option_map depth_add o) ≡ optional_demand.depth o
-demand_depth None = refl
-demand_depth (Some t) = omega arith
-
 stated_spelt : (c : Stated) → marks_item (stated_to c) ≡ mk.unbraced ∷ stated_shape.marks c
 stated_spelt (inl t) = marks_item-Constraint t
 stated_spelt (inr c) = by_rest c.0 c.1.0 c.1.1 where
@@ -339,24 +328,12 @@ stated_spelt (inr c) = by_rest c.0 c.1.0 c.1.1 where
       ∙ (ap (λ ms. mk.place at ∷ (marks_post p ++ mk.token (mk.word words.Requires) ∷ (ms ++ (marks_name d.1.1.0 ++ mk.written (option_map marks_subscripts d.1.1.1))))) (demand_marks d.1.0)
       ∙ ap (λ ms. mk.place at ∷ (marks_post p ++ mk.token (mk.word words.Requires) ∷ (optional_demand.marks d.1.0 ++ (marks_name d.1.1.0 ++ ms)))) (written_maybe subscripts_shape d.1.1.1)))
 
-stated_deep : (c : Stated) → depth_item (stated_to c) ≡ stated_shape.depth c
-stated_deep (inl t) = depth_item-Constraint t
-stated_deep (inr c) = by_rest c.0 c.1.0 c.1.1 where
-  by_rest : (at : ℕ) (p : PostTree) (d : Later ⊎ Demanded) → depth_item (stated_to (inr (at, (p, d)))) ≡ stated_shape.depth (inr (at, (p, d)))
-  by_rest at p (inl q) = let e = depth_item-Precedes at p q.1 in omega arith
-  by_rest at p (inr d) = let e = depth_item-Requires (requires_to at p d) ∙ depth_requires-is (requires_to at p d) in let a = demand_depth d.1.0 in let b = if_any_maybe subscripts_shape d.1.1.1 in omega arith
-
 item_spelt : (c : ItemParts) → marks_item (item_to c) ≡ item_parts.marks c
 item_spelt (inl t) = marks_item-Block t
-item_spelt (inr (inl c)) = marks_item-ForAll c.0 c.1.1.0 c.1.1.1 ∙ ap (λ ms. mk.place c.0 ∷ mk.token (mk.word words.ForAll) ∷ mk.token (mk.sign signs.OpenParenthesis) ∷ ms) (sym (append_assoc (marks_params c.1.1.0) (mk.token (mk.sign signs.CloseParenthesis) ∷ []) (marks_item c.1.1.1)))
+item_spelt (inr (inl c)) = marks_item-ForAll c.0 c.1.1.0 c.1.1.1
+    ∙ ap (λ ms. mk.place c.0 ∷ mk.nested (mk.word words.ForAll) ms) (sym (append_assoc (mk.nested (mk.sign signs.OpenParenthesis) (marks_params c.1.1.0)) (mk.token (mk.sign signs.CloseParenthesis) ∷ []) (marks_item c.1.1.1)))
 item_spelt (inr (inr (inl c))) = marks_item-If c.0 c.1.1.0 c.1.1.1 c.1.1.2
 item_spelt (inr (inr (inr c))) = stated_spelt c
-
-item_deep : (c : ItemParts) → depth_item (item_to c) ≡ item_parts.depth c
-item_deep (inl t) = depth_item-Block t
-item_deep (inr (inl c)) = let e = depth_item-ForAll c.0 c.1.1.0 c.1.1.1 in omega arith
-item_deep (inr (inr (inl c))) = let e = depth_item-If c.0 c.1.1.0 c.1.1.1 c.1.1.2 in omega arith
-item_deep (inr (inr (inr c))) = stated_deep c
 
 -- ---- first tokens of items
 
@@ -409,7 +386,6 @@ item_law {n} {r} {s} {u} {v} R L = plain_law
       marks = item_spelt;
       view = λ x. tt;
       tag = λ c. refl;
-      depth = item_deep;
       closes = λ k h. (tt, (h, (tt, stated_closes k h)));
       begins = λ F k h. by_side (λ a. from_sign signs.OpenBrace (λ l. tables.begins sign_starts word_starts_item l ≡ true) k a refl) (λ a. by_side (λ b. from_word words.ForAll (λ l. tables.begins sign_starts word_starts_item l ≡ true) k b refl) (λ b. by_side (λ d. from_word words.If (λ l. tables.begins sign_starts word_starts_item l ≡ true) k d refl) (λ d. expr_seen_item (look k) d.0) b) a) h;
     }) (gi.item r u) (gi.item s v) (item_is r u) (item_is s v)
@@ -451,10 +427,6 @@ items_spelt : (at : ℕ) (o : Option (ItemTree × Tail ItemTree)) → marks_item
 items_spelt at None = marks_items-Empty at
 items_spelt at (Some c) = marks_items-Several at c.0 c.1.0 c.1.1
 
-items_deep : (at : ℕ) (o : Option (ItemTree × Tail ItemTree)) → depth_items (items_at at o) ≡ items_parts.depth (at, o)
-items_deep at None = depth_items-Empty at
-items_deep at (Some c) = depth_items-Several at c.0 c.1.0 c.1.1
-
 semicolon_ends_item : (k : Option Kind) → is_sign signs.Semicolon k ≡ true → Ends 10 k
 semicolon_ends_item k h = sign_ends signs.Semicolon 10 (omega arith) k h
 
@@ -469,7 +441,6 @@ items_law {n} {r} {s} {u} {v} R L = plain_law
       marks = λ c. items_spelt c.0 c.1;
       view = λ x. tt;
       tag = λ c. refl;
-      depth = λ c. items_deep c.0 c.1;
       closes = λ k h. (h, h.1.0);
       begins = λ F k h. h;
     }) (gi.items r u) (gi.items s v) (items_is r u) (items_is s v)
@@ -509,7 +480,6 @@ branches_law {n} {r} {s} {u} {v} R L = plain_law
       marks = λ c. ap (λ ms. marks_expr c.0 ++ mk.token (mk.word words.Then) ∷ (marks_items c.1.1.0 ++ (ms ++ mk.token (mk.word words.EndIf) ∷ []))) (after_maybe (mk.word words.Else) (word_first words.Else) items_shape c.1.1.1.0);
       view = λ x. tt;
       tag = λ c. refl;
-      depth = λ c. let e = if_any_maybe otherwise_items c.1.1.1.0 in omega arith;
       closes = λ k h. tt;
       begins = λ F k h. h;
     }) (gi.branches r u) (gi.branches s v) (branches_is r u) (branches_is s v)
@@ -595,15 +565,11 @@ instr_spelt : (c : InstrParts) → marks_instr (instr_to c) ≡ instr_parts.mark
 instr_spelt (inl c) = marks_instr-Solve c.0 c.1.1.0
 instr_spelt (inr c) = marks_instr-Optimize c.0 c.1.0 c.1.1.0 c.1.1.1.1.1.0
 
-instr_deep : (c : InstrParts) → depth_instr (instr_to c) ≡ instr_parts.depth c
-instr_deep (inl c) = let e = depth_instr-Solve c.0 c.1.1.0 in omega arith
-instr_deep (inr c) = let e = depth_instr-Optimize c.0 c.1.0 c.1.1.0 c.1.1.1.1.1.0 in omega arith
-
 abbrev pub starts_instr : Option Kind → Type 0
 starts_instr k = (is_word words.Solve k ≡ true) ⊎ optimum_first k
 
 abbrev pub instr_shape : Shape InstrTree
-instr_shape = plain marks_instr depth_instr Any (λ F. starts_instr)
+instr_shape = plain marks_instr Any (λ F. starts_instr)
 
 optimum_not_solve : (a : Optimum) → sees_word words.Solve (looks.Word (optimum_word a)) ≡ false
 optimum_not_solve optima.Least = refl
@@ -618,7 +584,6 @@ instr_law {n} {r} {s} {u} {v} R L = plain_law
       marks = instr_spelt;
       view = λ x. tt;
       tag = λ c. refl;
-      depth = instr_deep;
       closes = λ k h. (tt, tt);
       begins = λ F k h. h;
     }) (gi.instr r u) (gi.instr s v) (instr_is r u) (instr_is s v)

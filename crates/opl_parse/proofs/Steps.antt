@@ -11,32 +11,27 @@ use Rattle.opl_tree.specs.declared.expression.CompareTree.TheViews.{out-LastStep
 use Rattle.opl_grammar.specs.declared.parts.Operand.{Operand}
 use Rattle.opl_grammar.specs.declared.parts.Operand.TheVariants as operands
 use Rattle.opl_tree.specs.Marks.{Mark, joined, mul_part, marks_mul_step, marks_last_step, marks_sign}
-use Rattle.opl_tree.specs.Depth.{greatest, if_any, depth_mul_step, depth_last_step}
 use Rattle.opl_tree.specs.Marks as mk
 use Rattle.opl_tree.proofs.Marks.{marks_last_step-of, marks_mul_step-of, marks_mul_step-is}
-use Rattle.opl_tree.proofs.Depth.{depth_last_step-of, depth_mul_step-of}
 use Rattle.opl_grammar.specs.Input.{Input, Stop, Outcome, Parser, kind, left, and_then, ◌>>=◌, pure, refuse, one}
 use Rattle.opl_grammar.specs.Tables.{mul_op_in, is_mul_op, starts_add}
 use Rattle.opl_grammar.specs.Rules as g
 use Rattle.opl_grammar.specs.Rules.{Rules}
 use Rattle.opl_parse.proofs.Follow.{Ends, no_mul, mul_ends}
-use Rattle.opl_parse.proofs.Forms.{maybe, maybe_shape, maybe_good, maybe_fails_at, mapped, Made, Rule, rule_good, rule_fails_at, rule_law, tagged}
-use Rattle.opl_parse.proofs.Going.{after_side, going, going_marks, going_shape, is_left, Forks, going_good, going_fails_at}
-use Rattle.opl_parse.proofs.Lists.{pair_same, maybe_same}
+use Rattle.opl_reader_laws.proofs.Forms.{maybe, maybe_shape, maybe_good, maybe_fails_at, mapped, Made, Rule, rule_good, rule_fails_at, rule_law, tagged}
+use Rattle.opl_reader_laws.proofs.Going.{after_side, going, going_marks, going_shape, is_left, Forks, going_good, going_fails_at}
+use Rattle.opl_reader_laws.proofs.Many.{pair_same, maybe_same}
 use Rattle.opl_parse.proofs.Ops.{mul_first, mul_reads}
-use Rattle.opl_parse.proofs.Outcomes.{and_then_pure}
-use Rattle.opl_parse.proofs.Phrases.{Shape, Sound, Good, Fails, AllFail, More, Law, more_bind, more_test, Any, one_shape, one_law, pair, pair_shape, pair_good, pair_fails_at}
-use Rattle.opl_parse.proofs.Shapes.{operand_kind, First, marks_operand, depth_operand, operand_ends, operand_shape}
-use Rattle.opl_parse.proofs.Takes.{Takes, Begins, takes_begins, begins_split, begins_join, begins_left, Written, begins_less}
+use Rattle.opl_reader_laws.proofs.Outcomes.{and_then_pure}
+use Rattle.opl_reader_laws.proofs.Phrases.{Shape, Sound, Good, Fails, AllFail, More, Law, more_bind, more_test, Any, one_shape, one_law, pair, pair_shape, pair_good, pair_fails_at}
+use Rattle.opl_parse.proofs.Shapes.{operand_kind, First, marks_operand, operand_ends, operand_shape}
+use Rattle.opl_reader_laws.proofs.Takes.{Begins, takes_begins, begins_split, begins_join, begins_left, Written, begins_less}
 
 abbrev pub Chain : Type 0
 Chain = List MulStep × Option LastStep
 
 abbrev pub chain_marks : Chain → List Mark
 chain_marks c = joined (map marks_mul_step c.0) ++ mk.written (option_map marks_last_step c.1)
-
-abbrev pub chain_depth : Chain → ℕ
-chain_depth c = max (greatest (map depth_mul_step c.0)) (if_any (option_map depth_last_step c.1))
 
 -- whether there is no step
 abbrev pub no_steps : List MulStep → Option LastStep → Bool
@@ -58,7 +53,6 @@ chain_shape_n m = record {
   marks = chain_marks;
   Tag = Bool;
   tag = chain_empty;
-  depth = chain_depth;
   fits = λ c. turns_fit m c.0;
   ends = λ x. Ends 2;
   closes = Ends 2;
@@ -66,7 +60,7 @@ chain_shape_n m = record {
 }
 
 abbrev pub chain_shape : Shape Chain
-chain_shape = tagged chain_marks chain_depth chain_empty (Ends 2) (λ F k. (is_mul_op k ≡ true) ⊎ F k)
+chain_shape = tagged chain_marks chain_empty (Ends 2) (λ F k. (is_mul_op k ≡ true) ⊎ F k)
 
 -- an operand, by its kind
 abbrev pub split : Operand → OpenTree ⊎ SignTree
@@ -82,7 +76,6 @@ split_shape = record {
   marks = λ c. marks_operand (unsplit c);
   Tag = Option (Option Bool);
   tag = λ c. operand_kind (unsplit c);
-  depth = λ c. depth_operand (unsplit c);
   fits = λ c. Unit {0};
   ends = operand_ends;
   closes = Ends 2;
@@ -137,7 +130,7 @@ chain_made c = by_parts c.0 c.1 where
   by_parts [] (Some t) = record { of = Some ((out-LastStep t).op, inl (out-LastStep t).factor); is = ap (λ x. ([], Some x)) (roll-out-LastStep t) }
   by_parts (x ∷ xs) l = record { of = Some ((out-MulStep x).op, inr ((out-MulStep x).factor, (xs, l))); is = ap (λ y. (y ∷ xs, l)) (roll-out-MulStep x) }
 
-module _ (t : Shape Chain) (same : (c : Chain) → t.marks c ≡ chain_marks c) (deep : (c : Chain) → t.depth c ≡ chain_depth c) where
+module _ (t : Shape Chain) (same : (c : Chain) → t.marks c ≡ chain_marks c) where
   step_marks_are : (o : StepParts) → chain_marks (chain_to o) ≡ (step_parts t).marks o
   step_marks_are None = refl
   step_marks_are (Some c) = by_op c.0 c.1 where
@@ -145,13 +138,6 @@ module _ (t : Shape Chain) (same : (c : Chain) → t.marks c ≡ chain_marks c) 
     by_op op (inl x) = marks_last_step-of op x
     by_op op (inr d) = ap (λ ms. (ms ++ joined (map marks_mul_step d.1.0)) ++ mk.written (option_map marks_last_step d.1.1)) (marks_mul_step-of op d.0)
         ∙ ap (λ ms. mk.token (mul_part op) ∷ ms) (append_assoc (marks_sign d.0) (joined (map marks_mul_step d.1.0)) (mk.written (option_map marks_last_step d.1.1)) ∙ ap (λ ms. marks_sign d.0 ++ ms) (sym (same d.1)))
-
-  step_depth_is : (o : StepParts) → chain_depth (chain_to o) ≡ (step_parts t).depth o
-  step_depth_is None = refl
-  step_depth_is (Some c) = by_op c.0 c.1 where
-    by_op : (op : MulOp) (d : OpenTree ⊎ (SignTree × Chain)) → chain_depth (chain_to (Some (op, d))) ≡ (step_parts t).depth (Some (op, d))
-    by_op op (inl x) = let e = depth_last_step-of op x in omega arith
-    by_op op (inr d) = let e = depth_mul_step-of op d.0 in let l = deep d.1 in omega arith
 
 chain_view : {X : Type 0} → Option X → Bool
 chain_view None = true
@@ -197,9 +183,8 @@ all_fit_parts (Some c) = by_op c.0 c.1 where
 chain_rule : (m : ℕ) → Rule (step_parts (chain_shape_n m)) (chain_shape_n (suc m)) chain_to
 chain_rule m = record {
   made = chain_made;
-  marks = step_marks_are (chain_shape_n m) (λ c. refl) (λ c. refl);
+  marks = step_marks_are (chain_shape_n m) (λ c. refl);
   tags = λ a b h. step_empty (chain_shape_n m) a ∙ (ap chain_view h ∙ sym (step_empty (chain_shape_n m) b));
-  depth = step_depth_is (chain_shape_n m) (λ c. refl) (λ c. refl);
   fits_to = fits_to_n m;
   fits_from = fits_from_n m;
   ends = step_ends (chain_shape_n m) (λ y k h. h);
@@ -211,9 +196,8 @@ chain_rule m = record {
 whole_rule : Rule (step_parts chain_shape) chain_shape chain_to
 whole_rule = record {
   made = chain_made;
-  marks = step_marks_are chain_shape (λ c. refl) (λ c. refl);
+  marks = step_marks_are chain_shape (λ c. refl);
   tags = λ a b h. step_empty chain_shape a ∙ (ap chain_view h ∙ sym (step_empty chain_shape b));
-  depth = step_depth_is chain_shape (λ c. refl) (λ c. refl);
   fits_to = λ o h. tt;
   fits_from = λ o h. all_fit_parts o;
   ends = step_ends chain_shape (λ y k h. h);
@@ -222,12 +206,12 @@ whole_rule = record {
   begins = λ F k h. h;
 }
 
-chain_front : (i : Input) (c : Chain) (j : Input) (F : Option Kind → Type 0) → Takes (chain_marks c) i j → F (kind j) → (is_mul_op (kind i) ≡ true) ⊎ F (kind i)
-chain_front i c j F = subst (λ x. Takes (chain_marks x) i j → F (kind j) → (is_mul_op (kind i) ≡ true) ⊎ F (kind i)) (chain_made c).is (at_parts (chain_made c).of) where
-  at_parts : (o : StepParts) → Takes (chain_marks (chain_to o)) i j → F (kind j) → (is_mul_op (kind i) ≡ true) ⊎ F (kind i)
+chain_front : (i : Input) (c : Chain) (j : Input) (F : Option Kind → Type 0) → Begins (chain_marks c) i j → F (kind j) → (is_mul_op (kind i) ≡ true) ⊎ F (kind i)
+chain_front i c j F = subst (λ x. Begins (chain_marks x) i j → F (kind j) → (is_mul_op (kind i) ≡ true) ⊎ F (kind i)) (chain_made c).is (at_parts (chain_made c).of) where
+  at_parts : (o : StepParts) → Begins (chain_marks (chain_to o)) i j → F (kind j) → (is_mul_op (kind i) ≡ true) ⊎ F (kind i)
   at_parts None h e = inr (subst (λ x. F (kind x)) (sym h) e)
   at_parts (Some c) h e =
-      let t : Takes (mk.token (mul_part c.0) ∷ going_marks split_shape chain_shape c.1) i j = subst (λ ms. Takes ms i j) (step_marks_are chain_shape (λ c. refl) (λ c. refl) (Some c)) h in
+      let t : Begins (mk.token (mul_part c.0) ∷ going_marks split_shape chain_shape c.1) i j = subst (λ ms. Begins ms i j) (step_marks_are chain_shape (λ c. refl) (Some c)) h in
       inl (subst (λ x. is_mul_op x ≡ true) (sym t.0.0) (mul_reads.starts c.0 t.0.1))
 
 -- ---- the laws of so many turns
@@ -251,7 +235,8 @@ module _ (n : ℕ) (p : Parser (OpenTree ⊎ SignTree)) (P : Good n p split_shap
     sound = λ i a j h. cc;
     complete = λ i a j fits d t e. absurd fits;
     accepts = λ i a j fits d t e. absurd fits;
-    front = λ i c j F d t e. chain_front i c j F t e;
+    opening = λ i a j at fits t e g. absurd fits;
+    front = chain_front;
     closing = λ x k h. h;
     sample = λ tail h. record { whole = tail; value = ([], None); takes = refl; starts = λ F k. inr k };
   }
@@ -393,7 +378,9 @@ module _ (n : ℕ) (r : Rules) (P : Good n (split_read r) split_shape) where
     accepts = λ i c j fits d b e.
         let x = (chain_n_good n (split_read r) P (suc (left i))).accepts i c j (turns_enough c.0 c.1 i j (suc (left i)) b (omega arith)) d b e in
         record { value = x.value; is = steps_is_n (suc (left i)) i (omega arith) ∙ x.is; same = x.same };
-    front = λ i c j F d t e. chain_front i c j F t e;
+    opening = λ i c j at fits b e g.
+        steps_is_n (suc (left i)) i (omega arith) ∙ (chain_n_good n (split_read r) P (suc (left i))).opening i c j at (turns_enough c.0 c.1 i j (suc (left i)) b (omega arith)) b e g;
+    front = chain_front;
     closing = λ x k h. h;
     sample = λ tail h. record { whole = tail; value = ([], None); takes = refl; starts = λ F k. inr k };
   }
@@ -401,7 +388,7 @@ module _ (n : ℕ) (r : Rules) (P : Good n (split_read r) split_shape) where
   forks : Forks split_shape chain_shape (First starts_add Any)
   forks = chain_forks chain_shape (λ y F k h. h) refl
 
-  steps_fail : AllFail (split_read r) split_shape → (m : ℕ) (i : Input) (e : Stop) → left i < m → g.steps r i ≡ Err e → Fails (g.steps r) chain_shape i e
+  steps_fail : AllFail n (split_read r) split_shape → (m : ℕ) (i : Input) (e : Stop) → left i < m → g.steps r i ≡ Err e → Fails n (g.steps r) chain_shape i e
   steps_fail f zero i e less h = absurd (omega arith)
   steps_fail f (suc m) i e less h = rule_fails_at n (step_read (split_read r) (g.steps r)) (step_parts chain_shape) (step_of n (split_read r) P (g.steps r) chain_shape steps_good forks) chain_shape chain_to whole_rule (g.steps r) steps_is_step i e
       (maybe_fails_at n is_mul_op (pair (one mul_op_in) (going (split_read r) (g.steps r))) (pair_shape (one_shape mul_part mul_first) (going_shape split_shape chain_shape (First starts_add Any))) (pair_of n (split_read r) P (g.steps r) chain_shape steps_good forks) (λ F k h. h) i e
@@ -419,7 +406,6 @@ split_law {n} r s P = rule_law P split_shape split (record {
   made = made;
   marks = λ t. marks t;
   tags = λ a b h. tag a ∙ (h ∙ sym (tag b));
-  depth = λ t. deep t;
   fits = λ c. tt;
   ends = λ a k h. ends a k h;
   closing = P.good.closing;
@@ -437,10 +423,6 @@ split_law {n} r s P = rule_law P split_shape split (record {
   tag : (t : Operand) → operand_kind (unsplit (split t)) ≡ operand_kind t
   tag (operands.Open t) = refl
   tag (operands.Sign t) = refl
-
-  deep : (t : Operand) → depth_operand (unsplit (split t)) ≡ depth_operand t
-  deep (operands.Open t) = refl
-  deep (operands.Sign t) = refl
 
   ends : (t : Operand) (k : Option Kind) → operand_ends (operand_kind (unsplit (split t))) k → operand_ends (operand_kind t) k
   ends (operands.Open t) k h = h

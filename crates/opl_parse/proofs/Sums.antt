@@ -1,5 +1,5 @@
 -- Operands, products, sums and sets.
-use Rattle.std.proofs.Common.{◌≡◌, ℕ, suc, max, Bool, true, false, ◌⊎◌, inl, inr, List, [], ◌∷◌, ◌++◌, map, Option, Some, None, refl, sym, ap, ◌∙◌, subst, arith, append_assoc}
+use Rattle.std.proofs.Common.{◌≡◌, ℕ, Bool, true, false, ◌⊎◌, inl, inr, List, [], ◌∷◌, ◌++◌, map, Option, Some, None, refl, sym, ap, ◌∙◌, subst, arith, append_assoc}
 use Rattle.std.specs.Prelude.{is_some}
 use Rattle.opl_token.specs.declared.sign.Sign.TheVariants as signs
 use Rattle.opl_token.specs.declared.token.Kind.{Kind}
@@ -35,10 +35,8 @@ use Rattle.opl_tree.specs.declared.expression.CompareTree.TheOpen.{MulTree-F, Op
 use Rattle.opl_grammar.specs.declared.parts.Operand.{Operand}
 use Rattle.opl_grammar.specs.declared.parts.Operand.TheVariants as operands
 use Rattle.opl_tree.specs.Marks.{marks_add, marks_add_step, marks_mul, marks_params}
-use Rattle.opl_tree.specs.Depth.{depth_add, depth_add_step, depth_mul}
 use Rattle.opl_tree.specs.Marks as mk
 use Rattle.opl_tree.proofs.Marks.{marks_mul-Opened, marks_mul-Product, marks_open-NegativeOpen, marks_open-Aggregate, marks_sign-Negative, marks_sign-Postfix, marks_add_step-of, marks_add_step-is, marks_add-of, marks_set-of}
-use Rattle.opl_tree.proofs.Depth.{depth_mul-Opened, depth_mul-Product, depth_open-NegativeOpen, depth_open-Aggregate, depth_sign-Negative, depth_sign-Postfix, depth_add_step-of, depth_add-of, depth_set-of}
 use Rattle.opl_grammar.specs.Input.{Input, Parser, and_then, pure, one, sees_sign, is_sign, many}
 use Rattle.opl_grammar.specs.Input.{place as place_at}
 use Rattle.opl_grammar.specs.Tables.{add_op_in, aggregate_in, is_add_op, is_mul_op, is_aggregate, sign_starts, word_starts_add, starts_add}
@@ -47,21 +45,21 @@ use Rattle.opl_grammar.specs.Rules as g
 use Rattle.opl_grammar.specs.Rules.{Rules}
 use Rattle.opl_parse.proofs.Firsts.{prim_starts_add, prim_no_minus, prim_no_aggregate, aggregate_starts_add}
 use Rattle.opl_parse.proofs.Follow.{Ends, mul_ends, no_add, add_ends, no_sign, sign_ends}
-use Rattle.opl_parse.proofs.Forms.{placed, placed_shape, placed_law, maybe, maybe_tag, maybe_law, either, by_side, either_shape, either_law, mapped, Made, rule_law, stricter_law, plain, plain_law}
-use Rattle.opl_parse.proofs.Going.{after_side, going, going_shape, is_left, Forks, going_law}
-use Rattle.opl_parse.proofs.Led.{led_law}
-use Rattle.opl_parse.proofs.Levels.{opened, opened_shape, opened_law}
-use Rattle.opl_parse.proofs.Lists.{many_law}
+use Rattle.opl_reader_laws.proofs.Forms.{placed, placed_shape, placed_law, maybe, maybe_tag, maybe_law, either, by_side, either_shape, either_law, mapped, Made, rule_law, stricter_law, plain, plain_law}
+use Rattle.opl_reader_laws.proofs.Going.{after_side, going, going_shape, is_left, Forks, going_law}
+use Rattle.opl_reader_laws.proofs.Led.{led_law}
+use Rattle.opl_reader_laws.proofs.Opened.{opened, opened_shape, opened_law}
+use Rattle.opl_reader_laws.proofs.Many.{many_law}
 use Rattle.opl_parse.proofs.Ops.{add_op_part, add_op_reads, aggregate_part, aggregate_first, aggregate_reads, from_aggregate}
-use Rattle.opl_parse.proofs.Options.{after_maybe, if_any_maybe, then_same}
-use Rattle.opl_parse.proofs.Outcomes.{and_then_assoc, steps}
-use Rattle.opl_parse.proofs.Phrases.{Shape, Law, Any, one_law, pair, pair_shape, pair_law}
+use Rattle.opl_reader_laws.proofs.Options.{after_maybe, then_same}
+use Rattle.opl_reader_laws.proofs.Outcomes.{and_then_assoc, steps}
+use Rattle.opl_reader_laws.proofs.Phrases.{Shape, Law, Any, one_law, pair, pair_shape, pair_law}
 use Rattle.opl_parse.proofs.Posts.{post_law}
-use Rattle.opl_parse.proofs.Shapes.{post_kind, operand_kind, First, post_shape, marks_operand, depth_operand, operand_ends, operand_shape, mul_shape, add_shape, set_shape, upper_shape, optional_upper, aggregated_shape, RulesLaw}
-use Rattle.opl_parse.proofs.Sided.{with_place, no_place, sided, sided_shape, sided_law}
+use Rattle.opl_parse.proofs.Shapes.{post_kind, operand_kind, First, post_shape, marks_operand, operand_ends, operand_shape, mul_shape, add_shape, set_shape, upper_shape, optional_upper, aggregated_shape, RulesLaw}
+use Rattle.opl_reader_laws.proofs.Sided.{with_place, no_place, sided, sided_shape, sided_law}
 use Rattle.opl_parse.proofs.Steps.{Chain, no_steps, chain_shape, split, unsplit, split_shape, split_read, split_law, steps_law}
-use Rattle.opl_parse.proofs.Takes.{Written}
-use Rattle.opl_parse.proofs.Tokens.{from_sign, sign_table, sign_first, sign_reads}
+use Rattle.opl_reader_laws.proofs.Takes.{Written}
+use Rattle.opl_reader_laws.proofs.Tokens.{from_sign, sign_table, sign_first, sign_reads}
 use Rattle.opl_grammar.specs.Tables as tables
 
 -- ---- operands
@@ -99,24 +97,15 @@ operand_made : (t : Operand) → Made operand_to t
 operand_made (operands.Open t) = subst (λ x. Made operand_to (operands.Open x)) (roll-out-OpenTree t) (open_layer_made (out-OpenTree t))
 operand_made (operands.Sign t) = subst (λ x. Made operand_to (operands.Sign x)) (roll-out-SignTree t) (sign_layer_made (out-SignTree t))
 
-negative_spelt : (at : ℕ) (t : Operand) → marks_operand (g.negative at t) ≡ mk.place at ∷ mk.token (mk.sign signs.Minus) ∷ marks_operand t
+negative_spelt : (at : ℕ) (t : Operand) → marks_operand (g.negative at t) ≡ mk.place at ∷ mk.nested (mk.sign signs.Minus) (marks_operand t)
 negative_spelt at (operands.Open t) = marks_open-NegativeOpen at t
 negative_spelt at (operands.Sign t) = marks_sign-Negative at t
 
 operand_spelt : (c : OperandParts) → marks_operand (operand_to c) ≡ operand_parts.marks c
 operand_spelt (inl c) = negative_spelt c.0 c.1.1
 operand_spelt (inr (inl c)) = marks_open-Aggregate c.0 c.1.0 c.1.1.0 c.1.1.1
-    ∙ ap (λ ms. mk.place c.0 ∷ mk.token (aggregate_part c.1.0) ∷ mk.token (mk.sign signs.OpenParenthesis) ∷ ms) (sym (append_assoc (marks_params c.1.1.0) (mk.token (mk.sign signs.CloseParenthesis) ∷ []) (marks_mul c.1.1.1)))
+    ∙ ap (λ ms. mk.place c.0 ∷ mk.nested (aggregate_part c.1.0) ms) (sym (append_assoc (mk.nested (mk.sign signs.OpenParenthesis) (marks_params c.1.1.0)) (mk.token (mk.sign signs.CloseParenthesis) ∷ []) (marks_mul c.1.1.1)))
 operand_spelt (inr (inr t)) = marks_sign-Postfix t
-
-negative_deep : (at : ℕ) (t : Operand) → depth_operand (g.negative at t) ≡ suc (depth_operand t)
-negative_deep at (operands.Open t) = let e = depth_open-NegativeOpen at t in omega arith
-negative_deep at (operands.Sign t) = let e = depth_sign-Negative at t in omega arith
-
-operand_deep : (c : OperandParts) → depth_operand (operand_to c) ≡ operand_parts.depth c
-operand_deep (inl c) = negative_deep c.0 c.1.1
-operand_deep (inr (inl c)) = let e = depth_open-Aggregate c.0 c.1.0 c.1.1.0 c.1.1.1 in omega arith
-operand_deep (inr (inr t)) = depth_sign-Postfix t
 
 -- whether an operand is just a post
 post_of_layer : (x : OneSign) → post_of_sign (roll-SignTree x) ≡ post_at_sign x
@@ -169,7 +158,6 @@ operand_law {n} {r} {s} R = rule_law
       made = operand_made;
       marks = operand_spelt;
       tags = λ a b h. operand_tag a ∙ (ap operand_view h ∙ sym (operand_tag b));
-      depth = operand_deep;
       fits = λ c. tt;
       ends = λ a k h. operand_parts_ends (operand_parts.tag a) k (subst (λ x. operand_ends x k) (operand_tag a) h);
       closing = operand_closing;
@@ -210,10 +198,6 @@ mul_made t = subst (Made mul_to) (roll-out-MulTree t) (mul_layer_made (out-MulTr
 mul_spelt : (c : MulParts) → marks_mul (mul_to c) ≡ mul_parts.marks c
 mul_spelt (inl t) = marks_mul-Opened t
 mul_spelt (inr d) = marks_mul-Product d.0.0 d.0.1 d.1.0 d.1.1
-
-mul_deep : (c : MulParts) → depth_mul (mul_to c) ≡ mul_parts.depth c
-mul_deep (inl t) = depth_mul-Opened t
-mul_deep (inr d) = depth_mul-Product d.0.0 d.0.1 d.1.0 d.1.1
 
 post_of_mul_layer : (x : OneMul) → post_of_mul (roll-MulTree x) ≡ post_at_mul x
 unfolding post_of_mul
@@ -258,7 +242,6 @@ mul_law {n} {r} {s} R = plain_law (going_law (sided_law (split_law r s (operand_
   marks = mul_spelt;
   view = λ x. mul_view_of x.0 x.1;
   tag = mul_tag;
-  depth = mul_deep;
   closes = λ k h. (h, h);
   begins = λ F k h. h;
 }) (g.mul r) (g.mul s) (mul_is r) (mul_is s)
@@ -273,7 +256,7 @@ unfolding g.add_step
 add_step_is r i = simp steps
 
 abbrev add_step_shape : Shape AddStep
-add_step_shape = plain marks_add_step depth_add_step (Ends 2) (First is_add_op)
+add_step_shape = plain marks_add_step (Ends 2) (First is_add_op)
 
 add_step_law : {n : ℕ} {r s : Rules} → RulesLaw n r s → Law n (g.add_step r) (g.add_step s) add_step_shape
 add_step_law {n} {r} {s} R = plain_law (pair_law (one_law add_op_reads) (mul_law R) (λ x k h. tt)) add_step_to (record {
@@ -281,7 +264,6 @@ add_step_law {n} {r} {s} R = plain_law (pair_law (one_law add_op_reads) (mul_law
   marks = λ c. marks_add_step-of c.0 c.1;
   view = λ x. tt;
   tag = λ c. refl;
-  depth = λ c. let e = depth_add_step-of c.0 c.1 in omega arith;
   closes = λ k h. h;
   begins = λ F k h. h;
 }) (g.add_step r) (g.add_step s) (add_step_is r) (add_step_is s)
@@ -316,7 +298,6 @@ add_law {n} {r} {s} R = plain_law
       marks = λ c. marks_add-of c.0 c.1.0 c.1.1;
       view = λ x. alone x.1 x.0;
       tag = λ c. ap post_kind (post_of_add_is c.0 c.1.0 c.1.1) ∙ alone_post (λ (t : AddStep). tt) c.1.1 (post_of_mul c.1.0);
-      depth = λ c. depth_add-of c.0 c.1.0 c.1.1;
       closes = λ k h. (omega arith, no_add k h);
       begins = λ F k h. h;
     }) (g.add r) (g.add s) (add_is r) (add_is s)
@@ -371,7 +352,6 @@ set_law {n} {r} {s} R = plain_law (placed_law (ends_law R)) set_to (record {
   marks = λ c. marks_set-of c.0 c.1.0 c.1.1 ∙ ap (λ ms. mk.place c.0 ∷ (marks_add c.1.0 ++ ms)) (after_maybe (mk.sign signs.Range) (sign_first signs.Range) add_shape c.1.1);
   view = λ x. set_view x.0 x.1;
   tag = λ c. ap is_some (name_of_set_is c.0 c.1.0 c.1.1) ∙ set_tag_of c.1.1 (post_of_add c.1.0);
-  depth = λ c. depth_set-of c.0 c.1.0 c.1.1 ∙ ap (λ d. max (depth_add c.1.0) d) (if_any_maybe upper_shape c.1.1);
   closes = λ k h. ((omega arith, no_sign signs.Range 4 (λ e. omega (arith, e)) k h), omega arith);
   begins = λ F k h. h;
 }) (g.set r) (g.set s) (set_is r) (set_is s)

@@ -1,5 +1,5 @@
 -- Comparisons and what joins them.
-use Rattle.std.proofs.Common.{◌≡◌, ℕ, suc, max, Bool, true, false, ◌⊎◌, inl, inr, List, ◌∷◌, ◌++◌, Option, Some, None, refl, sym, ap, ◌∙◌, subst, arith, append-nil}
+use Rattle.std.proofs.Common.{◌≡◌, ℕ, Bool, true, false, ◌⊎◌, inl, inr, List, ◌∷◌, ◌++◌, Option, Some, None, refl, sym, ap, ◌∙◌, subst, arith, append-nil}
 use Rattle.std.specs.Prelude.{◌||◌, is_some}
 use Rattle.std.specs.Option.{option_map}
 use Rattle.opl_token.specs.declared.sign.Sign.TheVariants as signs
@@ -20,10 +20,8 @@ use Rattle.opl_tree.specs.declared.keyword.Keyword.TheVariants as words
 use Rattle.opl_tree.specs.declared.expression.CompareTree.TheViews.{out-AndTree, roll-AndTree, roll-out-AndTree, out-roll-AndTree, out-ExprTree, roll-ExprTree, roll-out-ExprTree, out-roll-ExprTree, out-ImpTree, roll-ImpTree, roll-out-ImpTree, out-roll-ImpTree, out-OrTree, roll-OrTree, roll-out-OrTree, out-roll-OrTree, out-CompareTree, roll-CompareTree, roll-out-CompareTree, out-roll-CompareTree, out-NegTree, roll-NegTree, roll-out-NegTree, out-roll-NegTree}
 use Rattle.opl_tree.specs.declared.expression.CompareTree.TheOpen.{CompareTree-F, NegTree-F}
 use Rattle.opl_tree.specs.Marks.{marks_imp, marks_or, marks_neg, marks_compare, marks_add}
-use Rattle.opl_tree.specs.Depth.{nested_if_any, depth_imp, depth_or, depth_neg, depth_compare, depth_add}
 use Rattle.opl_tree.specs.Marks as mk
 use Rattle.opl_tree.proofs.Marks.{marks_compare-Single, marks_compare-Related, marks_compare-Member, marks_neg-Not, marks_neg-Compare, marks_and-of, marks_expr-of, marks_imp-of, marks_or-of}
-use Rattle.opl_tree.proofs.Depth.{depth_compare-Single, depth_compare-Related, depth_compare-Member, depth_neg-Not, depth_neg-Compare, depth_and-of, depth_expr-of, depth_imp-of, depth_or-of}
 use Rattle.opl_grammar.specs.Input.{Input, Parser, and_then, pure, one, word, is_sign, is_word, after_each, sign_seen}
 use Rattle.opl_grammar.specs.Input.{place as place_at}
 use Rattle.opl_grammar.specs.Tables.{through, relation_of, relation_in, is_relation, sign_starts, word_starts_expr}
@@ -32,17 +30,17 @@ use Rattle.opl_grammar.specs.Rules as g
 use Rattle.opl_grammar.specs.Rules.{Rules}
 use Rattle.opl_parse.proofs.Firsts.{add_starts_expr, add_not}
 use Rattle.opl_parse.proofs.Follow.{Ends, no_relation, relation_ends, no_sign, no_word, sign_ends, word_ends}
-use Rattle.opl_parse.proofs.Forms.{placed, placed_shape, placed_law, maybe, maybe_shape, maybe_law, either, by_side, either_shape, either_law, mapped, Made, stricter, stricter_law, plain, plain_law}
-use Rattle.opl_parse.proofs.Led.{each_law}
-use Rattle.opl_parse.proofs.Levels.{opened, opened_shape, opened_law}
+use Rattle.opl_reader_laws.proofs.Forms.{placed, placed_shape, placed_law, maybe, maybe_shape, maybe_law, either, by_side, either_shape, either_law, mapped, Made, stricter, stricter_law, plain, plain_law}
+use Rattle.opl_reader_laws.proofs.Led.{each_law}
+use Rattle.opl_reader_laws.proofs.Opened.{opened, opened_shape, opened_law}
 use Rattle.opl_parse.proofs.Ops.{relation_part, relation_first, relation_reads}
-use Rattle.opl_parse.proofs.Options.{then_same, options, any_of, or_false, options_shape, options_law}
-use Rattle.opl_parse.proofs.Outcomes.{and_then_assoc, and_then_pure, steps}
-use Rattle.opl_parse.proofs.Phrases.{Shape, Law, one_shape, one_law, pair, pair_shape, pair_law}
+use Rattle.opl_reader_laws.proofs.Options.{then_same, options, any_of, or_false, options_shape, options_law}
+use Rattle.opl_reader_laws.proofs.Outcomes.{and_then_assoc, and_then_pure, steps}
+use Rattle.opl_reader_laws.proofs.Phrases.{Shape, Law, one_shape, one_law, pair, pair_shape, pair_law}
 use Rattle.opl_parse.proofs.Posts.{alone_kind, alone_some}
 use Rattle.opl_parse.proofs.Shapes.{post_kind, First, add_shape, set_shape, compare_shape, neg_shape, and_shape, or_shape, imp_shape, expr_shape, RulesLaw}
 use Rattle.opl_parse.proofs.Sums.{add_law, set_law}
-use Rattle.opl_parse.proofs.Tokens.{from_word, sign_table, word_table, word_first, sign_reads, word_reads, word_shape, word_law}
+use Rattle.opl_reader_laws.proofs.Tokens.{from_word, sign_table, word_table, word_first, sign_reads, word_reads, word_shape, word_law}
 use Rattle.opl_grammar.specs.Tables as tables
 
 -- ---- comparisons
@@ -84,11 +82,6 @@ compare_spelt : (at : ℕ) (t : AddTree) (o : Option ((Relation × AddTree) ⊎ 
 compare_spelt at t None = marks_compare-Single at t ∙ ap (λ ms. mk.place at ∷ ms) (sym (append-nil (marks_add t)))
 compare_spelt at t (Some (inl c)) = marks_compare-Related at t c.0 c.1
 compare_spelt at t (Some (inr c)) = marks_compare-Member at t c.1
-
-compare_deep : (at : ℕ) (t : AddTree) (o : Option ((Relation × AddTree) ⊎ (Unit {0} × SetTree))) → depth_compare (compare_at at t o) ≡ max (depth_add t) (compared_shape.depth o)
-compare_deep at t None = let e = depth_compare-Single at t in omega arith
-compare_deep at t (Some (inl c)) = let e = depth_compare-Related at t c.0 c.1 in omega arith
-compare_deep at t (Some (inr c)) = let e = depth_compare-Member at t c.1 in omega arith
 
 post_of_compare_layer : (x : OneCompare) → post_of_compare (roll-CompareTree x) ≡ post_at_compare x
 unfolding post_of_compare
@@ -132,7 +125,6 @@ compare_law {n} {r} {s} R = plain_law (placed_law (pair_law (add_law R) (compare
   marks = λ c. compare_spelt c.0 c.1.0 c.1.1;
   view = λ x. compare_view x.0 x.1;
   tag = λ c. compare_tag c.0 c.1.0 c.1.1;
-  depth = λ c. compare_deep c.0 c.1.0 c.1.1;
   closes = compare_closes;
   begins = λ F k h. h;
 }) (g.compare r) (g.compare s) (compare_is r) (compare_is s)
@@ -167,10 +159,6 @@ neg_spelt : (c : NegParts) → marks_neg (neg_to c) ≡ neg_parts.marks c
 neg_spelt (inl c) = marks_neg-Not c.0 c.1.1
 neg_spelt (inr t) = marks_neg-Compare t
 
-neg_deep : (c : NegParts) → depth_neg (neg_to c) ≡ neg_parts.depth c
-neg_deep (inl c) = let e = depth_neg-Not c.0 c.1.1 in omega arith
-neg_deep (inr t) = depth_neg-Compare t
-
 post_of_neg_layer : (x : OneNeg) → post_of_neg (roll-NegTree x) ≡ post_at_neg x
 unfolding post_of_neg
 post_of_neg_layer x = ap post_at_neg (out-roll-NegTree x)
@@ -190,7 +178,6 @@ neg_law {n} {r} {s} R = plain_law
       marks = neg_spelt;
       view = neg_view;
       tag = neg_tag;
-      depth = neg_deep;
       closes = λ k h. (h, h);
       begins = λ F k h. by_side (λ a. from_word words.Not (λ l. tables.begins sign_starts word_starts_expr l ≡ true) k a refl) (λ a. add_starts_expr k a) h;
     }) (g.neg r) (g.neg s) (neg_is r) (neg_is s)
@@ -220,7 +207,6 @@ and_law {n} {r} {s} R = plain_law
       marks = λ c. marks_and-of c.0 c.1.0 c.1.1;
       view = λ x. alone_kind x.1 x.0;
       tag = λ c. ap is_some (post_of_and_is c.0 c.1.0 c.1.1) ∙ alone_some (λ (t : NegTree). is_some (post_of_neg t)) c.1.1 (post_of_neg c.1.0);
-      depth = λ c. depth_and-of c.0 c.1.0 c.1.1;
       closes = λ k h. (omega arith, no_sign signs.And 6 (λ e. omega (arith, e)) k h);
       begins = λ F k h. h;
     }) (g.and r) (g.and s) (and_is r) (and_is s)
@@ -248,13 +234,12 @@ or_law {n} {r} {s} R = plain_law
       marks = λ c. marks_or-of c.0 c.1.0 c.1.1;
       view = λ x. alone_kind x.1 x.0;
       tag = λ c. ap is_some (post_of_or_is c.0 c.1.0 c.1.1) ∙ alone_some (λ (t : AndTree). is_some (post_of_and t)) c.1.1 (post_of_and c.1.0);
-      depth = λ c. depth_or-of c.0 c.1.0 c.1.1;
       closes = λ k h. (omega arith, no_sign signs.Or 7 (λ e. omega (arith, e)) k h);
       begins = λ F k h. h;
     }) (g.or r) (g.or s) (or_is r) (or_is s)
 
 abbrev conclusion_shape : Shape ImpTree
-conclusion_shape = plain (λ t. mk.token (mk.sign signs.Implies) ∷ marks_imp t) (λ t. suc (depth_imp t)) (Ends 8) (First (is_sign signs.Implies))
+conclusion_shape = plain (λ t. mk.nested (mk.sign signs.Implies) (marks_imp t)) (Ends 8) (First (is_sign signs.Implies))
 
 conclusion_is : (r : Rules) (i : Input) → g.conclusion r i ≡ mapped (λ (c : Unit {0} × ImpTree). c.1) (opened (sign_table signs.Implies) r.imp) i
 unfolding g.conclusion
@@ -266,7 +251,6 @@ conclusion_law {n} {r} {s} R = plain_law (opened_law (sign_reads signs.Implies) 
   marks = λ c. refl;
   view = λ x. tt;
   tag = λ c. refl;
-  depth = λ c. refl;
   closes = λ k h. h;
   begins = λ F k h. h;
 }) (g.conclusion r) (g.conclusion s) (conclusion_is r) (conclusion_is s)
@@ -285,13 +269,9 @@ imp_meets : {X : Type 0} (k : Option Kind) → (is_sign signs.Implies k ≡ true
 imp_meets k (inl h) = sign_ends signs.Implies 7 (omega arith) k h
 imp_meets k (inr h) = h.1
 
-imp_spelt : (o : Option ImpTree) → mk.after (mk.sign signs.Implies) (option_map marks_imp o) ≡ concluded.marks o
+imp_spelt : (o : Option ImpTree) → mk.after_level (mk.sign signs.Implies) (option_map marks_imp o) ≡ concluded.marks o
 imp_spelt None = refl
 imp_spelt (Some t) = refl
-
-imp_deep : (o : Option ImpTree) → nested_if_any (option_map depth_imp o) ≡ concluded.depth o
-imp_deep None = refl
-imp_deep (Some t) = omega arith
 
 post_of_imp_is : (at : ℕ) (t : OrTree) (o : Option ImpTree) → post_of_imp (imp_to (at, (t, o))) ≡ without o (post_of_or t)
 unfolding post_of_imp
@@ -312,7 +292,6 @@ imp_law {n} {r} {s} R = plain_law
       marks = λ c. marks_imp-of c.0 c.1.0 c.1.1 ∙ ap (λ ms. mk.place c.0 ∷ (marks_or c.1.0 ++ ms)) (imp_spelt c.1.1);
       view = λ x. imp_view x.0 x.1;
       tag = λ c. ap is_some (post_of_imp_is c.0 c.1.0 c.1.1) ∙ without_some c.1.1 (post_of_or c.1.0);
-      depth = λ c. depth_imp-of c.0 c.1.0 c.1.1 ∙ ap (λ d. max (depth_or c.1.0) d) (imp_deep c.1.1);
       closes = λ k h. ((h, no_sign signs.Implies 8 (λ e. omega (arith, e)) k h), omega arith);
       begins = λ F k h. h;
     }) (g.imp r) (g.imp s) (imp_is r) (imp_is s)
@@ -340,7 +319,6 @@ expr_law {n} {r} {s} R = plain_law
       marks = λ c. marks_expr-of c.0 c.1.0 c.1.1;
       view = λ x. alone_kind x.1 x.0;
       tag = λ c. ap is_some (post_of_expr_is c.0 c.1.0 c.1.1) ∙ alone_some (λ (t : ImpTree). is_some (post_of_imp t)) c.1.1 (post_of_imp c.1.0);
-      depth = λ c. depth_expr-of c.0 c.1.0 c.1.1;
       closes = λ k h. (omega arith, no_sign signs.Equivalent 9 (λ e. omega (arith, e)) k h);
       begins = λ F k h. h;
     }) (g.expr r) (g.expr s) (expr_is r) (expr_is s)

@@ -1,17 +1,11 @@
 -- What a parser of models answers.
-use Rattle.std.specs.Prelude.{◌≤◌, ℕ, List, Result, Ok, Err}
+use Rattle.std.specs.Prelude.{ℕ, List, Result}
 use Rattle.opl_token.specs.declared.token.Token.{Token}
-use Rattle.opl_tree.specs.Depth.{depth_model}
-use Rattle.opl_tree.specs.Reading.{IsTreeOf, StopsAt, OpensAt}
 use Rattle.opl_tree.specs.declared.fault.SyntaxFault.{SyntaxFault}
-use Rattle.opl_tree.specs.declared.fault.SyntaxFault.TheVariants.{Syntax, TooDeep, OutOfMemory}
+use Rattle.opl_reader_laws.specs.Reading as of_marks
+use Rattle.opl_tree.specs.Marks.{marks_model}
 use Rattle.opl_tree.specs.declared.model.ModelTree.{ModelTree}
 
--- The tree of the tokens, which nests at most 256 levels; or the place where they stop being the beginning of a model,
--- which is so only where they have no tree; or the place of the token that opens the 257th level, which is so only where
--- their tree, if they have one, nests deeper than 256 levels. Want of memory may come at any time.
+-- the tree of the tokens, or why they have none, or none that nests at most 256 levels
 abbrev pub ParseAnswers : List Token → ℕ → Result ModelTree SyntaxFault → Type 0
-ParseAnswers tokens end (Ok t) = IsTreeOf t tokens end × (depth_model t ≤ 256)
-ParseAnswers tokens end (Err (Syntax at)) = StopsAt tokens end at
-ParseAnswers tokens end (Err (TooDeep at)) = OpensAt 256 tokens at
-ParseAnswers tokens end (Err OutOfMemory) = Unit {0}
+ParseAnswers = of_marks.ParseAnswers marks_model

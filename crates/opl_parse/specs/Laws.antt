@@ -1,26 +1,31 @@
 -- Laws of trees, stops and tokens.
-use Rattle.std.specs.Prelude.{◌≡◌, ◌<◌, ◌≤◌, ◌⊎◌, ℕ, List}
-use Rattle.opl_token.specs.declared.token.Token.{Token}
-use Rattle.opl_tree.specs.Depth.{depth_model}
-use Rattle.opl_tree.specs.Reading.{IsTreeOf, StopsAt, OpensAt}
-use Rattle.opl_tree.specs.declared.model.ModelTree.{ModelTree}
+use Rattle.opl_reader_laws.specs.Reading as of_marks
+use Rattle.opl_tree.specs.Marks.{marks_model}
 
 -- tokens have at most one tree
 abbrev pub OneTree : Type 0
-OneTree = (tokens : List Token) (end : ℕ) (t u : ModelTree) → IsTreeOf t tokens end → IsTreeOf u tokens end → t ≡ u
+OneTree = of_marks.OneTree marks_model
 
 -- tokens that have a tree stop nowhere
 abbrev pub TreeOrStop : Type 0
-TreeOrStop = (tokens : List Token) (end : ℕ) (t : ModelTree) (at : ℕ) → IsTreeOf t tokens end → StopsAt tokens end at → ⊥
+TreeOrStop = of_marks.TreeOrStop marks_model
 
 -- tokens stop at one place at most
 abbrev pub OneStop : Type 0
-OneStop = (tokens : List Token) (end at other : ℕ) → StopsAt tokens end at → StopsAt tokens end other → at ≡ other
+OneStop = of_marks.OneStop marks_model
 
--- tokens have a tree that nests at most 256 levels, or stop somewhere, or open a level too many
+-- the level too many is opened at one place at most
+abbrev pub OneOpening : Type 0
+OneOpening = of_marks.OneOpening marks_model
+
+-- tokens have a tree that nests at most 256 levels, or stop somewhere and open no level too many, or open one
 abbrev pub ParseTotal : Type 0
-ParseTotal = (tokens : List Token) (end : ℕ) → ((t : ModelTree) × IsTreeOf t tokens end × (depth_model t ≤ 256)) ⊎ (((at : ℕ) × StopsAt tokens end at) ⊎ ((at : ℕ) × OpensAt 256 tokens at))
+ParseTotal = of_marks.ParseTotal marks_model
 
 -- the tree of tokens that open a level too many nests deeper
 abbrev pub DeepOrTree : Type 0
-DeepOrTree = (tokens : List Token) (end : ℕ) (t : ModelTree) (at : ℕ) → IsTreeOf t tokens end → OpensAt 256 tokens at → 256 < depth_model t
+DeepOrTree = of_marks.DeepOrTree marks_model
+
+-- each tree that begins with the tokens up to one that opens a level too many nests deeper
+abbrev pub OnlyDeeper : Type 0
+OnlyDeeper = of_marks.OnlyDeeper marks_model
