@@ -38,13 +38,13 @@ not_both : (o : Option (List ℕ)) → o ≡ None → IsSomeAnd o (λ bytes. max
 not_both o none some = subst (λ (o : Option (List ℕ)). IsSomeAnd o (λ bytes. max_bytes < length bytes)) none some
 
 held_one : (files : Files) (file : ℕ) (name : List ℕ) → IsOne (Held files file name)
-held_one files file name (Ok a) (Ok b) p q = let e : Some a ≡ Some b = sym p.0 ∙ q.0 in let same : a ≡ b = cc in inl (ap Ok same)
+held_one files file name (Ok a) (Ok b) p q = let e : Some a ≡ Some b = sym p.0 ∙ q.0 in let same : a ≡ b = cc in ap Ok same
 held_one files file name (Ok a) (Err e) p (inl q) = let no : Some a ≡ None = sym p.0 ∙ q.1 in absurd (cc)
 held_one files file name (Ok a) (Err e) p (inr q) = absurd (too_long a p.1 (subst (λ o. IsSomeAnd o (λ bytes. max_bytes < length bytes)) p.0 q.1))
 held_one files file name (Err e) (Ok b) (inl p) q = let no : Some b ≡ None = sym q.0 ∙ p.1 in absurd (cc)
 held_one files file name (Err e) (Ok b) (inr p) q = absurd (too_long b q.1 (subst (λ o. IsSomeAnd o (λ bytes. max_bytes < length bytes)) q.0 p.1))
-held_one files file name (Err e) (Err f) (inl p) (inl q) = inl (ap Err (p.0 ∙ sym q.0))
-held_one files file name (Err e) (Err f) (inr p) (inr q) = inl (ap Err (p.0 ∙ sym q.0))
+held_one files file name (Err e) (Err f) (inl p) (inl q) = ap Err (p.0 ∙ sym q.0)
+held_one files file name (Err e) (Err f) (inr p) (inr q) = ap Err (p.0 ∙ sym q.0)
 held_one files file name (Err e) (Err f) (inl p) (inr q) = absurd (not_both _ p.1 q.1)
 held_one files file name (Err e) (Err f) (inr p) (inl q) = absurd (not_both _ q.1 p.1)
 

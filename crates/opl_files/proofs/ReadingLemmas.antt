@@ -1,6 +1,6 @@
 -- From the bytes of the files of a call to their trees.
 use Rattle.std.proofs.Common.{◌≡◌, ◌≢◌, ◌<◌, ◌≤◌, refl, sym, ap, ◌∙◌, subst, ℕ, List, Some, None, Result, Ok, Err, inl, inr, arith}
-use Rattle.opl_parse.proofs.TreeLaws.{one_tree, tree_or_stop, one_stop, deep_or_tree}
+use Rattle.opl_parse.proofs.TreeLaws.{one_tree, tree_or_stop, one_stop, one_opening, deep_or_tree}
 use Rattle.opl_tree.specs.declared.model.ModelTree.{ModelTree}
 use Rattle.opl_tree.specs.Depth.{depth_model}
 use Rattle.opl_token.proofs.Unique.{one_scan, no_fault, one_fault}
@@ -18,7 +18,6 @@ use Rattle.opl_files.specs.declared.refusal.Refusal.TheVariants.{At}
 use Rattle.opl_files.specs.declared.scanning.Tokens.{Tokens}
 use Rattle.opl_files.specs.declared.stop.Stop.{Stop}
 use Rattle.opl_files.specs.Reading.{refusal_of_scan, Scanned, IsSyntaxFault, Parsed, IsDataFault, DataParsed, HasTypes, refusal_of_type, Understood, Read}
-use Rattle.opl_files.specs.Outcomes.{SameOutcome}
 use Rattle.opl_files.specs.Stage.{Stage, Then, Only, Each, Gives}
 use Rattle.opl_files.proofs.StageLemmas.{IsOne, each_one, only_one, then_one, then-gives, then-stops}
 
@@ -65,32 +64,32 @@ same_tokens : (t u : Tokens) → t.list ≡ u.list → t.end ≡ u.end → t ≡
 same_tokens t u lists ends = ap (λ (l : List Token). made l t.end) lists ∙ ap (λ (n : ℕ). made u.list n) ends
 
 scanned_one : (file : ℕ) (bytes : List ℕ) → IsOne (Scanned file bytes)
-scanned_one file bytes (Ok t) (Ok u) p q = inl (ap Ok (same_tokens t u (one_scan bytes t.list u.list p.0 q.0) (p.1 ∙ sym q.1)))
+scanned_one file bytes (Ok t) (Ok u) p q = ap Ok (same_tokens t u (one_scan bytes t.list u.list p.0 q.0) (p.1 ∙ sym q.1))
 scanned_one file bytes (Ok t) (Err e) p q = absurd (not_memory file q.0 e q.1 (no_fault bytes t.list q.0 p.0 q.2))
 scanned_one file bytes (Err e) (Ok u) p q = absurd (not_memory file p.0 e p.1 (no_fault bytes u.list p.0 q.0 p.2))
 scanned_one file bytes (Err e) (Err f) p q =
     let same : p.0 ≡ q.0 = one_fault bytes p.0 q.0 p.2 q.2 (not_memory file p.0 e p.1) (not_memory file q.0 f q.1) in
     let both : Some e ≡ Some f = sym p.1 ∙ ap (refusal_of_scan file) same ∙ q.1 in
-    let one : e ≡ f = cc in inl (ap Err one)
+    let one : e ≡ f = cc in ap Err one
 
 -- a tree that nests at most 256 levels has no fault of syntax
 no_syntax_fault : (tokens : Tokens) (t : ModelTree) (e : Refusal) → Parsed tokens (Ok t) → IsSyntaxFault tokens e → ⊥
 no_syntax_fault tokens t e p (inl q) = tree_or_stop tokens.list tokens.end t q.0 p.0 q.2
-no_syntax_fault tokens t e p (inr q) = let deep : 256 < depth_model t = deep_or_tree tokens.list tokens.end t q.0 p.0 q.2 in let shallow : depth_model t ≤ 256 = p.1 in omega arith
+no_syntax_fault tokens t e p (inr q) = let deep : 256 < depth_model t = deep_or_tree 256 tokens.list tokens.end t q.0 p.0 q.2 in let shallow : depth_model t ≤ 256 = p.1 in omega arith
 
-syntax_faults : (tokens : Tokens) (e f : Refusal) → IsSyntaxFault tokens e → IsSyntaxFault tokens f → SameOutcome {A = ModelTree} (Err e) (Err f)
-syntax_faults tokens e f (inl p) (inl q) = inl (ap Err (p.1 ∙ (ap (At Syntax 0) (one_stop tokens.list tokens.end p.0 q.0 p.2 q.2) ∙ sym q.1)))
-syntax_faults tokens e f (inl p) (inr q) = rw (p.1, q.1) (inr tt)
-syntax_faults tokens e f (inr p) (inl q) = rw (p.1, q.1) (inr tt)
-syntax_faults tokens e f (inr p) (inr q) = rw (p.1, q.1) (inr tt)
+one_syntax_fault : (tokens : Tokens) (e f : Refusal) → IsSyntaxFault tokens e → IsSyntaxFault tokens f → e ≡ f
+one_syntax_fault tokens e f (inl p) (inl q) = p.1 ∙ (ap (At Syntax 0) (one_stop tokens.list tokens.end p.0 q.0 p.2 q.2) ∙ sym q.1)
+one_syntax_fault tokens e f (inl p) (inr q) = absurd (p.3 q.0 q.2)
+one_syntax_fault tokens e f (inr p) (inl q) = absurd (q.3 p.0 p.2)
+one_syntax_fault tokens e f (inr p) (inr q) = p.1 ∙ (ap (At TooDeep 0) (one_opening 256 tokens.list p.0 q.0 p.2 q.2) ∙ sym q.1)
 
 parsed_one : (tokens : Tokens) → IsOne (Parsed tokens)
-parsed_one tokens (Ok t) (Ok u) p q = inl (ap Ok (one_tree tokens.list tokens.end t u p.0 q.0))
+parsed_one tokens (Ok t) (Ok u) p q = ap Ok (one_tree tokens.list tokens.end t u p.0 q.0)
 parsed_one tokens (Ok t) (Err e) p q = absurd (no_syntax_fault tokens t e p q)
 parsed_one tokens (Err e) (Ok u) p q = absurd (no_syntax_fault tokens u e q p)
-parsed_one tokens (Err e) (Err f) p q = syntax_faults tokens e f p q
+parsed_one tokens (Err e) (Err f) p q = ap Err (one_syntax_fault tokens e f p q)
 
--- the same of data files, where the fault is one
+-- the same of data files
 no_data_fault : (file : ℕ) (tokens : Tokens) (t : DataFile) (e : Refusal) → DataParsed file tokens (Ok t) → IsDataFault file tokens e → ⊥
 no_data_fault file tokens t e p (inl q) = of_data.tree_or_stop tokens.list tokens.end t q.0 p.0 q.2
 no_data_fault file tokens t e p (inr q) = let deep : 256 < depth_file t = of_data.deep_or_tree 256 tokens.list tokens.end t q.0 p.0 q.2 in let shallow : depth_file t ≤ 256 = p.1 in omega arith
@@ -102,20 +101,20 @@ one_data_fault file tokens e f (inr p) (inl q) = absurd (q.3 p.0 p.2)
 one_data_fault file tokens e f (inr p) (inr q) = p.1 ∙ (ap (At TooDeep file) (of_data.one_opening 256 tokens.list p.0 q.0 p.2 q.2) ∙ sym q.1)
 
 data_parsed_one : (file : ℕ) (tokens : Tokens) → IsOne (DataParsed file tokens)
-data_parsed_one file tokens (Ok t) (Ok u) p q = inl (ap Ok (of_data.one_tree tokens.list tokens.end t u p.0 q.0))
+data_parsed_one file tokens (Ok t) (Ok u) p q = ap Ok (of_data.one_tree tokens.list tokens.end t u p.0 q.0)
 data_parsed_one file tokens (Ok t) (Err e) p q = absurd (no_data_fault file tokens t e p q)
 data_parsed_one file tokens (Err e) (Ok u) p q = absurd (no_data_fault file tokens u e q p)
-data_parsed_one file tokens (Err e) (Err f) p q = inl (ap Err (one_data_fault file tokens e f p q))
+data_parsed_one file tokens (Err e) (Err f) p q = ap Err (one_data_fault file tokens e f p q)
 
 typed_one : (tree : ModelTree) → IsOne (HasTypes tree)
-typed_one tree (Ok t) (Ok u) p q = inl (ap Ok (p.0 ∙ sym q.0))
+typed_one tree (Ok t) (Ok u) p q = ap Ok (p.0 ∙ sym q.0)
 typed_one tree (Ok t) (Err e) p q = let no : ◌≡◌ {A = Result (List Sort) TypeFault} (Ok p.1) (Err q.0) = sym p.2 ∙ q.2 in absurd (cc)
 typed_one tree (Err e) (Ok u) p q = let no : ◌≡◌ {A = Result (List Sort) TypeFault} (Ok q.1) (Err p.0) = sym q.2 ∙ p.2 in absurd (cc)
 typed_one tree (Err e) (Err f) p q =
     let both : ◌≡◌ {A = Result (List Sort) TypeFault} (Err p.0) (Err q.0) = sym p.2 ∙ q.2 in
     let same : p.0 ≡ q.0 = cc in
     let told : Some e ≡ Some f = sym p.1 ∙ (ap refusal_of_type same ∙ q.1) in
-    let one : e ≡ f = cc in inl (ap Err one)
+    let one : e ≡ f = cc in ap Err one
 
 understood_one : (tokens : Tokens) (more : List Tokens) → IsOne (Understood tokens more)
 understood_one tokens more = then_one (Parsed tokens) _ (parsed_one tokens) (λ tree.

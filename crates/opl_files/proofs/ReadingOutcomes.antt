@@ -13,7 +13,7 @@ use Rattle.opl_type_rules.specs.declared.fault.TypeFault.{TypeFault}
 use Rattle.opl_type_rules.specs.declared.fault.TypeFault.TheVariants as types
 use Rattle.opl_type_rules.specs.Types.{Sort}
 use Rattle.opl_model_types.proofs.PureItems.{never_memory}
-use Rattle.opl_tree.specs.Reading.{IsTreeOf, StopsAt, OpensAt}
+use Rattle.opl_parse.specs.Reading.{IsTreeOf, StopsAt, OpensAt, NoneOpens}
 use Rattle.opl_data.proofs.TreeLaws as of_data
 use Rattle.opl_data.specs.Depth.{depth_file}
 use Rattle.opl_data.specs.Reading as data_files
@@ -40,9 +40,10 @@ scanned_comes : (file : ℕ) (bytes : List ℕ) → Comes (Scanned file bytes)
 scanned_comes file bytes = scanned_by file bytes (total bytes)
 
 parsed_by : (tokens : Tokens) →
-    ((t : ModelTree) × IsTreeOf t tokens.list tokens.end × (depth_model t ≤ 256)) ⊎ (((at : ℕ) × StopsAt tokens.list tokens.end at) ⊎ ((at : ℕ) × OpensAt 256 tokens.list at)) → Comes (Parsed tokens)
+    ((t : ModelTree) × IsTreeOf t tokens.list tokens.end × (depth_model t ≤ 256))
+    ⊎ (((at : ℕ) × StopsAt tokens.list tokens.end at × NoneOpens 256 tokens.list) ⊎ ((at : ℕ) × OpensAt 256 tokens.list at)) → Comes (Parsed tokens)
 parsed_by tokens (inl t) = (Ok t.0, (t.1, t.2))
-parsed_by tokens (inr (inl s)) = (Err (At Syntax 0 s.0), inl (s.0, refl, s.1))
+parsed_by tokens (inr (inl s)) = (Err (At Syntax 0 s.0), inl (s.0, refl, s.1, s.2))
 parsed_by tokens (inr (inr o)) = (Err (At TooDeep 0 o.0), inr (o.0, refl, o.1))
 
 data_parsed_by : (file : ℕ) (tokens : Tokens) →

@@ -5,7 +5,6 @@ use Rattle.opl_outside.specs.Becomes.{Becomes}
 use Rattle.opl_files.specs.declared.refusal.Refusal.{Refusal}
 use Rattle.opl_files.specs.declared.stop.Stop.{Stop}
 use Rattle.opl_files.specs.declared.stop.Stop.TheVariants.{Refused, Spent, ReadFault, WriteFault, OutOfMemory}
-use Rattle.opl_files.specs.Outcomes.{SameOutcome}
 use Rattle.opl_files.specs.Stage.{Stage, Then, Only, Each, Gives, GivesRead}
 
 pub if_some : {A : Type 0} (o : Option A) (P Q : A → Type 0) → ((a : A) → P a → Q a) → IfSome o P → IfSome o Q
@@ -62,23 +61,19 @@ both_told (Some files) (Some others) P Q R both same p q = both files p (subst Q
 
 -- a relation that holds of at most one outcome
 abbrev pub IsOne : {A : Type 0} → Stage A → Type 0
-IsOne {A} P = (r s : Result A Refusal) → P r → P s → SameOutcome r s
+IsOne {A} P = (r s : Result A Refusal) → P r → P s → r ≡ s
 
-ok_same : {A : Type 0} (a b : A) → SameOutcome {A = A} (Ok a) (Ok b) → a ≡ b
-ok_same a b (inl e) = cc
-ok_same a b (inr x) = absurd x
+ok_same : {A : Type 0} (a b : A) → ◌≡◌ {A = Result A Refusal} (Ok a) (Ok b) → a ≡ b
+ok_same a b h = cc
 
-pub ok_no_err : {A : Type 0} (a : A) (e : Refusal) → SameOutcome {A = A} (Ok a) (Err e) → ⊥
-ok_no_err a e (inl h) = cc
-ok_no_err a e (inr x) = x
+pub ok_no_err : {A : Type 0} (a : A) (e : Refusal) → ◌≡◌ {A = Result A Refusal} (Ok a) (Err e) → ⊥
+ok_no_err a e h = cc
 
-pub err_no_ok : {A : Type 0} (a : A) (e : Refusal) → SameOutcome {A = A} (Err e) (Ok a) → ⊥
-err_no_ok a e (inl h) = cc
-err_no_ok a e (inr x) = x
+err_no_ok : {A : Type 0} (a : A) (e : Refusal) → ◌≡◌ {A = Result A Refusal} (Err e) (Ok a) → ⊥
+err_no_ok a e h = cc
 
-err_same : {A B : Type 0} (e f : Refusal) → SameOutcome {A = A} (Err e) (Err f) → SameOutcome {A = B} (Err e) (Err f)
-err_same e f (inl h) = inl (cc)
-err_same e f (inr x) = inr x
+err_same : {A B : Type 0} (e f : Refusal) → ◌≡◌ {A = Result A Refusal} (Err e) (Err f) → ◌≡◌ {A = Result B Refusal} (Err e) (Err f)
+err_same e f h = cc
 
 -- of two stages that give at most one outcome each, one behind the other gives at most one
 pub then_one : {A B : Type 0} (P : Stage A) (Q : A → Stage B) → IsOne P → ((a : A) → IsOne (Q a)) → IsOne (Then P Q)
@@ -88,7 +83,7 @@ then_one P Q one both r s (inr (e, p, q)) (inl (b, p', q')) = absurd (err_no_ok 
 then_one {A} {B} P Q one both r s (inr (e, p, q)) (inr (f, p', q')) = rw (q, q') (err_same {A = A} {B = B} e f (one _ _ p p'))
 
 pub only_one : {A : Type 0} (a : A) → IsOne (Only a)
-only_one a r s p q = inl (p ∙ sym q)
+only_one a r s p q = p ∙ sym q
 
 -- so does one behind another of a list
 pub each_one : {A B : Type 0} (P : ℕ → A → Stage B) → ((n : ℕ) (x : A) → IsOne (P n x)) → (n : ℕ) (xs : List A) → IsOne (Each P n xs)

@@ -5,7 +5,7 @@ use Rattle.opl_token.specs.declared.fault.ScanFault.TheVariants as scan
 use Rattle.opl_token.specs.Scan.{Scans, Faults}
 use Rattle.opl_tree.specs.declared.model.ModelTree.{ModelTree}
 use Rattle.opl_tree.specs.Depth.{depth_model}
-use Rattle.opl_tree.specs.Reading.{IsTreeOf, StopsAt, OpensAt}
+use Rattle.opl_parse.specs.Reading.{IsTreeOf, StopsAt, OpensAt, NoneOpens}
 use Rattle.opl_data.specs.declared.tree.DataFile.{DataFile}
 use Rattle.opl_data.specs.Depth.{depth_file}
 use Rattle.opl_data.specs.Reading as of_data
@@ -35,10 +35,12 @@ abbrev pub Scanned : (file : ℕ) → List ℕ → Stage Tokens
 Scanned file bytes (Ok tokens) = Scans bytes tokens.list × (tokens.end ≡ length bytes)
 Scanned file bytes (Err e) = (fault : ScanFault) × (refusal_of_scan file fault ≡ Some e) × Faults bytes fault
 
--- where the tokens of a model's file stop being the beginning of a model, or open a level of nesting too many
+-- where the tokens of a model's file stop being the beginning of a model, while none opens a level of nesting too many; or the
+-- first that opens one
 abbrev pub IsSyntaxFault : Tokens → Refusal → Type 0
 IsSyntaxFault tokens e =
-    ((at : ℕ) × (e ≡ At Syntax 0 at) × StopsAt tokens.list tokens.end at) ⊎ ((at : ℕ) × (e ≡ At TooDeep 0 at) × OpensAt 256 tokens.list at)
+    ((at : ℕ) × (e ≡ At Syntax 0 at) × StopsAt tokens.list tokens.end at × NoneOpens 256 tokens.list)
+    ⊎ ((at : ℕ) × (e ≡ At TooDeep 0 at) × OpensAt 256 tokens.list at)
 
 -- the tree of the model's tokens, which nests at most 256 levels
 abbrev pub Parsed : Tokens → Stage ModelTree

@@ -19,7 +19,6 @@ use Rattle.opl_files.specs.declared.stop.Stop.TheVariants.{Refused, Spent, ReadF
 use Rattle.opl_tool.specs.Ends.{Call, Finished, Stopped, Ends}
 use Rattle.opl_tool.specs.Headline.{Answers, CameThrough, ComesTo, ErrBy, Exactly, IsFree, IsNoCall, IsRefused, Shows}
 use Rattle.opl_tool.specs.Judged.{Judged}
-use Rattle.opl_files.specs.Outcomes.{SameOutcome}
 use Rattle.opl_tool.specs.Lines.{GainsLine, Tells, answer_of, refusal_text}
 use Rattle.opl_tool.specs.Tasks.{Task, TaskFinds, search_answer, task_answer, task_text}
 use Rattle.opl_tool.specs.Tasks.Task.{solves, grounds, summarizes, helps}
@@ -78,9 +77,8 @@ module _ (c : Call) (words : List (List ℕ)) (files : Files) where
 
   one_task : (t u : Task) → Judged words files (Ok t) → Judged words files (Ok u) → t ≡ u
   one_task t u p q = same_task (judged_one words files _ _ p q) where
-    same_task : SameOutcome {A = Task} (Ok t) (Ok u) → t ≡ u
-    same_task (inl e) = cc
-    same_task (inr x) = absurd x
+    same_task : ◌≡◌ {A = Result Task Refusal} (Ok t) (Ok u) → t ≡ u
+    same_task e = cc
 
   -- ---- which answer comes
 

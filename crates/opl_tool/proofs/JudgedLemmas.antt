@@ -16,10 +16,10 @@ use Rattle.opl_tool.specs.Judged.{Named, Tasked, Answered, Judged}
 use Rattle.opl_tool.specs.Tasks.{Task}
 
 named_one : (words : List (List ℕ)) → IsOne (Named words)
-named_one words (Ok asked) (Ok other) p q = let e : Some asked ≡ Some other = sym p ∙ q in let same : asked ≡ other = cc in inl (ap Ok same)
+named_one words (Ok asked) (Ok other) p q = let e : Some asked ≡ Some other = sym p ∙ q in let same : asked ≡ other = cc in ap Ok same
 named_one words (Ok asked) (Err e) p q = let no : Some asked ≡ None = sym p ∙ q.1 in absurd (cc)
 named_one words (Err e) (Ok asked) p q = let no : Some asked ≡ None = sym q ∙ p.1 in absurd (cc)
-named_one words (Err e) (Err f) p q = inl (ap Err (p.0 ∙ sym q.0))
+named_one words (Err e) (Err f) p q = ap Err (p.0 ∙ sym q.0)
 
 tasked_one : (task : Subject → Task) (trees : Trees) → IsOne (Tasked task trees)
 tasked_one task trees = then_one (Prepared trees.0 trees.1) _ (prepared_one trees.0 trees.1) (λ s. only_one _)

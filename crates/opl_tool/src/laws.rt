@@ -1,8 +1,7 @@
 //! The law of the definitions, as the contract of a function without effect.
 ghost use Rattle.opl_tool.specs.Laws.{OneOutcome};
 
-/// Whatever the words and the files are, they come to one outcome: a task, or a first fault. Only where
-/// tokens stop being the beginning of a model and open a level too many, either fault may be told.
+/// Whatever the words and the files are, they come to one outcome and to no other: a task, or a first fault.
 pub fn one_outcome()
     ensures { OneOutcome }
 {

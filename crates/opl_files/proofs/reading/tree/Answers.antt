@@ -1,0 +1,5 @@
+use Rattle.opl_files.proofs.DataLemmas.{model-stops}
+use Rattle.opl_files.proofs.reading.tree.Goals as goal
+
+pub returns-in-Err-Syntax : goal.returns-in-Err-Syntax
+returns-in-Err-Syntax c = model-stops c.args.tokens.now _ c.in-Err-Syntax.at _ _ c.as_slice.ensures c.in-Err-Syntax.field-0-is c.in-Err-Syntax.ensures c.refused.ensures
