@@ -83,7 +83,7 @@ pub different_by_ends : DifferentByEnds
 different_by_ends core c f is F G u v a b same =
     let s = is.made.separate in
     let by_parts : (H : Family) → Full H → length H ≡ length core.sets → refutes c H ≡ clashes f.parts H =
-        λ H w l. ap (λ d. refutes d H) is.is ∙ different_by_parts is.terms f.parts H w (subst (λ n. ArePartsOf n is.terms f.parts) (sym l) is.parts) (subst (λ n. AreSeparate n f.parts) (sym l) s) in
+    λ H w l. ap (λ d. refutes d H) is.is ∙ different_by_parts is.terms f.parts H w (subst (λ n. ArePartsOf n is.terms f.parts) (sym l) is.parts) (subst (λ n. AreSeparate n f.parts) (sym l) s) in
     by_parts F u a
     ∙ both_ways (clashes f.parts F) (clashes f.parts G) (clashes_alike f.parts F G (length core.sets) u a same s) (clashes_alike f.parts G F (length core.sets) v b (λ x l. sym (same x l)) s)
     ∙ sym (by_parts G v b)

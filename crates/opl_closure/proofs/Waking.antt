@@ -189,7 +189,7 @@ wakes_none watchers end_watchers w F x lo hi l b =
     let k = size_set F x (outside lo hi (set_of F x)) l in
     let n = ap length e in
     let same : (y : ℕ) → set_of (cut_of F x lo hi) y ≡ set_of F y = λ y.
-        elim (cases_eq y x) [ inl j ↦ subst (λ z. set_of (cut_of F x lo hi) z ≡ set_of F z) (sym j) (cut_here F x lo hi l ∙ e) | inr n ↦ cut_there F x y lo hi n ] in
+    elim (cases_eq y x) [ inl j ↦ subst (λ z. set_of (cut_of F x lo hi) z ≡ set_of F z) (sym j) (cut_here F x lo hi l ∙ e) | inr n ↦ cut_there F x y lo hi n ] in
     record {
       same = refl;
       below = cut_below F x lo hi;
@@ -214,7 +214,7 @@ ends_stay F x lo hi l h k a b c d =
     let upper : member h (outside lo hi vs) ≡ true = member_filter (is_outside lo hi) vs h b.among (outside_cases lo hi h (inr d)) in
     let all : hull_some vs ≡ Some (record { low = l; high = h }) = hull_is vs l h a.among b.among (λ u m. (a.least u m, b.most u m)) in
     let rest : hull_some (outside lo hi vs) ≡ Some (record { low = l; high = h }) =
-        hull_is (outside lo hi vs) l h inside upper (λ u m. let r = from_filter (is_outside lo hi) vs u m in (a.least u r.0, b.most u r.0)) in
+    hull_is (outside lo hi vs) l h inside upper (λ u m. let r = from_filter (is_outside lo hi) vs u m in (a.least u r.0, b.most u r.0)) in
     ap hull_of (cut_here F x lo hi k) ∙ hull_by_ends (outside lo hi vs) l h inside rest ∙ sym (hull_by_ends vs l h a.among all)
 
 -- ---- lists that grow and shrink at their ends

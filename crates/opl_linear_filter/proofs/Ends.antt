@@ -59,7 +59,7 @@ ends_decide core c f is h F G u v a b s =
     let m = is.comparison in
     let d = m.difference in
     let by_form : (H : Family) → Full H → length H ≡ length core.sets → refutes (compared is.op is.left is.right) H ≡ rejects (kind_of is.op) (factors_of (left_of is.op is.left is.right) (right_of is.op is.left is.right)) (constant_of (left_of is.op is.left is.right) (right_of is.op is.left is.right)) H =
-        λ H w l. comparisons_by_forms is.op is.left is.right H w m.first m.second (λ e. long_as core c f is (length H) l e (long f h (d.kind ∙ ap kind_of e))) in
+    λ H w l. comparisons_by_forms is.op is.left is.right H w m.first m.second (λ e. long_as core c f is (length H) l e (long f h (d.kind ∙ ap kind_of e))) in
     ap (λ z. refutes z F) is.is
     ∙ by_form F u a
     ∙ rejects_same (kind_of is.op) F G (factors_of (left_of is.op is.left is.right) (right_of is.op is.left is.right)) (constant_of (left_of is.op is.left is.right) (right_of is.op is.left is.right)) (length core.sets) a b s

@@ -420,7 +420,7 @@ module _ {T : Type 0} (marks : T → Marks) (begins : (Option Kind → Type 0) �
       let s = same_cut c.front mid.tokens a.before (a.opener ∷ a.back) (sym c.is ∙ a.is) (sym first ∙ (a.placed ∙ second)) in
       let fronts : kinds a.before ≡ kinds o.front = ap kinds (sym s.fronts) ∙ (c.same ∙ o.same) in
       let spelling : (kinds a.before ++ a.opener.kind ∷ kinds a.back) ≡ kinds o.front ++ (o.opener.kind ∷ o.rest) =
-          sym (kinds-append a.before (a.opener ∷ a.back)) ∙ (ap kinds (sym a.is) ∙ (numbered_kinds 0 ks ∙ opened_spelt n tokens at o)) in
+      sym (kinds-append a.before (a.opener ∷ a.back)) ∙ (ap kinds (sym a.is) ∙ (numbered_kinds 0 ks ∙ opened_spelt n tokens at o)) in
       let openers : a.opener.kind ≡ o.opener.kind = same_head (kinds o.front) a.opener.kind o.opener.kind (kinds a.back) o.rest (ap (λ xs. xs ++ a.opener.kind ∷ kinds a.back) (sym fronts) ∙ spelling) in
       let whole : kinds_of f.front ≡ kinds o.front ++ o.opener.kind ∷ [] = a.same ∙ (ap (λ xs. xs ++ a.opener.kind ∷ []) fronts ∙ ap (λ x. kinds o.front ++ x ∷ []) openers) in
       let all : kinds tokens ≡ kinds_of f.front ++ kinds o.back = ap kinds o.parts ∙ (kinds-append o.front (o.opener ∷ o.back) ∙ (sym (append_assoc (kinds o.front) (o.opener.kind ∷ []) (kinds o.back)) ∙ ap (λ xs. xs ++ kinds o.back) (sym whole))) in

@@ -630,57 +630,111 @@ depth_search-is t = ap depth_of (marks_search-is t) ∙ simp depths (omega arith
 pub depth_model-is : (t : ModelTree) → depth_model t ≡ max (greatest (map depth_decl t.decls)) (max (depth_instr t.instr) (if_any (option_map depth_search t.search)))
 unfolding depth_decl depth_instr depth_search
 depth_model-is t = ap depth_of (marks_model-is t) ∙ simp depths (omega arith)
+
 pub ruleset name_depth = (depth_name-is)
+
 pub ruleset pattern_depth = (depth_pattern-Single, depth_pattern-Record)
+
 pub ruleset compare_depth = (depth_compare-Single, depth_compare-Related, depth_compare-Member)
+
 pub ruleset mul_depth = (depth_mul-Opened, depth_mul-Product)
+
 pub ruleset neg_depth = (depth_neg-Not, depth_neg-Compare)
+
 pub ruleset open_depth = (depth_open-NegativeOpen, depth_open-Aggregate)
+
 pub ruleset prim_depth = (depth_prim-Number, depth_prim-Named, depth_prim-Bracket, depth_prim-Record, depth_prim-Listed, depth_prim-Described, depth_prim-Array, depth_prim-KeyedArray, depth_prim-Call, depth_prim-AllDifferent, depth_prim-Question)
+
 pub ruleset sign_depth = (depth_sign-Negative, depth_sign-Postfix)
+
 pub ruleset suffix_depth = (depth_suffix-Subscripts, depth_suffix-Field)
+
 pub ruleset add_step_depth = (depth_add_step-is)
+
 pub ruleset add_depth = (depth_add-is)
+
 pub ruleset and_depth = (depth_and-is)
+
 pub ruleset expr_depth = (depth_expr-is)
+
 pub ruleset group_step_depth = (depth_group_step-is)
+
 pub ruleset group_depth = (depth_group-is)
+
 pub ruleset imp_depth = (depth_imp-is)
+
 pub ruleset keyed_depth = (depth_keyed-is)
+
 pub ruleset last_step_depth = (depth_last_step-is)
+
 pub ruleset mul_step_depth = (depth_mul_step-is)
+
 pub ruleset or_depth = (depth_or-is)
+
 pub ruleset params_depth = (depth_params-is)
+
 pub ruleset post_depth = (depth_post-is)
+
 pub ruleset set_depth = (depth_set-is)
+
 pub ruleset subscripts_depth = (depth_subscripts-is)
+
 pub ruleset type_depth = (depth_type-Int, depth_type-Named, depth_type-Set)
+
 pub ruleset dim_depth = (depth_dim-is)
+
 pub ruleset dims_depth = (depth_dims-is)
+
 pub ruleset initial_depth = (depth_initial-External, depth_initial-Written)
+
 pub ruleset data_depth = (depth_data-is)
+
 pub ruleset range_depth = (depth_range-is)
+
 pub ruleset enum_names_depth = (depth_enum_names-Listed, depth_enum_names-External)
+
 pub ruleset enum_depth = (depth_enum-is)
+
 pub ruleset field_depth = (depth_field-is)
+
 pub ruleset struct_depth = (depth_struct-is)
+
 pub ruleset variable_type_depth = (depth_variable_type-Int, depth_variable_type-Named)
+
 pub ruleset bounds_depth = (depth_bounds-is)
+
 pub ruleset variable_depth = (depth_variable-is)
+
 pub ruleset activity_depth = (depth_activity-is)
+
 pub ruleset unary_depth = (depth_unary-is)
+
 pub ruleset discrete_depth = (depth_discrete-is)
+
 pub ruleset schedule_depth = (depth_schedule-is)
+
 pub ruleset decl_depth = (depth_decl-Data, depth_decl-Range, depth_decl-Enumeration, depth_decl-Structure, depth_decl-Variable, depth_decl-Activity, depth_decl-Unary, depth_decl-Discrete, depth_decl-Schedule)
+
 pub ruleset requires_depth = (depth_requires-is)
+
 pub ruleset item_depth = (depth_item-Block, depth_item-ForAll, depth_item-If, depth_item-Precedes, depth_item-Requires, depth_item-Constraint)
+
 pub ruleset items_depth = (depth_items-Empty, depth_items-Several)
+
 pub ruleset block_depth = (depth_block-is)
+
 pub ruleset instr_depth = (depth_instr-Solve, depth_instr-Optimize)
+
 pub ruleset order_depth = (depth_order-is)
+
 pub ruleset ordered_params_depth = (depth_ordered_params-is)
+
 pub ruleset statement_depth = (depth_statement-Block, depth_statement-Try, depth_statement-Branch, depth_statement-Once, depth_statement-While, depth_statement-If, depth_statement-Label, depth_statement-Precedes, depth_statement-Constraint)
+
 pub ruleset statements_depth = (depth_statements-Empty, depth_statements-Several)
+
 pub ruleset search_block_depth = (depth_search_block-is)
+
 pub ruleset search_depth = (depth_search-is)
+
 pub ruleset model_depth = (depth_model-is)

@@ -13,5 +13,5 @@ returns-else-min-lo g c =
     let greatest : FitsSigned w64 c.max.result = search rules in
     let l = rw (to_z-of_z w64 c.min.result least, to_z-of_z w64 c.args.lo lo) at c.if-min-lo.false in
     λ e.
-        let h = rw (to_z-of_z w64 c.max.result greatest, to_z-of_z w64 c.args.hi hi) at e in
-        ends_stay (g.V.View.family c.args.view.now) c.args.x c.args.lo c.args.hi c.min.result c.max.result c.requires c.min.ensures c.max.ensures (grind (arith, ints, l)) (grind (arith, ints, h))
+    let h = rw (to_z-of_z w64 c.max.result greatest, to_z-of_z w64 c.args.hi hi) at e in
+    ends_stay (g.V.View.family c.args.view.now) c.args.x c.args.lo c.args.hi c.min.result c.max.result c.requires c.min.ensures c.max.ensures (grind (arith, ints, l)) (grind (arith, ints, h))
