@@ -5,4 +5,3 @@ pub mod Grammar
 pub mod Laws
 pub mod Marks
 pub mod Nests
-pub mod Reading

@@ -1,23 +1,29 @@
 -- From the bytes of the files of a call to their trees.
-use Rattle.std.proofs.Common.{◌≡◌, ◌≢◌, ◌<◌, ◌≤◌, refl, sym, ap, ◌∙◌, subst, ℕ, List, Some, None, Result, Ok, Err, inl, inr, arith}
-use Rattle.opl_parse.proofs.TreeLaws.{one_tree, tree_or_stop, one_stop, one_opening, deep_or_tree}
+use Rattle.std.proofs.Common.{◌≡◌, ◌≢◌, refl, sym, ap, ◌∙◌, subst, ℕ, List, Option, Some, None, Result, Ok, Err, inl, inr, arith}
+use Rattle.opl_reader_laws.proofs.Laws.{one_tree, tree_or_stop, one_stop, one_opening, deep_or_tree}
+use Rattle.opl_reader_laws.proofs.Whole.{Grammar}
+use Rattle.opl_grammar.specs.Input.{Parser}
+use Rattle.opl_grammar.specs.Model.{whole_within}
+use Rattle.opl_parse.proofs.Modelled.{starts_model, model_grammar}
+use Rattle.opl_tree.specs.Marks.{Marks, marks_model}
+use Rattle.opl_token.specs.declared.token.Kind.{Kind}
 use Rattle.opl_tree.specs.declared.model.ModelTree.{ModelTree}
-use Rattle.opl_tree.specs.Depth.{depth_model}
 use Rattle.opl_token.proofs.Unique.{one_scan, no_fault, one_fault}
 use Rattle.opl_token.specs.declared.fault.ScanFault.{ScanFault}
 use Rattle.opl_token.specs.declared.fault.ScanFault.TheVariants as scan
 use Rattle.opl_token.specs.declared.token.Token.{Token}
 use Rattle.opl_type_rules.specs.declared.fault.TypeFault.{TypeFault}
 use Rattle.opl_type_rules.specs.Types.{Sort}
-use Rattle.opl_data.proofs.TreeLaws as of_data
-use Rattle.opl_data.specs.Depth.{depth_file}
+use Rattle.opl_data.proofs.Files.{starts_file, data_grammar}
+use Rattle.opl_data.specs.Grammar as data_files
+use Rattle.opl_data.specs.Marks.{marks_file}
 use Rattle.opl_data.specs.declared.tree.DataFile.{DataFile}
 use Rattle.opl_files.specs.declared.refusal.Fault.TheVariants.{Syntax, TooDeep}
 use Rattle.opl_files.specs.declared.refusal.Refusal.{Refusal}
 use Rattle.opl_files.specs.declared.refusal.Refusal.TheVariants.{At}
 use Rattle.opl_files.specs.declared.scanning.Tokens.{Tokens}
 use Rattle.opl_files.specs.declared.stop.Stop.{Stop}
-use Rattle.opl_files.specs.Reading.{refusal_of_scan, Scanned, IsSyntaxFault, Parsed, IsDataFault, DataParsed, HasTypes, refusal_of_type, Understood, Read}
+use Rattle.opl_files.specs.Reading.{refusal_of_scan, Scanned, IsSyntaxFault, TreeOf, Parsed, DataParsed, HasTypes, refusal_of_type, Understood, Read}
 use Rattle.opl_files.specs.Stage.{Stage, Then, Only, Each, Gives}
 use Rattle.opl_files.proofs.StageLemmas.{IsOne, each_one, only_one, then_one, then-gives, then-stops}
 
@@ -72,39 +78,29 @@ scanned_one file bytes (Err e) (Err f) p q =
     let both : Some e ≡ Some f = sym p.1 ∙ ap (refusal_of_scan file) same ∙ q.1 in
     let one : e ≡ f = cc in ap Err one
 
--- a tree that nests at most 256 levels has no fault of syntax
-no_syntax_fault : (tokens : Tokens) (t : ModelTree) (e : Refusal) → Parsed tokens (Ok t) → IsSyntaxFault tokens e → ⊥
-no_syntax_fault tokens t e p (inl q) = tree_or_stop tokens.list tokens.end t q.0 p.0 q.2
-no_syntax_fault tokens t e p (inr q) = let deep : 256 < depth_model t = deep_or_tree 256 tokens.list tokens.end t q.0 p.0 q.2 in let shallow : depth_model t ≤ 256 = p.1 in omega arith
+-- the tokens of a file come to one tree or to one fault
+module _ {T : Type 0} (marks : T → Marks) (begins : (Option Kind → Type 0) → Option Kind → Type 0) (read : ℕ → Parser T) (G : Grammar marks begins read) (file : ℕ) (tokens : Tokens) where
+  not_both : (t : T) (e : Refusal) → TreeOf marks file tokens (Ok t) → IsSyntaxFault marks file tokens e → ⊥
+  not_both t e p (inl q) = tree_or_stop marks begins read G tokens.list tokens.end t q.0 p.0 q.2
+  not_both t e p (inr q) = let deep = deep_or_tree marks begins read G 256 tokens.list tokens.end t q.0 p.0 q.2 in let shallow = p.1 in omega arith
 
-one_syntax_fault : (tokens : Tokens) (e f : Refusal) → IsSyntaxFault tokens e → IsSyntaxFault tokens f → e ≡ f
-one_syntax_fault tokens e f (inl p) (inl q) = p.1 ∙ (ap (At Syntax 0) (one_stop tokens.list tokens.end p.0 q.0 p.2 q.2) ∙ sym q.1)
-one_syntax_fault tokens e f (inl p) (inr q) = absurd (p.3 q.0 q.2)
-one_syntax_fault tokens e f (inr p) (inl q) = absurd (q.3 p.0 p.2)
-one_syntax_fault tokens e f (inr p) (inr q) = p.1 ∙ (ap (At TooDeep 0) (one_opening 256 tokens.list p.0 q.0 p.2 q.2) ∙ sym q.1)
+  one_syntax_fault : (e f : Refusal) → IsSyntaxFault marks file tokens e → IsSyntaxFault marks file tokens f → e ≡ f
+  one_syntax_fault e f (inl p) (inl q) = p.1 ∙ (ap (At Syntax file) (one_stop marks begins read G tokens.list tokens.end p.0 q.0 p.2 q.2) ∙ sym q.1)
+  one_syntax_fault e f (inl p) (inr q) = absurd (p.3 q.0 q.2)
+  one_syntax_fault e f (inr p) (inl q) = absurd (q.3 p.0 p.2)
+  one_syntax_fault e f (inr p) (inr q) = p.1 ∙ (ap (At TooDeep file) (one_opening marks begins read G 256 tokens.list p.0 q.0 p.2 q.2) ∙ sym q.1)
+
+  tree_one : IsOne (TreeOf marks file tokens)
+  tree_one (Ok t) (Ok u) p q = ap Ok (one_tree marks begins read G tokens.list tokens.end t u p.0 q.0)
+  tree_one (Ok t) (Err e) p q = absurd (not_both t e p q)
+  tree_one (Err e) (Ok u) p q = absurd (not_both u e q p)
+  tree_one (Err e) (Err f) p q = ap Err (one_syntax_fault e f p q)
 
 parsed_one : (tokens : Tokens) → IsOne (Parsed tokens)
-parsed_one tokens (Ok t) (Ok u) p q = ap Ok (one_tree tokens.list tokens.end t u p.0 q.0)
-parsed_one tokens (Ok t) (Err e) p q = absurd (no_syntax_fault tokens t e p q)
-parsed_one tokens (Err e) (Ok u) p q = absurd (no_syntax_fault tokens u e q p)
-parsed_one tokens (Err e) (Err f) p q = ap Err (one_syntax_fault tokens e f p q)
-
--- the same of data files
-no_data_fault : (file : ℕ) (tokens : Tokens) (t : DataFile) (e : Refusal) → DataParsed file tokens (Ok t) → IsDataFault file tokens e → ⊥
-no_data_fault file tokens t e p (inl q) = of_data.tree_or_stop tokens.list tokens.end t q.0 p.0 q.2
-no_data_fault file tokens t e p (inr q) = let deep : 256 < depth_file t = of_data.deep_or_tree 256 tokens.list tokens.end t q.0 p.0 q.2 in let shallow : depth_file t ≤ 256 = p.1 in omega arith
-
-one_data_fault : (file : ℕ) (tokens : Tokens) (e f : Refusal) → IsDataFault file tokens e → IsDataFault file tokens f → e ≡ f
-one_data_fault file tokens e f (inl p) (inl q) = p.1 ∙ (ap (At Syntax file) (of_data.one_stop tokens.list tokens.end p.0 q.0 p.2 q.2) ∙ sym q.1)
-one_data_fault file tokens e f (inl p) (inr q) = absurd (p.3 q.0 q.2)
-one_data_fault file tokens e f (inr p) (inl q) = absurd (q.3 p.0 p.2)
-one_data_fault file tokens e f (inr p) (inr q) = p.1 ∙ (ap (At TooDeep file) (of_data.one_opening 256 tokens.list p.0 q.0 p.2 q.2) ∙ sym q.1)
+parsed_one tokens = tree_one marks_model starts_model whole_within model_grammar 0 tokens
 
 data_parsed_one : (file : ℕ) (tokens : Tokens) → IsOne (DataParsed file tokens)
-data_parsed_one file tokens (Ok t) (Ok u) p q = ap Ok (of_data.one_tree tokens.list tokens.end t u p.0 q.0)
-data_parsed_one file tokens (Ok t) (Err e) p q = absurd (no_data_fault file tokens t e p q)
-data_parsed_one file tokens (Err e) (Ok u) p q = absurd (no_data_fault file tokens u e q p)
-data_parsed_one file tokens (Err e) (Err f) p q = ap Err (one_data_fault file tokens e f p q)
+data_parsed_one file tokens = tree_one marks_file starts_file data_files.whole_within data_grammar file tokens
 
 typed_one : (tree : ModelTree) → IsOne (HasTypes tree)
 typed_one tree (Ok t) (Ok u) p q = ap Ok (p.0 ∙ sym q.0)

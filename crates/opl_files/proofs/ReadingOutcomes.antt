@@ -2,7 +2,7 @@
 use Rattle.std.proofs.Common.{◌≡◌, ◌≢◌, ◌⊎◌, ◌≤◌, refl, ℕ, List, length, Result, Ok, Err, inl, inr}
 use Rattle.opl_parse.proofs.TreeLaws.{parse_total}
 use Rattle.opl_tree.specs.declared.model.ModelTree.{ModelTree}
-use Rattle.opl_tree.specs.Depth.{depth_model}
+use Rattle.opl_tree.specs.Depth.{depth_of}
 use Rattle.opl_token.proofs.Unique.{total}
 use Rattle.opl_token.specs.declared.fault.ScanFault.{ScanFault}
 use Rattle.opl_token.specs.declared.fault.ScanFault.TheVariants as scan
@@ -13,15 +13,14 @@ use Rattle.opl_type_rules.specs.declared.fault.TypeFault.{TypeFault}
 use Rattle.opl_type_rules.specs.declared.fault.TypeFault.TheVariants as types
 use Rattle.opl_type_rules.specs.Types.{Sort}
 use Rattle.opl_model_types.proofs.PureItems.{never_memory}
-use Rattle.opl_parse.specs.Reading.{IsTreeOf, StopsAt, OpensAt, NoneOpens}
+use Rattle.opl_reader_laws.specs.Reading as of_marks
+use Rattle.opl_tree.specs.Marks.{Marks, marks_model}
+use Rattle.opl_data.specs.Marks.{marks_file}
 use Rattle.opl_data.proofs.TreeLaws as of_data
-use Rattle.opl_data.specs.Depth.{depth_file}
-use Rattle.opl_data.specs.Reading as data_files
-use Rattle.opl_data.specs.declared.tree.DataFile.{DataFile}
 use Rattle.opl_files.specs.declared.refusal.Fault.TheVariants.{BadByte, OpenComment, OpenString, NumberTooLarge, Syntax, TooDeep, Unknown, Duplicate, NotData, Mismatch}
 use Rattle.opl_files.specs.declared.refusal.Refusal.TheVariants.{At}
 use Rattle.opl_files.specs.declared.scanning.Tokens.{Tokens}
-use Rattle.opl_files.specs.Reading.{Scanned, Parsed, DataParsed, HasTypes, Understood, Read}
+use Rattle.opl_files.specs.Reading.{Scanned, TreeOf, Parsed, DataParsed, HasTypes, Understood, Read}
 use Rattle.opl_files.specs.Stage.{Each}
 use Rattle.opl_files.proofs.StageLemmas.{Comes, each_comes, then_comes}
 
@@ -39,22 +38,15 @@ scanned_by file bytes (inr f) = refusal_at file bytes f.0 f.1 f.2
 scanned_comes : (file : ℕ) (bytes : List ℕ) → Comes (Scanned file bytes)
 scanned_comes file bytes = scanned_by file bytes (total bytes)
 
-parsed_by : (tokens : Tokens) →
-    ((t : ModelTree) × IsTreeOf t tokens.list tokens.end × (depth_model t ≤ 256))
-    ⊎ (((at : ℕ) × StopsAt tokens.list tokens.end at × NoneOpens 256 tokens.list) ⊎ ((at : ℕ) × OpensAt 256 tokens.list at)) → Comes (Parsed tokens)
-parsed_by tokens (inl t) = (Ok t.0, (t.1, t.2))
-parsed_by tokens (inr (inl s)) = (Err (At Syntax 0 s.0), inl (s.0, refl, s.1, s.2))
-parsed_by tokens (inr (inr o)) = (Err (At TooDeep 0 o.0), inr (o.0, refl, o.1))
-
-data_parsed_by : (file : ℕ) (tokens : Tokens) →
-    ((t : DataFile) × data_files.IsTreeOf t tokens.list tokens.end × (depth_file t ≤ 256))
-    ⊎ (((at : ℕ) × data_files.StopsAt tokens.list tokens.end at × data_files.NoneOpens 256 tokens.list) ⊎ ((at : ℕ) × data_files.OpensAt 256 tokens.list at)) → Comes (DataParsed file tokens)
-data_parsed_by file tokens (inl t) = (Ok t.0, (t.1, t.2))
-data_parsed_by file tokens (inr (inl s)) = (Err (At Syntax file s.0), inl (s.0, refl, s.1, s.2))
-data_parsed_by file tokens (inr (inr o)) = (Err (At TooDeep file o.0), inr (o.0, refl, o.1))
+tree_by : {T : Type 0} (marks : T → Marks) (file : ℕ) (tokens : Tokens) →
+    ((t : T) × of_marks.IsTreeOf marks t tokens.list tokens.end × (depth_of (marks t) ≤ 256))
+    ⊎ (((at : ℕ) × of_marks.StopsAt marks tokens.list tokens.end at × of_marks.NoneOpens marks 256 tokens.list) ⊎ ((at : ℕ) × of_marks.OpensAt marks 256 tokens.list at)) → Comes (TreeOf marks file tokens)
+tree_by marks file tokens (inl t) = (Ok t.0, (t.1, t.2))
+tree_by marks file tokens (inr (inl s)) = (Err (At Syntax file s.0), inl (s.0, refl, s.1, s.2))
+tree_by marks file tokens (inr (inr o)) = (Err (At TooDeep file o.0), inr (o.0, refl, o.1))
 
 data_parsed_comes : (file : ℕ) (tokens : Tokens) → Comes (DataParsed file tokens)
-data_parsed_comes file tokens = data_parsed_by file tokens (of_data.parse_total tokens.list tokens.end)
+data_parsed_comes file tokens = tree_by marks_file file tokens (of_data.parse_total tokens.list tokens.end)
 
 typed_by : (tree : ModelTree) (r : Result (List Sort) TypeFault) → model tree ≡ r → Comes (HasTypes tree)
 typed_by tree (Ok kinds) e = (Ok tree, (refl, kinds, e))
@@ -65,7 +57,7 @@ typed_by tree (Err (types.Mismatch at)) e = (Err (At Mismatch 0 at), (types.Mism
 typed_by tree (Err types.OutOfMemory) e = absurd (never_memory tree e)
 
 understood_comes : (tokens : Tokens) (more : List Tokens) → Comes (Understood tokens more)
-understood_comes tokens more = then_comes (Parsed tokens) _ (parsed_by tokens (parse_total tokens.list tokens.end)) (λ tree.
+understood_comes tokens more = then_comes (Parsed tokens) _ (tree_by marks_model 0 tokens (parse_total tokens.list tokens.end)) (λ tree.
     then_comes (Each DataParsed 1 more) _ (each_comes DataParsed data_parsed_comes 1 more) (λ files.
     then_comes (HasTypes tree) _ (typed_by tree (model tree) refl) (λ t. (Ok (t, files), refl))))
 

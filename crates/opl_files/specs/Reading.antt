@@ -4,11 +4,11 @@ use Rattle.opl_token.specs.declared.fault.ScanFault.{ScanFault}
 use Rattle.opl_token.specs.declared.fault.ScanFault.TheVariants as scan
 use Rattle.opl_token.specs.Scan.{Scans, Faults}
 use Rattle.opl_tree.specs.declared.model.ModelTree.{ModelTree}
-use Rattle.opl_tree.specs.Depth.{depth_model}
-use Rattle.opl_parse.specs.Reading.{IsTreeOf, StopsAt, OpensAt, NoneOpens}
+use Rattle.opl_tree.specs.Depth.{depth_of}
+use Rattle.opl_tree.specs.Marks.{Marks, marks_model}
+use Rattle.opl_reader_laws.specs.Reading as of_marks
 use Rattle.opl_data.specs.declared.tree.DataFile.{DataFile}
-use Rattle.opl_data.specs.Depth.{depth_file}
-use Rattle.opl_data.specs.Reading as of_data
+use Rattle.opl_data.specs.Marks.{marks_file}
 use Rattle.opl_model_types.specs.Models.{model}
 use Rattle.opl_type_rules.specs.declared.fault.TypeFault.{TypeFault}
 use Rattle.opl_type_rules.specs.declared.fault.TypeFault.TheVariants as types
@@ -35,29 +35,25 @@ abbrev pub Scanned : (file : ℕ) → List ℕ → Stage Tokens
 Scanned file bytes (Ok tokens) = Scans bytes tokens.list × (tokens.end ≡ length bytes)
 Scanned file bytes (Err e) = (fault : ScanFault) × (refusal_of_scan file fault ≡ Some e) × Faults bytes fault
 
--- where the tokens of a model's file stop being the beginning of a model, while none opens a level of nesting too many; or the
--- first that opens one
-abbrev pub IsSyntaxFault : Tokens → Refusal → Type 0
-IsSyntaxFault tokens e =
-    ((at : ℕ) × (e ≡ At Syntax 0 at) × StopsAt tokens.list tokens.end at × NoneOpens 256 tokens.list)
-    ⊎ ((at : ℕ) × (e ≡ At TooDeep 0 at) × OpensAt 256 tokens.list at)
+-- where the tokens of a file stop being the beginning of a text of its grammar, while none opens a level of nesting too many; or
+-- the first that opens one
+abbrev pub IsSyntaxFault : {T : Type 0} → (T → Marks) → (file : ℕ) → Tokens → Refusal → Type 0
+IsSyntaxFault marks file tokens e =
+    ((at : ℕ) × (e ≡ At Syntax file at) × of_marks.StopsAt marks tokens.list tokens.end at × of_marks.NoneOpens marks 256 tokens.list)
+    ⊎ ((at : ℕ) × (e ≡ At TooDeep file at) × of_marks.OpensAt marks 256 tokens.list at)
 
--- the tree of the model's tokens, which nests at most 256 levels
+-- the tree of a file's tokens, which nests at most 256 levels
+abbrev pub TreeOf : {T : Type 0} → (T → Marks) → (file : ℕ) → Tokens → Stage T
+TreeOf marks file tokens (Ok tree) = of_marks.IsTreeOf marks tree tokens.list tokens.end × (depth_of (marks tree) ≤ 256)
+TreeOf marks file tokens (Err e) = IsSyntaxFault marks file tokens e
+
+-- the tree of the model's tokens
 abbrev pub Parsed : Tokens → Stage ModelTree
-Parsed tokens (Ok tree) = IsTreeOf tree tokens.list tokens.end × (depth_model tree ≤ 256)
-Parsed tokens (Err e) = IsSyntaxFault tokens e
+Parsed = TreeOf marks_model 0
 
--- where the tokens of a data file stop being the beginning of one, while none opens a level of nesting too many; or the
--- first that opens one
-abbrev pub IsDataFault : (file : ℕ) → Tokens → Refusal → Type 0
-IsDataFault file tokens e =
-    ((at : ℕ) × (e ≡ At Syntax file at) × of_data.StopsAt tokens.list tokens.end at × of_data.NoneOpens 256 tokens.list)
-    ⊎ ((at : ℕ) × (e ≡ At TooDeep file at) × of_data.OpensAt 256 tokens.list at)
-
--- the tree of a data file's tokens, which nests at most 256 levels
+-- the tree of a data file's tokens
 abbrev pub DataParsed : (file : ℕ) → Tokens → Stage DataFile
-DataParsed file tokens (Ok tree) = of_data.IsTreeOf tree tokens.list tokens.end × (depth_file tree ≤ 256)
-DataParsed file tokens (Err e) = IsDataFault file tokens e
+DataParsed = TreeOf marks_file
 
 -- the refusal at a fault of typing; want of memory is none
 abbrev pub refusal_of_type : TypeFault → Option Refusal

@@ -331,9 +331,6 @@ bounds_law {n} {r} {s} R = plain_law (placed_law (pair_law (word_law words.In) (
   begins = λ F k h. h;
 }) (gd.bounds r) (gd.bounds s) (bounds_is r) (bounds_is s)
 
-abbrev optional_bounds : Shape (Option BoundsTree)
-optional_bounds = maybe_shape (is_word words.In) bounds_shape
-
 bounds_meet : (k : Option Kind) → (is_word words.In k ≡ true) ⊎ (is_sign signs.Semicolon k ≡ true) → Unit {0} × (is_sign signs.OpenBracket k ≡ false)
 bounds_meet k (inl h) = (tt, from_word words.In (λ l. sees_sign signs.OpenBracket l ≡ false) k h refl)
 bounds_meet k (inr h) = (tt, from_sign signs.Semicolon (λ l. sees_sign signs.OpenBracket l ≡ false) k h refl)

@@ -63,9 +63,6 @@ relation_first k = is_some (relation_in k) ≡ true
 pub relation_reads : Reads relation_in relation_part relation_first
 relation_reads = sign_table_reads relation_of relation_sign relation_found relation_known relations.Equal
 
-pub from_relation : (P : Look → Type 0) (k : Option Kind) → relation_first k → ((a : Relation) → P (looks.Sign (relation_sign a))) → P (look k)
-from_relation = from_sign_table relation_of relation_sign relation_found relation_known relations.Equal
-
 add_op_found : (s : Sign) (a : AddOp) → add_op_of s ≡ Some a → s ≡ add_sign a
 add_op_found signs.Plus a h = ap add_sign (some_eq h)
 add_op_found signs.Minus a h = ap add_sign (some_eq h)
@@ -83,9 +80,6 @@ add_op_first k = is_some (add_op_in k) ≡ true
 
 pub add_op_reads : Reads add_op_in add_op_part add_op_first
 add_op_reads = sign_table_reads add_op_of add_sign add_op_found add_op_known add_ops.Plus
-
-pub from_add_op : (P : Look → Type 0) (k : Option Kind) → add_op_first k → ((a : AddOp) → P (looks.Sign (add_sign a))) → P (look k)
-from_add_op = from_sign_table add_op_of add_sign add_op_found add_op_known add_ops.Plus
 
 separator_found : (s : Sign) (a : GroupSeparator) → separator_of s ≡ Some a → s ≡ separator_sign a
 separator_found signs.Comma a h = ap separator_sign (some_eq h)
@@ -283,9 +277,6 @@ direction_first k = is_some (direction_in k) ≡ true
 
 pub direction_reads : Reads direction_in direction_part direction_first
 direction_reads = word_table_reads direction_of direction_word direction_found direction_known true
-
-pub from_direction : (P : Look → Type 0) (k : Option Kind) → direction_first k → ((a : Bool) → P (looks.Word (direction_word a))) → P (look k)
-from_direction = from_word_table direction_of direction_word direction_found direction_known true
 
 -- the operator of a product is a sign or a word
 times_found : (s : Sign) (a : MulOp) (k : Option Kind) → look k ≡ looks.Sign s → mul_sign_of s ≡ Some a → k ≡ Some (kind_of (mul_part a))

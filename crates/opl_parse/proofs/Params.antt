@@ -29,7 +29,7 @@ use Rattle.opl_grammar.specs.Tables.{through, separator_of, separator_in, direct
 use Rattle.opl_grammar.specs.Rules as g
 use Rattle.opl_grammar.specs.Rules.{Rules}
 use Rattle.opl_parse.proofs.Follow.{sign_binds, binds, Ends, sign_ends, word_ends}
-use Rattle.opl_reader_laws.proofs.Forms.{placed, placed_shape, placed_law, maybe, maybe_marks, maybe_shape, maybe_law, either, by_side, either_shape, either_law, mapped, Made, stricter, stricter_law, plain, plain_law}
+use Rattle.opl_reader_laws.proofs.Forms.{placed, placed_shape, placed_law, maybe, maybe_marks, maybe_shape, maybe_law, either, by_side, either_shape, either_law, mapped, Made, stricter_law, plain, plain_law}
 use Rattle.opl_reader_laws.proofs.Led.{led_shape, led_law, each_shape, each_law}
 use Rattle.opl_reader_laws.proofs.Opened.{opened, opened_shape, opened_law}
 use Rattle.opl_reader_laws.proofs.Many.{many_law}
@@ -189,9 +189,6 @@ condition_law {n} {r} {s} R = led_law (sign_reads signs.Colon) (expr_law R)
 abbrev NoGroup : Option Kind → Type 0
 NoGroup k = Ends 4 k × (is_separator k ≡ false)
 
-abbrev conditioned : Shape (Option ExprTree)
-conditioned = stricter NoGroup (maybe_shape (is_sign signs.Colon) condition_shape)
-
 abbrev ParamsParts : Type 0
 ParamsParts = ℕ × (GroupTree × (List GroupStep × Option ExprTree))
 
@@ -270,9 +267,6 @@ order_law {n} {r} {s} R = plain_law (placed_law (pair_law (word_law words.Ordere
   closes = λ k h. h;
   begins = λ F k h. h;
 }) (g.order r) (g.order s) (order_is r) (order_is s)
-
-abbrev ordering : Shape (Option OrderTree)
-ordering = stricter EndsParams (maybe_shape (is_word words.Ordered) order_shape)
 
 abbrev ordered_to : ℕ × (ParamsTree × Option OrderTree) → OrderedParamsTree
 ordered_to c = record { at = c.0; params = c.1.0; order = c.1.1 }

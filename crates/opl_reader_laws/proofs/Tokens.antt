@@ -183,9 +183,6 @@ name_reads = record {
   proper = empty_name;
 }
 
-abbrev pub name_text_shape : Shape (List ℕ)
-name_text_shape = one_shape name_part (λ k. is_name k ≡ true)
-
 any_in_some : (k : Option Kind) (v : List ℕ) → any_in k ≡ Some v → (k ≡ Some (kinds.Word v)) × Unit {0}
 any_in_some None v h = cc
 any_in_some (Some (kinds.Word w)) v h = (ap (λ x. Some (kinds.Word x)) (some_eq h), tt)

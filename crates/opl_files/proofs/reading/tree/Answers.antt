@@ -1,5 +1,6 @@
-use Rattle.opl_files.proofs.DataLemmas.{model-stops}
+use Rattle.opl_files.proofs.DataLemmas.{syntax-stops}
+use Rattle.opl_tree.specs.Marks.{marks_model}
 use Rattle.opl_files.proofs.reading.tree.Goals as goal
 
 pub returns-in-Err-Syntax : goal.returns-in-Err-Syntax
-returns-in-Err-Syntax c = model-stops c.args.tokens.now _ c.in-Err-Syntax.at _ _ c.as_slice.ensures c.in-Err-Syntax.field-0-is c.in-Err-Syntax.ensures c.refused.ensures
+returns-in-Err-Syntax c = syntax-stops marks_model 0 c.args.tokens.now _ c.in-Err-Syntax.at _ _ c.as_slice.ensures c.in-Err-Syntax.field-0-is c.in-Err-Syntax.ensures c.refused.ensures
