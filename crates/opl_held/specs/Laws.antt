@@ -1,0 +1,31 @@
+-- Laws of what conditions come to under an assignment.
+use Rattle.std.specs.Prelude.{◌≡◌, ℤ, Bool, List, [], Option, Some, None, Ok, Err}
+use Rattle.opl_draft.specs.Drafts.{Cells, Draft, draft_value}
+use Rattle.opl_eval.specs.declared.fault.EvalFault.{EvalFault}
+use Rattle.opl_eval.specs.Evaluation.{Found, found, is_true}
+use Rattle.opl_value.specs.declared.value.Value.{Value}
+use Rattle.opl_form.specs.Worth.{some_of}
+use Rattle.opl_held.specs.Outcomes.{data_of, fault_of, value_in}
+use Rattle.opl_held.specs.Worth.{comes_to, worth}
+
+-- A draft is worth what it comes to by evaluation, and undefined, or a fault without variables, where evaluation finds a fault.
+abbrev pub WorthMeans : Type 0
+WorthMeans = (arrays : List Cells) (ns : List ℤ) (d : Draft) → value_in (worth arrays ns d) ≡ some_of (draft_value arrays ns d)
+
+-- No assignment changes whether a variable is left in a draft, what it comes to where none is, and its first fault without variables.
+abbrev pub DataStays : Type 0
+DataStays = (arrays : List Cells) (ns ms : List ℤ) (d : Draft) → found data_of (worth arrays ns d) ≡ found data_of (worth arrays ms d)
+
+-- The first fault of a draft without variables, which no assignment changes.
+abbrev pub data_fault : List Cells → Draft → Option EvalFault
+data_fault arrays d = fault_of (worth arrays [] d)
+
+-- What is answered of a condition: a fault without variables, else whether it is true, and nothing where evaluation finds a fault.
+abbrev pub answer : Option EvalFault → Found Value → Found (Option Bool)
+answer (Some fault) r = Err fault
+answer None (Ok v) = Ok (Some (is_true v))
+answer None (Err fault) = Ok None
+
+-- A condition comes to its first fault without variables, and else to what evaluation finds.
+abbrev pub ComesToAnswer : Type 0
+ComesToAnswer = (arrays : List Cells) (ns : List ℤ) (d : Draft) → comes_to arrays ns d ≡ answer (data_fault arrays d) (draft_value arrays ns d)
