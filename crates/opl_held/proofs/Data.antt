@@ -31,7 +31,7 @@ use Rattle.opl_held.specs.Laws.{DataStays}
 
 -- ---- what is found
 
-abbrev ok : {A : Type 0} → A → Found A
+abbrev pub ok : {A : Type 0} → A → Found A
 ok a = Ok a
 
 abbrev err : (A : Type 0) → EvalFault → Found A

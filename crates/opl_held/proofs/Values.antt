@@ -95,7 +95,7 @@ reads-found : {X Y A B : Type 0} (of : X → Option A) (to : Y → Option B) (r 
 reads-found of to (Ok x) f g h = h x
 reads-found of to (Err fault) f g h = refl
 
-abbrev values_of : List Worth → Option (List Value)
+abbrev pub values_of : List Worth → Option (List Value)
 values_of os = value_of (each os)
 
 one-means : {A B : Type 0} (f : A → Found B) (r : Found (Outcome A)) (x : Found A) → value_in r ≡ some_of x → value_in (then r (λ o. told (changed f o))) ≡ some_of (then x f)
@@ -299,7 +299,7 @@ joint-none n None = refl
 joint-none n (Some p) = refl
 
 -- a key with a part that is no index has no place
-no-place : (dims : List (List Value)) (os : List Worth) (key : List Value) → values_of os ≡ Some key → are_indices dims (map data_of os) ≡ false → place_of dims key ≡ None
+pub no-place : (dims : List (List Value)) (os : List Worth) (key : List Value) → values_of os ≡ Some key → are_indices dims (map data_of os) ≡ false → place_of dims key ≡ None
 no-place [] os key h e = absurd (cc)
 no-place (dim ∷ dims) [] key h e = absurd (cc)
 no-place (dim ∷ dims) (o ∷ os) key h e = by (no-place dims os) o (values_of os) refl (sym (changed-value (λ p. p.0 ∷ p.1) (both o (each os)) ∙ ap (option_map (λ p. p.0 ∷ p.1)) (both-value o (each os))) ∙ h) e

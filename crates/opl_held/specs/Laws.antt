@@ -1,10 +1,16 @@
 -- Laws of what conditions come to under an assignment.
-use Rattle.std.specs.Prelude.{◌≡◌, ℤ, Bool, List, [], Option, Some, None, Ok, Err}
+use Rattle.std.specs.Prelude.{◌≡◌, ℕ, ℤ, Bool, List, [], Option, Some, None, Ok, Err}
 use Rattle.opl_draft.specs.Drafts.{Cells, Draft, draft_value}
 use Rattle.opl_eval.specs.declared.fault.EvalFault.{EvalFault}
 use Rattle.opl_eval.specs.Evaluation.{Found, found, is_true}
 use Rattle.opl_value.specs.declared.value.Value.{Value}
-use Rattle.opl_form.specs.Worth.{some_of}
+use Rattle.opl_draft.specs.Instances.{Condition}
+use Rattle.opl_form.specs.Forms.{form}
+use Rattle.opl_form.specs.Laws.{AreSoundArrays, IsAssignment}
+use Rattle.opl_form.specs.Made.{made}
+use Rattle.opl_form.specs.Parts.{Form, as_condition}
+use Rattle.opl_form.specs.Parts.Form.{known}
+use Rattle.opl_form.specs.Worth.{hold, some_of}
 use Rattle.opl_held.specs.Outcomes.{data_of, fault_of, value_in}
 use Rattle.opl_held.specs.Worth.{comes_to, worth}
 
@@ -29,3 +35,18 @@ answer None (Err fault) = Ok None
 -- A condition comes to its first fault without variables, and else to what evaluation finds.
 abbrev pub ComesToAnswer : Type 0
 ComesToAnswer = (arrays : List Cells) (ns : List ℤ) (d : Draft) → comes_to arrays ns d ≡ answer (data_fault arrays d) (draft_value arrays ns d)
+
+-- The value of a ground form in which no variable is left.
+abbrev pub known_in : Form → Option Value
+known_in (known v) = Some v
+known_in g = None
+
+-- Where a ground form is made, there is no fault without variables, and a variable is left in both the draft and the form, or the same value is.
+abbrev pub MadeIsFound : Type 0
+MadeIsFound = (sets : List (ℤ × ℤ)) (arrays : List Cells) (item n : ℕ) (d : Draft) (g : Form) → AreSoundArrays sets arrays → made sets arrays item n d ≡ Ok g →
+    (ns : List ℤ) → found data_of (worth arrays ns d) ≡ Ok (known_in g)
+
+-- Where the constraint of a condition is made, the condition comes to whether that holds, under each assignment of the declared sets.
+abbrev pub ComesToConstraint : Type 0
+ComesToConstraint = (sets : List (ℤ × ℤ)) (arrays : List Cells) (n : ℕ) (c : Condition) (g : Form) → AreSoundArrays sets arrays → form sets arrays n c ≡ Ok g →
+    (ns : List ℤ) → IsAssignment sets ns → comes_to arrays ns c.draft ≡ Ok (hold arrays ns (as_condition g))

@@ -1,5 +1,5 @@
 //! Laws of what conditions come to under an assignment, as contracts of functions without effect.
-ghost use Rattle.opl_held.specs.Laws.{ComesToAnswer, DataStays, WorthMeans};
+ghost use Rattle.opl_held.specs.Laws.{ComesToAnswer, ComesToConstraint, DataStays, MadeIsFound, WorthMeans};
 
 /// An unrolled condition is worth what evaluation of it comes to, and undefined where evaluation finds a fault.
 pub fn worth_means()
@@ -15,4 +15,16 @@ pub fn data_stays()
 /// A condition comes to its first fault without variables, and else to what evaluation finds.
 pub fn comes_to_answer()
     ensures { ComesToAnswer }
+{}
+
+/// Where a ground form is made of an unrolled condition, that has no fault without variables; a decision variable is left in both, or the
+/// same value.
+pub fn made_is_found()
+    ensures { MadeIsFound }
+{}
+
+/// Where the constraint of a condition is made, the condition comes to whether the constraint holds, and to nothing where that is undefined,
+/// under each assignment of the declared sets.
+pub fn comes_to_constraint()
+    ensures { ComesToConstraint }
 {}
