@@ -1,4 +1,7 @@
-pub mod Answers
-pub mod Data
-pub mod Made
-pub mod Values
+mod Answers
+mod Data
+mod Drawn
+mod Made
+mod Values
+mod Variables
+pub mod Places

@@ -62,11 +62,11 @@ some-then (Err fault) f = refl
 
 -- ---- outcomes
 
-changed-value : {A B : Type 0} (f : A → B) (o : Outcome A) → value_of (changed f o) ≡ option_map f (value_of o)
+pub changed-value : {A B : Type 0} (f : A → B) (o : Outcome A) → value_of (changed f o) ≡ option_map f (value_of o)
 changed-value f (Fixed a) = refl
 changed-value f (Live o) = refl
 
-both-value : {A B : Type 0} (a : Outcome A) (b : Outcome B) → value_of (both a b) ≡ pair_of (value_of a) (value_of b)
+pub both-value : {A B : Type 0} (a : Outcome A) (b : Outcome B) → value_of (both a b) ≡ pair_of (value_of a) (value_of b)
 both-value (Fixed a) (Fixed b) = refl
 both-value (Fixed a) (Live b) = refl
 both-value (Live a) (Fixed b) = refl

@@ -1,3 +1,7 @@
-pub mod Outcomes
-pub mod Worth
+pub mod Arrays
+pub mod Gathered
+pub mod Keys
 pub mod Laws
+pub mod Outcomes
+pub mod Signs
+pub mod Worth

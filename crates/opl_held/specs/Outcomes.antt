@@ -4,7 +4,7 @@ use Rattle.std.specs.Option.{option_map}
 use Rattle.opl_value.specs.declared.value.Value.{Value}
 use Rattle.opl_eval.specs.declared.fault.EvalFault.{EvalFault}
 use Rattle.opl_eval.specs.Evaluation.{Found, found, is_true}
-use Rattle.opl_draft.specs.Settled.{pair_of}
+pub use Rattle.opl_draft.specs.Settled.{pair_of}
 use Rattle.opl_form.specs.Worth.{some_of}
 use Rattle.opl_held.specs.declared.outcome.Outcome.{Outcome}
 use Rattle.opl_held.specs.declared.outcome.Outcome.TheVariants.{Fixed, Live}

@@ -1,5 +1,13 @@
 //! Conditions of a model under a whole assignment of its decision variables.
 #![tactic(auto)]
 
+mod arrays;
+mod assigned;
+mod combine;
+mod connective;
+mod keys;
 pub mod laws;
 mod outcome;
+mod sign;
+mod sum;
+mod total;

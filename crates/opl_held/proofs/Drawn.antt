@@ -1,0 +1,80 @@
+-- Elements of arrays, as the program finds them.
+use Rattle.std.proofs.Common.{◌≡◌, ◌≢◌, ℕ, ℤ, pos, Bool, true, false, cond, ◌&&◌, List, [], ◌∷◌, map, Option, Some, None, Result, Ok, Err, refl, sym, ap, subst, ◌∙◌}
+use Rattle.std.specs.List.{list_all}
+use Rattle.std.specs.Option.{is_some, option_map}
+use Rattle.opl_value.specs.declared.value.Value.{Value}
+use Rattle.opl_value.specs.declared.value.Value.TheVariants as values
+use Rattle.opl_value.specs.Places.{place_of, value_at}
+use Rattle.opl_eval.specs.declared.fault.EvalFault.{EvalFault}
+use Rattle.opl_eval.specs.declared.fault.EvalFault.TheVariants.{OutOfIndex}
+use Rattle.opl_eval.specs.Evaluation.{Found, at_place, found}
+use Rattle.opl_draft.specs.Drafts.{Cells, Leaves, chosen, leaf_values}
+use Rattle.opl_draft.specs.Settled as settled
+use Rattle.opl_form.specs.Worth.{some_of}
+use Rattle.opl_held.specs.declared.outcome.Outcome.{Outcome}
+use Rattle.opl_held.specs.declared.outcome.Outcome.TheVariants.{Fixed, Live}
+use Rattle.opl_held.specs.Arrays.{is_defined, no_element, placed}
+use Rattle.opl_held.specs.Keys.{is_fixed, key_place}
+use Rattle.opl_held.specs.Outcomes.{Worth, both, changed, data_of, each, told, value_of}
+use Rattle.opl_held.specs.Worth.{are_live, drawn, indexed}
+use Rattle.opl_held.proofs.Places.{key-fixed, key-place}
+use Rattle.opl_held.proofs.Values.{follow, values_of}
+
+module _ (ns : List ℤ) (at : ℕ) where
+  -- an element by a key
+  abbrev taken : Cells → Outcome (List Value) → Found Worth
+  taken a key = found (drawn (Some a)) (told (changed (chosen [] ns at (Some a)) key))
+
+  drawn-again : {A : Type 0} (z : Bool) (v : Option A) → cond {A = Outcome A} z (Live v) (Live v) ≡ Live v
+  drawn-again true v = refl
+  drawn-again false v = refl
+
+  -- by its place
+  taken-placed : (a : Cells) (key : Outcome (List Value)) → taken a key ≡ placed ns at a.leaves (is_some (data_of key)) (follow (value_of key) (place_of a.dims))
+  taken-placed a (Fixed key) = by (place_of a.dims key)
+    where
+      by : (p : Option ℕ) → found (drawn (Some a)) (found (λ v. Fixed v) (at_place at (leaf_values [] ns a.leaves) p)) ≡ placed ns at a.leaves true p
+      by None = refl
+      by (Some p) = refl
+  taken-placed a (Live None) = ap (λ o. Ok o) (drawn-again (are_live a.leaves) None)
+  taken-placed a (Live (Some key)) = by (place_of a.dims key)
+    where
+      by : (p : Option ℕ) → found (drawn (Some a)) (told (Live (Some (at_place at (leaf_values [] ns a.leaves) p)))) ≡ placed ns at a.leaves false p
+      by None = ap (λ o. Ok o) (drawn-again (are_live a.leaves) None)
+      by (Some p) = ap (λ o. Ok o) (drawn-again (are_live a.leaves) (Some (value_at (leaf_values [] ns a.leaves) p)))
+
+  -- an element whose subscripts without variables are indices
+  pub indexed-fit : (a : Cells) (os : List Worth) → settled.are_indices a.dims (map data_of os) ≡ true → indexed [] ns at (Some a) os ≡ placed ns at a.leaves (list_all is_fixed os) (key_place a.dims os)
+  indexed-fit a os h =
+      ap (λ z. cond z (taken a (each os)) (Err (OutOfIndex at))) h
+      ∙ taken-placed a (each os)
+      ∙ (λ i. placed ns at a.leaves (sym (key-fixed os) i) (sym (key-place a.dims os) i))
+
+  pub indexed-unfit : (a : Cells) (os : List Worth) → settled.are_indices a.dims (map data_of os) ≡ false → indexed [] ns at (Some a) os ≡ Err (OutOfIndex at)
+  indexed-unfit a os h = ap (λ z. cond z (taken a (each os)) (Err (OutOfIndex at))) h
+
+  defined-key : (os : List Worth) → list_all is_defined os ≡ is_some (values_of os)
+  defined-key [] = refl
+  defined-key (o ∷ os) = ap (λ z. is_defined o && z) (defined-key os) ∙ by o (each os)
+    where
+      by : (o : Worth) (vs : Outcome (List Value)) → (is_defined o && is_some (value_of vs)) ≡ is_some (value_of (changed (λ p. p.0 ∷ p.1) (both o vs)))
+      by (Fixed v) (Fixed vs) = refl
+      by (Fixed v) (Live None) = refl
+      by (Fixed v) (Live (Some vs)) = refl
+      by (Live None) (Fixed vs) = refl
+      by (Live (Some v)) (Fixed vs) = refl
+      by (Live None) (Live vs) = refl
+      by (Live (Some v)) (Live None) = refl
+      by (Live (Some v)) (Live (Some vs)) = refl
+
+  -- an element of what is no array
+  pub indexed-none : (os : List Worth) → indexed [] ns at None os ≡ Ok (no_element os)
+  indexed-none os =
+      by (each os)
+      ∙ (λ i. Ok (cond (sym (key-fixed os) i) (Fixed (values.Int (pos 0))) (cond (sym (defined-key os) i) (Live (Some (values.Int (pos 0)))) (Live None))))
+    where
+      by : (key : Outcome (List Value)) →
+          found (drawn None) (told (changed (chosen [] ns at None) key)) ≡ Ok (cond (is_some (data_of key)) (Fixed (values.Int (pos 0))) (cond (is_some (value_of key)) (Live (Some (values.Int (pos 0)))) (Live None)))
+      by (Fixed key) = refl
+      by (Live None) = refl
+      by (Live (Some key)) = refl
