@@ -4,4 +4,5 @@ pub mod Keys
 pub mod Laws
 pub mod Outcomes
 pub mod Signs
+pub mod Sourced
 pub mod Worth

@@ -5,9 +5,14 @@ mod arrays;
 mod assigned;
 mod combine;
 mod connective;
+mod holds;
 mod keys;
 pub mod laws;
+mod names;
 mod outcome;
 mod sign;
 mod sum;
 mod total;
+mod worth;
+
+pub use holds::holds_source;
