@@ -3,20 +3,25 @@ use Rattle.std.proofs.Common.{◌≡◌, ◌≢◌, ℕ, ℤ, pos, Bool, true, f
 use Rattle.std.specs.List.{list_all}
 use Rattle.std.specs.Option.{is_some, option_map}
 use Rattle.opl_value.specs.declared.value.Value.{Value}
+use Rattle.opl_value.specs.declared.value.IndexSpace.{IndexSpace}
+use Rattle.opl_value.specs.declared.value.Dimension.TheOpen.{Value-F}
+use Rattle.opl_value.specs.declared.value.Dimension.TheViews.{out-Value}
 use Rattle.opl_value.specs.declared.value.Value.TheVariants as values
 use Rattle.opl_value.specs.Places.{place_of, value_at}
 use Rattle.opl_eval.specs.declared.fault.EvalFault.{EvalFault}
 use Rattle.opl_eval.specs.declared.fault.EvalFault.TheVariants.{OutOfIndex}
-use Rattle.opl_eval.specs.Evaluation.{Found, at_place, found}
-use Rattle.opl_draft.specs.Drafts.{Cells, Leaves, chosen, leaf_values}
+use Rattle.opl_eval.specs.Evaluation.{Found, at_place, different_layer, found}
+use Rattle.opl_draft.specs.Drafts.{Cells, Draft, Leaves, are_different, array_at, chosen, leaf_values}
+use Rattle.opl_draft.specs.Numbers.{cells_layer, data_cells}
 use Rattle.opl_draft.specs.Settled as settled
+use Rattle.opl_form.specs.Made.{array_of}
 use Rattle.opl_form.specs.Worth.{some_of}
 use Rattle.opl_held.specs.declared.outcome.Outcome.{Outcome}
 use Rattle.opl_held.specs.declared.outcome.Outcome.TheVariants.{Fixed, Live}
 use Rattle.opl_held.specs.Arrays.{is_defined, no_element, placed}
 use Rattle.opl_held.specs.Keys.{is_fixed, key_place}
 use Rattle.opl_held.specs.Outcomes.{Worth, both, changed, data_of, each, told, value_of}
-use Rattle.opl_held.specs.Worth.{are_live, drawn, indexed}
+use Rattle.opl_held.specs.Worth.{are_live, drawn, indexed, worth}
 use Rattle.opl_held.proofs.Places.{key-fixed, key-place}
 use Rattle.opl_held.proofs.Values.{follow, values_of}
 
@@ -78,3 +83,27 @@ module _ (ns : List ℤ) (at : ℕ) where
       by (Fixed key) = refl
       by (Live None) = refl
       by (Live (Some key)) = refl
+
+-- the array of a number
+pub array-same : (arrays : List Cells) (k : Option ℕ) → array_of arrays k ≡ array_at arrays [] k
+array-same arrays None = refl
+array-same arrays (Some k) = refl
+
+pub array-under : (arrays : List Cells) (ns : List ℤ) (k : Option ℕ) → array_at arrays [] k ≡ array_at arrays ns k
+array-under arrays ns None = refl
+array-under arrays ns (Some k) = refl
+
+-- the elements of a value that is an array differ or not
+differ-layer : {A : Type 0} (arrays : List Cells) (ns : List ℤ) (x : Value-F A Value IndexSpace) →
+    drawn (cells_layer [] x) (Fixed (values.Bool (are_different arrays ns (cells_layer [] x)))) ≡ Fixed (values.Bool (different_layer x))
+differ-layer arrays ns (Value-F.Array space cells) = refl
+differ-layer arrays ns (Value-F.Int k) = refl
+differ-layer arrays ns (Value-F.Bool b) = refl
+differ-layer arrays ns (Value-F.Enum d p) = refl
+differ-layer arrays ns (Value-F.Record vs) = refl
+differ-layer arrays ns (Value-F.Set vs) = refl
+differ-layer arrays ns (Value-F.Range l h) = refl
+differ-layer arrays ns (Value-F.Names names) = refl
+
+pub data-differ : (arrays : List Cells) (ns : List ℤ) (at : ℕ) (v : Value) → worth arrays ns (Draft.different at (data_cells [] v)) ≡ Ok (Fixed (values.Bool (different_layer (out-Value v))))
+data-differ arrays ns at v = ap (λ o. Ok o) (differ-layer arrays ns (out-Value v))

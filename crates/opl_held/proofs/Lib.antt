@@ -1,7 +1,10 @@
 mod Answers
 mod Data
 mod Drawn
+mod Forms
+mod Gathering
 mod Made
 mod Values
 mod Variables
+mod Weighing
 pub mod Places

@@ -88,6 +88,7 @@ fn live_worth(
     requires { sites.IsSite site scope.environment.now }
     ensures { Gives (λ part. part) (spec.worth_at site.entry values.now (live_draft (sites.items site.entry) (sites.names site.entry) term.now (sees scope.entry))) result }
 {
+    opl_unfolding::laws::bodies_by_choice();
     match term {
         Term::Number(_, number) => Ok(Outcome::Fixed(Value::Int(*number))),
         Term::Named(_, name) => named(alloc, site, scope, values, name.as_slice()),

@@ -5,7 +5,7 @@ use Rattle.opl_held.proofs.assigned.variables.Goals as goal
 
 pub loop-place-preserved : goal.loop-place-preserved
 loop-place-preserved c =
-    c.in_ok-push.ensures.ok
+    c.in_ok-push.ensures.items
     ∙ (λ i. c.loop-place.invariant i ++ c.in_ok-variable.ensures i ∷ [])
     ∙ sym (variables-last c.args.values.now c.args.kind c.args.first c.loop-place.place)
 
