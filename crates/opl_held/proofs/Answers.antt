@@ -1,5 +1,5 @@
 -- What is answered of a condition.
-use Rattle.std.proofs.Common.{◌≡◌, ℤ, List, [], Option, Ok, Err, refl, sym, ap, ◌∙◌}
+use Rattle.std.proofs.Common.{◌≡◌, ℤ, List, [], Ok, Err, refl, sym, ap, ◌∙◌}
 use Rattle.std.specs.Option.{option_map}
 use Rattle.opl_value.specs.declared.value.Value.{Value}
 use Rattle.opl_eval.specs.Evaluation.{Found, found, is_true}

@@ -1,21 +1,19 @@
 -- Elements of arrays, as the program finds them.
-use Rattle.std.proofs.Common.{◌≡◌, ◌≢◌, ℕ, ℤ, pos, Bool, true, false, cond, ◌&&◌, List, [], ◌∷◌, map, Option, Some, None, Result, Ok, Err, refl, sym, ap, subst, ◌∙◌}
+use Rattle.std.proofs.Common.{◌≡◌, ℕ, ℤ, pos, Bool, true, false, cond, ◌&&◌, List, [], ◌∷◌, map, Option, Some, None, Ok, Err, refl, sym, ap, ◌∙◌}
 use Rattle.std.specs.List.{list_all}
-use Rattle.std.specs.Option.{is_some, option_map}
+use Rattle.std.specs.Option.{is_some}
 use Rattle.opl_value.specs.declared.value.Value.{Value}
 use Rattle.opl_value.specs.declared.value.IndexSpace.{IndexSpace}
 use Rattle.opl_value.specs.declared.value.Dimension.TheOpen.{Value-F}
 use Rattle.opl_value.specs.declared.value.Dimension.TheViews.{out-Value}
 use Rattle.opl_value.specs.declared.value.Value.TheVariants as values
 use Rattle.opl_value.specs.Places.{place_of, value_at}
-use Rattle.opl_eval.specs.declared.fault.EvalFault.{EvalFault}
 use Rattle.opl_eval.specs.declared.fault.EvalFault.TheVariants.{OutOfIndex}
 use Rattle.opl_eval.specs.Evaluation.{Found, at_place, different_layer, found}
-use Rattle.opl_draft.specs.Drafts.{Cells, Draft, Leaves, are_different, array_at, chosen, leaf_values}
+use Rattle.opl_draft.specs.Drafts.{Cells, Draft, are_different, array_at, chosen, leaf_values}
 use Rattle.opl_draft.specs.Numbers.{cells_layer, data_cells}
 use Rattle.opl_draft.specs.Settled as settled
 use Rattle.opl_form.specs.Made.{array_of}
-use Rattle.opl_form.specs.Worth.{some_of}
 use Rattle.opl_held.specs.declared.outcome.Outcome.{Outcome}
 use Rattle.opl_held.specs.declared.outcome.Outcome.TheVariants.{Fixed, Live}
 use Rattle.opl_held.specs.Arrays.{is_defined, no_element, placed}

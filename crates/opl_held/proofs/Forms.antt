@@ -1,5 +1,5 @@
 -- What each form of expressions in which a decision variable is named comes to.
-use Rattle.std.proofs.Common.{◌≡◌, ℕ, ℤ, List, [], map, Option, None, refl, ap, sym, ◌∙◌}
+use Rattle.std.proofs.Common.{◌≡◌, ℕ, ℤ, List, [], map, Option, None, ap, sym, ◌∙◌}
 use Rattle.opl_tree.specs.declared.expression.AggregateOp.{AggregateOp}
 use Rattle.opl_term.specs.declared.term.GroupTerm.{GroupTerm}
 use Rattle.opl_term.specs.declared.term.Step.{Step}
@@ -7,7 +7,7 @@ use Rattle.opl_term.specs.declared.term.Term.{Term}
 use Rattle.opl_term.specs.declared.term.Term.TheVariants as terms
 use Rattle.opl_value.specs.declared.value.Value.TheVariants as values
 use Rattle.opl_eval.specs.Arithmetic.{then}
-use Rattle.opl_eval.specs.Evaluation.{Found, found, group_meaning, parameter_or}
+use Rattle.opl_eval.specs.Evaluation.{found, group_meaning, parameter_or}
 use Rattle.opl_eval.specs.Visible.{parameter_of}
 use Rattle.opl_meaning.specs.Runs.{Text}
 use Rattle.opl_draft.specs.Drafts.{Draft, DraftStep, array_at, drafts_of, steps_of}

@@ -23,7 +23,7 @@ use Rattle.opl_held.specs.declared.connective.Connective.TheVariants.{Equivalent
 use Rattle.opl_held.specs.declared.outcome.Outcome.{Outcome}
 use Rattle.opl_held.specs.declared.outcome.Outcome.TheVariants.{Fixed, Live}
 use Rattle.opl_held.specs.Gathered.{behind, gathered, greater, joined, lesser, longer, met, multiplied, nothing, start}
-use Rattle.opl_held.specs.Outcomes.{Worth, both, changed, each, told, value_of}
+use Rattle.opl_held.specs.Outcomes.{Worth, both, changed, each, told}
 use Rattle.opl_held.specs.Worth as spec
 use Rattle.opl_held.specs.Worth.{added, aggregated, product_from, worth, worths}
 
@@ -95,7 +95,6 @@ module _ (arrays : List Cells) (ns : List ℤ) where
           then r (λ o. behind arrays ns more (more s o) ds) ≡ found (fold more s) (then r (λ o. found (λ os. o ∷ os) (worths arrays ns (drafts_of ds))))
       by (Ok o) h = h o ∙ one o (worths arrays ns (drafts_of ds))
       by (Err fault) h = refl
-
 
 -- ---- truths
 

@@ -4,6 +4,7 @@ mod Drawn
 mod Forms
 mod Gathering
 mod Made
+mod Sources
 mod Values
 mod Variables
 mod Weighing

@@ -2,25 +2,24 @@
 use Rattle.std.proofs.Common.{◌≡◌, ◌<◌, ◌^◌, ◌+◌, ◌||◌, ◌&&◌, ℕ, zero, suc, ℤ, pos, ◌+ℤ◌, ◌-ℤ◌, ◌*ℤ◌, neg_ℤ, unsigned_abs, nat_lt, slice_get, Bool, true, false, cond, not, length, List, [], ◌∷◌, ◌++◌, map, fold, Option, None, Some, Ok, Err, refl, sym, ap, subst, ◌∙◌, arith}
 use Rattle.std.proofs.lemmas.Int.{ints}
 use Rattle.std.specs.List.{list_any, list_all}
-use Rattle.std.specs.Option.{is_some, option_map}
+use Rattle.std.specs.Option.{option_map}
 use Rattle.std.specs.Ordering.{int_eq}
 use Rattle.opl_tree.specs.declared.expression.AggregateOp.{AggregateOp}
 use Rattle.opl_tree.specs.declared.expression.AggregateOp.TheVariants.{Sum, Product, Min, Max}
 use Rattle.opl_value.specs.declared.value.Value.{Value}
 use Rattle.opl_value.specs.declared.value.Value.TheVariants as values
-use Rattle.opl_value.specs.Places.{elements, joint, place_in, place_of, value_at}
+use Rattle.opl_value.specs.Places.{place_of, value_at}
 use Rattle.opl_eval.specs.declared.arithmetic.Operation.{Operation}
 use Rattle.opl_eval.specs.declared.arithmetic.Operation.TheVariants as operations
 use Rattle.opl_eval.specs.declared.fault.EvalFault.TheVariants.{DivByZero, OutOfIndex, TooLarge}
 use Rattle.opl_eval.specs.Arithmetic as arithmetic
 use Rattle.opl_eval.specs.Arithmetic.{applied, negative, run, then, times}
-use Rattle.opl_eval.specs.Compare as compare
 use Rattle.opl_eval.specs.Compare.{all_different, number, rank, relates}
 use Rattle.opl_eval.specs.Evaluation as evaluation
 use Rattle.opl_eval.specs.Evaluation.{Found, at_place, found, integer, is_true}
 use Rattle.opl_meaning.specs.declared.variable.Kind.{Kind}
 use Rattle.opl_meaning.specs.declared.variable.Kind.TheVariants.{Number, Enumeration}
-use Rattle.opl_draft.specs.Drafts.{Cells, Draft, Drafts, Leaves, Sign, Steps, are_different, array_at, chosen, draft_value, leaf_values, operation}
+use Rattle.opl_draft.specs.Drafts.{Cells, Draft, Drafts, Leaves, Sign, Steps, are_different, array_at, draft_value, leaf_values, operation}
 use Rattle.opl_draft.specs.Drafts.Drafts.{no_drafts, more_drafts}
 use Rattle.opl_draft.specs.Drafts.Leaves.{listed, numbered}
 use Rattle.opl_draft.specs.Drafts.Sign.{plus, minus, times as of_times, quotient, remainder}
@@ -41,7 +40,6 @@ use Rattle.opl_form.specs.Measures as measures
 use Rattle.opl_form.specs.Measures.{part_nodes}
 use Rattle.opl_form.specs.Nodes as nodes
 use Rattle.opl_form.specs.Nodes.{Fault, Made, as_operand, by_sign, chained, condition_node, counted, element_node, evaluated, folded, known_node, next, number_node, number_part, operand, parts_nodes, truth_part, unless_zero, value_node, variable_sort}
-use Rattle.opl_form.specs.Made as making
 use Rattle.opl_form.specs.Made.{array_of, made, made_all, made_first, made_operands, made_same, made_steps, place, places}
 use Rattle.opl_form.proofs.Nodes.{counted-made, known-values, next-made, number-node, ok-same, sized-made, sized-small}
 use Rattle.opl_form.specs.Laws.{AreSoundArrays}

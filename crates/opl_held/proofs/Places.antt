@@ -1,5 +1,5 @@
 -- The places of subscripts.
-use Rattle.std.proofs.Common.{◌≡◌, ℕ, zero, suc, ◌+◌, ◌*◌, ◌<◌, ℤ, Bool, true, false, cond, ◌&&◌, List, [], ◌∷◌, length, map, get_or, drop, Option, Some, None, refl, sym, ap, subst, ◌∙◌, arith}
+use Rattle.std.proofs.Common.{◌≡◌, ℕ, zero, suc, ◌+◌, ◌*◌, ◌<◌, ℤ, true, false, cond, ◌&&◌, List, [], ◌∷◌, length, get_or, drop, Option, Some, None, refl, sym, ap, subst, ◌∙◌, arith}
 use Rattle.std.specs.List.{list_all, list_any}
 use Rattle.std.specs.Option.{is_some, option_map}
 use Rattle.opl_value.specs.declared.value.Value.{Value}
@@ -9,7 +9,6 @@ use Rattle.opl_value.specs.Order.{value_eq}
 use Rattle.opl_value.specs.Places.{elements, has_none, joint, place_in, place_of, sorted_layer, IsSorted}
 use Rattle.opl_value.proofs.Joint.{behind-first, place_in-within}
 use Rattle.opl_value.proofs.Places.{values-Listed, values-Whole}
-use Rattle.opl_draft.specs.Settled as settled
 use Rattle.opl_draft.specs.Settled.{pair_of}
 use Rattle.opl_expr.proofs.Parts.{drop_at}
 use Rattle.opl_held.specs.declared.outcome.Outcome.{Outcome}

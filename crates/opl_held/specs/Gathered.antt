@@ -13,7 +13,7 @@ use Rattle.opl_draft.specs.Drafts.Sign.{plus, times}
 use Rattle.opl_held.specs.declared.connective.Connective.{Connective}
 use Rattle.opl_held.specs.declared.connective.Connective.TheVariants.{Equivalent, Or, And}
 use Rattle.opl_held.specs.declared.outcome.Outcome.{Outcome}
-use Rattle.opl_held.specs.declared.outcome.Outcome.TheVariants.{Fixed, Live}
+use Rattle.opl_held.specs.declared.outcome.Outcome.TheVariants.{Fixed}
 use Rattle.opl_held.specs.Outcomes.{Worth, both, changed}
 use Rattle.opl_held.specs.Worth.{Sum, added, worth}
 

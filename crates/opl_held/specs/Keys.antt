@@ -1,6 +1,5 @@
 -- Where the element is that subscripts name under an assignment.
 use Rattle.std.specs.Prelude.{ℕ, Bool, List, [], ◌∷◌, Option, Some, None, is_some}
-use Rattle.std.specs.List.{list_all}
 use Rattle.opl_value.specs.declared.value.Value.{Value}
 use Rattle.opl_value.specs.Places.{elements, joint, place_in}
 use Rattle.opl_held.specs.Outcomes.{Worth, data_of, value_of}

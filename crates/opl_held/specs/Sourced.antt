@@ -1,11 +1,16 @@
 -- What conditions of the source come to under an assignment, as the program goes through them.
-use Rattle.std.specs.Prelude.{ℕ, ℤ, List, map}
+use Rattle.std.specs.Prelude.{◌≡◌, ℕ, ℤ, true, List, map}
+use Rattle.std.specs.List.{All}
 use Rattle.opl_tree.specs.declared.expression.AggregateOp.{AggregateOp}
 use Rattle.opl_term.specs.declared.term.Step.{Step}
 use Rattle.opl_term.specs.declared.term.Term.{Term}
 use Rattle.opl_eval.specs.Arithmetic.{then}
 use Rattle.opl_eval.specs.Evaluation.{Environment, Found}
+use Rattle.opl_meaning.specs.declared.variable.VariableItem.{VariableItem}
+use Rattle.opl_meaning.specs.Laws.{HasOneSet}
+use Rattle.opl_meaning.specs.Runs.{Names}
 use Rattle.opl_draft.specs.Drafts.{Draft, steps_of}
+use Rattle.opl_draft.specs.Unrolled.{is_clean}
 use Rattle.opl_groups.specs.declared.scope.Scope.{Scope}
 use Rattle.opl_groups.specs.Met.{Met}
 use Rattle.opl_nodes.specs.Contexts.{arrays}
@@ -42,3 +47,8 @@ bodies_behind s ns op at total t ms = behind (arrays s.context.now) ns (gathered
 -- A body under one choice.
 abbrev pub body_worth : Site → List ℤ → Term → Environment → Found Worth
 body_worth s ns t env = worth_at s ns (body_met (items s) (names s) t (Met.chosen env))
+
+-- Decision variables that are no arrays have one declared set, and variables stand in an expression only where typing lets them.
+pub record AreTyped (items : List VariableItem) (names : Names) (t : Term) : Type 0 where
+  pub single : All HasOneSet items
+  pub clean : is_clean items names t ≡ true

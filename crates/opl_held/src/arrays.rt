@@ -43,11 +43,7 @@ fn are_live(found: &Leaves<'_>) -> bool
 // ---- differences
 
 /// Whether the elements of an array differ.
-fn elements_differ(
-    alloc: Global,
-    array: &Array<'_>,
-    values: &[i64],
-) -> Result<bool, AllocError>
+fn elements_differ(alloc: Global, array: &Array<'_>, values: &[i64]) -> Result<bool, AllocError>
     ensures { IfOk result (λ holds. holds ≡ drafts.are_different [] values.now (Some (cells array.now))) }
 {
     match array.leaves {
@@ -80,10 +76,7 @@ pub(crate) fn different(
     ensures { IfOk result (λ part. part ≡ spec.differing values.now (drafts.array_at (arrays context.now) [] array)) }
 {
     match array_at(context, array) {
-        Some(array) => Ok(drawn(
-            array,
-            Value::Bool(elements_differ(alloc, array, values)?),
-        )),
+        Some(array) => Ok(drawn(array, Value::Bool(elements_differ(alloc, array, values)?))),
         None => Ok(Outcome::Fixed(Value::Bool(true))),
     }
 }

@@ -51,11 +51,7 @@ pub(crate) fn variables(
 {
     let mut found = Vec::new(alloc);
     for place in 0..count {
-        found.push(variable(
-            values,
-            kind,
-            first as usize + place as usize,
-        )?)?;
+        found.push(variable(values, kind, first as usize + place as usize)?)?;
     }
     Ok(found)
 }

@@ -100,10 +100,7 @@ fn is_index(dimension: &Dimension, part: &Outcome<Value>) -> Result<bool, AllocE
 }
 
 /// Whether each subscript without variables is an index of its dimension.
-pub(crate) fn are_indices(
-    dims: &[Dimension],
-    parts: &[Outcome<Value>],
-) -> Result<bool, AllocError>
+pub(crate) fn are_indices(dims: &[Dimension], parts: &[Outcome<Value>]) -> Result<bool, AllocError>
     ensures { IfOk result (λ hold. hold ≡ settled.are_indices (map dimension_values dims.now) (map data_of parts.now)) }
 {
     let mut left = dims;

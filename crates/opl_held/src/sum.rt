@@ -148,12 +148,7 @@ fn turned(at: u32, sign: Sign, sum: Sum, part: Outcome<Value>) -> Result<Sum, Ev
 }
 
 /// A chain with one step more.
-pub(crate) fn stepped(
-    at: u32,
-    sign: Sign,
-    sum: Sum,
-    part: Outcome<Value>,
-) -> Result<Sum, EvalFault>
+pub(crate) fn stepped(at: u32, sign: Sign, sum: Sum, part: Outcome<Value>) -> Result<Sum, EvalFault>
     ensures { result ≡ spec.stepped at (sign_of sign) sum part }
 {
     match sign {

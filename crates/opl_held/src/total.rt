@@ -27,7 +27,13 @@ fn lesser(found: Result<i128, EvalFault>, number: i128) -> Result<i128, EvalFaul
     ensures { result ≡ spec.lesser found number }
 {
     match found {
-        Ok(found) => { if number < found { Ok(number) } else { Ok(found) } }
+        Ok(found) => {
+            if number < found {
+                Ok(number)
+            } else {
+                Ok(found)
+            }
+        }
         Err(_) => Ok(number),
     }
 }
@@ -37,7 +43,13 @@ fn greater(found: Result<i128, EvalFault>, number: i128) -> Result<i128, EvalFau
     ensures { result ≡ spec.greater found number }
 {
     match found {
-        Ok(found) => { if found < number { Ok(number) } else { Ok(found) } }
+        Ok(found) => {
+            if found < number {
+                Ok(number)
+            } else {
+                Ok(found)
+            }
+        }
         Err(_) => Ok(number),
     }
 }
@@ -80,12 +92,7 @@ fn multiplied(at: u32, total: Sum, part: Outcome<Value>) -> Sum
 }
 
 /// An aggregate so far, and one body more.
-pub(crate) fn gathered(
-    operation: AggregateOp,
-    at: u32,
-    total: Sum,
-    part: Outcome<Value>,
-) -> Sum
+pub(crate) fn gathered(operation: AggregateOp, at: u32, total: Sum, part: Outcome<Value>) -> Sum
     ensures { result ≡ spec.gathered operation at total part }
 {
     match operation {

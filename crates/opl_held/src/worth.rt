@@ -133,7 +133,14 @@ fn live_worth(
             connected(alloc, site, scope, values, Connective::Or, terms.as_slice())
         }
         Term::And(_, terms) => {
-            connected(alloc, site, scope, values, Connective::And, terms.as_slice())
+            connected(
+                alloc,
+                site,
+                scope,
+                values,
+                Connective::And,
+                terms.as_slice(),
+            )
         }
         Term::Not(_, inner) => negation(alloc, site, scope, values, inner.get()),
         Term::Aggregate(at, operation, groups, condition, body) => {
@@ -514,15 +521,7 @@ fn aggregate(
     ensures { Gives (λ part. part) (then (spec.bodies_behind site.entry values.now operation at (Outcome.Fixed (gathering.nothing operation at)) body.now (met_under (map group_meaning groups.now) condition.now (sees scope.entry))) (λ s. found (changed Value.Int) (told s))) result }
 {
     match bodies(
-        alloc,
-        site,
-        scope,
-        values,
-        at,
-        operation,
-        groups,
-        condition,
-        body,
+        alloc, site, scope, values, at, operation, groups, condition, body,
     ) {
         Ok(total) => ended(total),
         Err(fault) => Err(fault),
@@ -621,9 +620,7 @@ fn element(
 {
     let array = array_number(site, scope, base)?;
     match each(alloc, site, scope, values, subscripts) {
-        Ok(found) => {
-            arrays::element(alloc, at, site.context, array, found.as_slice(), values)
-        }
+        Ok(found) => { arrays::element(alloc, at, site.context, array, found.as_slice(), values) }
         Err(fault) => Err(fault),
     }
 }

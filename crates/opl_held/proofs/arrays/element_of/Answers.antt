@@ -1,5 +1,5 @@
 use Rattle.std.proofs.Common.{◌≡◌, true, map, sym, ap, subst, ◌∙◌}
-use Rattle.opl_value.specs.Places.{dimension_values, lists}
+use Rattle.opl_value.specs.Places.{dimension_values}
 use Rattle.opl_eval.specs.Visible.{Gives}
 use Rattle.opl_draft.specs.Settled as settled
 use Rattle.opl_nodes.specs.Contexts.{cells}

@@ -1,4 +1,4 @@
-use Rattle.std.proofs.Common.{◌+◌, ◌<◌, subst, sym, ◌∙◌, arith}
+use Rattle.std.proofs.Common.{◌+◌, ◌<◌, subst, arith}
 use Rattle.opl_eval.specs.Visible.{Gives}
 use Rattle.opl_eval.specs.Weights.{weight}
 use Rattle.opl_groups.specs.Visits.{sees}
