@@ -12,7 +12,7 @@ use Rattle.opl_type_rules.specs.Forms.Forms.{no_forms, more_forms}
 use Rattle.opl_type_rules.specs.Expressions.Need.{data_alone}
 use Rattle.opl_typed.specs.Relation.{AreOne, Each, HasType, HaveTypes, IsData, Typed, is_data, set_of as set_sort}
 use Rattle.opl_typed.proofs.Lawful as typed
-use Rattle.opl_term.specs.Terms.{add_term}
+use Rattle.opl_term.specs.Terms.{add_term, field_name}
 use Rattle.opl_term.specs.declared.term.GroupTerm.{GroupTerm}
 use Rattle.opl_term.specs.declared.term.GroupTerm.TheOpen.{Term-F}
 use Rattle.opl_term.specs.declared.term.GroupTerm.TheViews.{out-Term}
@@ -26,13 +26,13 @@ use Rattle.opl_value.specs.Order.{value_eq}
 use Rattle.opl_value.specs.Sets.{first_occurrences, with_new}
 use Rattle.opl_value.proofs.Sets.{sets_differ}
 use Rattle.opl_eval.specs.Evaluation.{Environment, Meaning, eval, meaning}
-use Rattle.opl_typed_values.specs.Covered.{are_covered, is_covered}
-use Rattle.opl_typed_values.specs.OfSort.{AllHaveSort, HasSort, HaveSorts, a_name, a_number, a_record, a_row, a_set, a_truth, more_have, more_parts, no_elements, no_parts, none_has}
+use Rattle.opl_typed_values.specs.OfSort.{AllHaveSort, HasSort, HaveSorts, a_name, a_number, a_record, a_row, a_set, a_truth, are_plain, is_plain, more_have, more_parts, no_elements, no_parts, none_has}
+use Rattle.opl_typed_values.specs.Positions.{AllStand, FieldsStand}
 use Rattle.opl_typed_values.specs.Visible.{AreOfTheirSorts}
 use Rattle.opl_typed_values.proofs.Fitting.{and_both, fitting-has}
-use Rattle.opl_typed_values.proofs.Joining.{EachFits, are_plain, each-fits, is_plain, plain-known}
+use Rattle.opl_typed_values.proofs.Joining.{EachFits, each-fits, plain-all-known, plain-known}
 use Rattle.opl_typed_values.proofs.Outside.{IsWhole, whole_layer}
-use Rattle.opl_typed_values.proofs.Said.{AllSay, Says}
+use Rattle.opl_typed_values.proofs.Said.{AllSay, Says, described-whole, fields-whole}
 use Rattle.opl_typed_values.proofs.Sound.{has}
 use Rattle.opl_typed_values.proofs.Terms.{add-says}
 use Rattle.opl_given.specs.declared.form.Form.{Form}
@@ -220,11 +220,11 @@ module _ (known : Known) (sc : Scope) (env : Environment) (visible : AreOfTheirS
   abbrev Fitting : Sort → Sort → Type 0
   Fitting want s = fits (field_sorts sc) want s ≡ true
 
-  by-eval : (f : typed_forms.Form) (t : Term) (a : Typed) (form : Form) (want : Sort) (v : Value) → is_covered f ≡ true → Says f t → HasType sc f a → IsData a → IsFormOf form want → Fitting want a.sort → (written known t).fit form env ≡ Ok v → IsWhole t → Kind form v
+  by-eval : (f : typed_forms.Form) (t : Term) (a : Typed) (form : Form) (want : Sort) (v : Value) → FieldsStand env.position sc f → Says f t → HasType sc f a → IsData a → IsFormOf form want → Fitting want a.sort → (written known t).fit form env ≡ Ok v → IsWhole t → Kind form v
   by-eval f t a form want v c is h given i g e w =
       let p = form-plain form want i in
       let d = has (λ k. length (names_of known k)) sc env visible f t a v c is h given (storable (field_sorts sc) want a.sort p g) (whole-eval t form v w e) in
-      sort-kind form want v i (fitting-has (field_sorts sc) (λ k. length (names_of known k)) visible.structs want a.sort v (plain-known want p) g d)
+      sort-kind form want v i (fitting-has (field_sorts sc) (λ k. length (names_of known k)) (λ k. plain-all-known (field_sorts sc k) (visible.structs k)) want a.sort v (plain-known want p) g d)
 
   -- ---- records and sets that are written out
 
@@ -264,7 +264,7 @@ module _ (known : Known) (sc : Scope) (env : Environment) (visible : AreOfTheirS
   Sorts_of parts = sorts_of (map (λ (x : Typed). x.sort) parts)
 
   mutual
-    kind : (f : typed_forms.Form) (t : Term) (a : Typed) (form : Form) (want : Sort) (v : Value) → is_covered f ≡ true → Says f t → HasType sc f a → IsData a → IsFormOf form want → Fitting want a.sort → (written known t).fit form env ≡ Ok v → Kind form v
+    kind : (f : typed_forms.Form) (t : Term) (a : Typed) (form : Form) (want : Sort) (v : Value) → FieldsStand env.position sc f → Says f t → HasType sc f a → IsData a → IsFormOf form want → Fitting want a.sort → (written known t).fit form env ≡ Ok v → Kind form v
     kind (tuple at fs) t a form want v c is h given i g e =
         let r = record-form form want (Sorts_of h.0) i (subst (λ (x : Typed). Fitting want x.sort) h.4 g) in
         let k = r.0 in
@@ -300,13 +300,15 @@ module _ (known : Known) (sc : Scope) (env : Environment) (visible : AreOfTheirS
     kind (all_different at f) t a form want v c is h given i g e = by-eval (all_different at f) t a form want v c is h given i g e is.0
     kind (subscripted at f es) t a form want v c is h given i g e =
         by-eval (subscripted at f es) t a form want v c is h given i g e (ap (λ u. whole_layer (out-Term u)) is.3 ∙ ap whole_layer (terms.outs-Element is.0 is.1 is.2))
-    kind (field at f name) t a form want v c is h given i g e = absurd (cc)
-    kind (described at f p) t a form want v c is h given i g e = absurd (cc)
+    kind (field at f name) t a form want v c is h given i g e =
+        by-eval (field at f name) t a form want v c is h given i g e (subst (λ (u : Term). IsWhole u) (sym is.3) (fields-whole is.0 is.1 is.2 (field_name name)))
+    kind (described at f p) t a form want v c is h given i g e =
+        by-eval (described at f p) t a form want v c is h given i g e (subst (λ (u : Term). IsWhole u) (sym is.4) (described-whole is.0 is.1 is.2 is.3))
     kind (cells at fs) t a form want v c is h given i g e = absurd h
     kind (keyed_cells at ps) t a form want v c is h given i g e = absurd h
     kind (question at op f) t a form want v c is h given i g e = absurd (let k : is_data a ≡ false = ap is_data h.4 in cc)
 
-    parts-kinds : (fs : Forms) (us : List Term) (parts : List Typed) (gs : List Form) (ss : Sorts) (before vs : List Value) → are_covered fs ≡ true → AllSay fs us → HaveTypes sc fs parts → Each IsData parts → AreFormsOf gs ss →
+    parts-kinds : (fs : Forms) (us : List Term) (parts : List Typed) (gs : List Form) (ss : Sorts) (before vs : List Value) → AllStand env.position sc fs → AllSay fs us → HaveTypes sc fs parts → Each IsData parts → AreFormsOf gs ss →
         fits_parts (field_sorts sc) (Some ss) (Sorts_of parts) ≡ true → each_by_form before (under env (map (written known) us)) gs ≡ Ok vs → (rest : List Value) × (vs ≡ before ++ rest) × EachHasKind known gs rest
     parts-kinds no_forms [] parts _ _ before vs c is h given no_form f e = ([], sym (same_ok before vs e) ∙ sym (append-nil before), no_part_kind)
     parts-kinds no_forms [] parts _ _ before vs c is h given (one_form g s gs ss i j) f e = absurd (let x = subst (λ (ps : List Typed). fits_parts (field_sorts sc) (Some (more_sorts s ss)) (Sorts_of ps) ≡ true) h f in cc)
@@ -314,26 +316,24 @@ module _ (known : Known) (sc : Scope) (env : Environment) (visible : AreOfTheirS
     parts-kinds (more_forms x xs) [] parts gs ss before vs c is h given i f e = absurd is
     parts-kinds (more_forms x xs) (u ∷ us) parts _ _ before vs c is h given no_form f e = absurd (let y = subst (λ (ps : List Typed). fits_parts (field_sorts sc) (Some no_sorts) (Sorts_of ps) ≡ true) h.4 f in cc)
     parts-kinds (more_forms x xs) (u ∷ us) parts _ _ before vs c is h given (one_form g s gs ss i j) f e =
-        let b = and_both (is_covered x) (are_covered xs) c in
         let d = subst (Each IsData) h.4 given in
         let y = and_both (fits (field_sorts sc) s h.0.sort) (fits_parts (field_sorts sc) (Some ss) (Sorts_of h.1)) (subst (λ (ps : List Typed). fits_parts (field_sorts sc) (Some (more_sorts s ss)) (Sorts_of ps) ≡ true) h.4 f) in
         let w = went_first ((written known u).fit g env) (λ v. each_by_form (before ++ v ∷ []) (under env (map (written known) us)) gs) vs e in
-        let first = kind x u h.0 g s w.0 b.0 is.0 h.2 d.0 i y.0 w.1 in
-        let r = parts-kinds xs us h.1 gs ss (before ++ w.0 ∷ []) vs b.1 is.1 h.3 d.1 j y.1 w.2 in
+        let first = kind x u h.0 g s w.0 c.0 is.0 h.2 d.0 i y.0 w.1 in
+        let r = parts-kinds xs us h.1 gs ss (before ++ w.0 ∷ []) vs c.1 is.1 h.3 d.1 j y.1 w.2 in
         (w.0 ∷ r.0, r.1 ∙ append_assoc before (w.0 ∷ []) r.0, one_part_kind g w.0 gs r.0 first r.2)
 
-    elements-kinds : (fs : Forms) (us : List Term) (parts : List Typed) (g : Form) (want : Sort) (before vs : List Value) → are_covered fs ≡ true → AllSay fs us → HaveTypes sc fs parts → Each IsData parts → IsFormOf g want → EachFits sc want parts →
+    elements-kinds : (fs : Forms) (us : List Term) (parts : List Typed) (g : Form) (want : Sort) (before vs : List Value) → AllStand env.position sc fs → AllSay fs us → HaveTypes sc fs parts → Each IsData parts → IsFormOf g want → EachFits sc want parts →
         all_by_form before (under env (map (written known) us)) g ≡ Ok vs → (rest : List Value) × (vs ≡ before ++ rest) × AllHaveKind known g rest
     elements-kinds no_forms [] parts g want before vs c is h given i f e = ([], sym (same_ok before vs e) ∙ sym (append-nil before), no_element_kind g)
     elements-kinds no_forms (u ∷ us) parts g want before vs c is h given i f e = absurd is
     elements-kinds (more_forms x xs) [] parts g want before vs c is h given i f e = absurd is
     elements-kinds (more_forms x xs) (u ∷ us) parts g want before vs c is h given i f e =
-        let b = and_both (is_covered x) (are_covered xs) c in
         let d = subst (Each IsData) h.4 given in
         let y = subst (EachFits sc want) h.4 f in
         let w = went_first ((written known u).fit g env) (λ v. all_by_form (before ++ v ∷ []) (under env (map (written known) us)) g) vs e in
-        let first = kind x u h.0 g want w.0 b.0 is.0 h.2 d.0 i y.0 w.1 in
-        let r = elements-kinds xs us h.1 g want (before ++ w.0 ∷ []) vs b.1 is.1 h.3 d.1 i y.1 w.2 in
+        let first = kind x u h.0 g want w.0 c.0 is.0 h.2 d.0 i y.0 w.1 in
+        let r = elements-kinds xs us h.1 g want (before ++ w.0 ∷ []) vs c.1 is.1 h.3 d.1 i y.1 w.2 in
         (w.0 ∷ r.0, r.1 ∙ append_assoc before (w.0 ∷ []) r.0, one_element_kind g w.0 r.0 first r.2)
 
 value-fit : (known : Known) (env : Environment) (form : Form) (t : Term) (v : Value) → written_value known env form t ≡ Ok v → (written known t).fit form env ≡ Ok v

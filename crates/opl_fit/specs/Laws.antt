@@ -14,7 +14,7 @@ use Rattle.opl_type_rules.specs.Scope.{Scope, and_then, fits_in}
 use Rattle.opl_type_rules.specs.Forms.{form_add}
 use Rattle.opl_type_rules.specs.Expressions.{Node, typing, used}
 use Rattle.opl_type_rules.specs.Expressions.Need.{data_alone}
-use Rattle.opl_typed_values.specs.Covered.{is_covered}
+use Rattle.opl_typed_values.specs.Positions.{FieldsStand}
 use Rattle.opl_typed_values.specs.Visible.{AreOfTheirSorts}
 use Rattle.opl_data.specs.declared.tree.DataFile.{DataFile}
 use Rattle.opl_data.specs.declared.tree.DataValue.{DataValue}
@@ -70,12 +70,12 @@ WrittenValuesFit = (position : ℕ → ℕ) (before after : List DeclTree) (t : 
     t.initial ≡ initials.Written e → bound position (before ++ decls.Data t ∷ after) files os ≡ Ok final →
     (given : Given) × (all_given (before ++ decls.Data t ∷ after) files ≡ Ok given) × Stands position given os before t final (ItemFitsByKind t)
 
--- a value that the model writes for a type without dimensions has the form of the type, where typing takes its expression as data of that type, the expression is covered, and the visible
--- names have values of their types
+-- a value that the model writes for a type without dimensions has the form of the type, where typing takes its expression as data of that type, the visible names have values of their types, and
+-- the fields of which the value is made have their positions
 abbrev pub TypedValuesFit : Type 0
 TypedValuesFit =
     (known : Known) (sc : Scope) (env : Environment) (e : AddTree) (form : Form) (want : Sort) (n : Node) (v : Value) →
-    AreOfTheirSorts (λ k. length (names_of known k)) sc env → StructsAgree known sc → IsFormOf form want → is_covered (form_add e) ≡ true →
+    AreOfTheirSorts (λ k. length (names_of known k)) sc env → StructsAgree known sc → IsFormOf form want → FieldsStand env.position sc (form_add e) →
     and_then (typing sc (form_add e)) (used data_alone (fits_in sc want)) ≡ Ok n → written_value known env form (add_term e) ≡ Ok v → Fits known form v
 
 -- ---- the cells of arrays

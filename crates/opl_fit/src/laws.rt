@@ -13,8 +13,8 @@ pub fn written_values_fit()
     ensures { WrittenValuesFit }
 {}
 
-/// A value that the model writes for an item without dimensions, or for a cell, has the form of the declared type, where typing takes its expression as data of that type and the visible names
-/// have values of their types: of each expression but fields and sets that are described, and records and sets that are made of these.
+/// A value that the model writes for an item without dimensions, or for a cell, has the form of the declared type, where typing takes its expression as data of that type, the visible names
+/// have values of their types, and the fields of which the value is made have their positions.
 pub fn typed_values_fit()
     ensures { TypedValuesFit }
 {}

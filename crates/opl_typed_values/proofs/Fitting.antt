@@ -12,9 +12,21 @@ use Rattle.opl_value.specs.declared.value.Value.TheVariants as values
 use Rattle.opl_value.specs.Order.{value_eq}
 use Rattle.opl_value.specs.Places.{AreDifferent}
 use Rattle.opl_value.specs.Sets.{with_new}
-use Rattle.opl_typed_values.specs.OfSort.{AllHaveSort, HasSort, HaveSorts, a_name, a_number, a_record, a_row, a_set, a_truth, are_known, is_known, more_have, more_parts, no_elements, no_parts, none_has}
+use Rattle.opl_typed_values.specs.OfSort.{AllHaveSort, HasSort, HaveSorts, a_name, a_number, a_record, a_row, a_set, a_truth, more_have, more_parts, no_elements, no_parts, none_has}
 
 -- ---- types
+
+-- a type in which nothing stands for what ranges over `{}`
+abbrev mutual
+  pub is_known : Sort → Bool
+  is_known anything = false
+  is_known (row ss) = are_known ss
+  is_known (set s) = is_known s
+  is_known s = true
+
+  pub are_known : Sorts → Bool
+  are_known no_sorts = true
+  are_known (more_sorts s ss) = is_known s && are_known ss
 
 pub and_both : (a b : Bool) → (a && b) ≡ true → (a ≡ true) × (b ≡ true)
 and_both true b h = (refl, h)
@@ -108,7 +120,7 @@ module _ (fields : ℕ → Sorts) (names : ℕ → ℕ) where
   row-is _ _ xs (a_set s vs h d) e = absurd (cc)
   row-is _ _ xs no_elements e = absurd (cc)
 
-  set-is : (s : Sort) (v : Value) (x : Sort) → Has s v → s ≡ set x → (vs : List Value) × (v ≡ values.Set vs) × AllHave x vs × AreDifferent vs
+  pub set-is : (s : Sort) (v : Value) (x : Sort) → Has s v → s ≡ set x → (vs : List Value) × (v ≡ values.Set vs) × AllHave x vs × AreDifferent vs
   set-is _ _ x (a_number n) e = absurd (cc)
   set-is _ _ x (a_truth b) e = absurd (cc)
   set-is _ _ x (a_name k p l) e = absurd (cc)

@@ -6,20 +6,8 @@ use Rattle.opl_type_rules.specs.Types.Sort.{int, bool, enumeration, structure, r
 use Rattle.opl_type_rules.specs.Types.Sorts.{no_sorts, more_sorts}
 use Rattle.opl_typed.specs.Relation.{AreOne, Typed}
 use Rattle.opl_type_rules.specs.Scope.{Scope, field_sorts}
-use Rattle.opl_typed_values.specs.OfSort.{are_known, is_known}
-use Rattle.opl_typed_values.proofs.Fitting.{and_both, apart, apart-something, apart-turned, bool-fits, int-fits, name-fits, record-fits, some_same}
-
--- what a declaration may write as a type
-abbrev pub is_plain : Sort → Bool
-is_plain int = true
-is_plain (enumeration k) = true
-is_plain (structure k) = true
-is_plain (set s) = is_plain s
-is_plain s = false
-
-abbrev pub are_plain : Sorts → Bool
-are_plain no_sorts = true
-are_plain (more_sorts s ss) = is_plain s && are_plain ss
+use Rattle.opl_typed_values.specs.OfSort.{are_plain, is_plain}
+use Rattle.opl_typed_values.proofs.Fitting.{and_both, are_known, is_known, apart, apart-something, apart-turned, bool-fits, int-fits, name-fits, record-fits, some_same}
 
 pub plain-known : (s : Sort) → is_plain s ≡ true → is_known s ≡ true
 plain-known int h = refl

@@ -1,3 +1,6 @@
+pub mod Choices
+pub mod DataKinds
+pub mod Fields
 pub mod Fitting
 pub mod Joining
 pub mod Outside

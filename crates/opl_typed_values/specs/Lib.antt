@@ -1,4 +1,4 @@
-pub mod Covered
 pub mod Laws
 pub mod OfSort
+pub mod Positions
 pub mod Visible

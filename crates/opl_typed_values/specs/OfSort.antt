@@ -1,24 +1,36 @@
 -- When a value is of a type of expressions. The types of a struct's fields and the number of an enumeration's names are told by the number of its declaration.
 use Rattle.std.specs.Prelude.{◌≡◌, ◌<◌, ℕ, ℤ, Bool, true, false, ◌&&◌, List, [], ◌∷◌, length}
 use Rattle.opl_type_rules.specs.Types.{Sort, Sorts}
-use Rattle.opl_type_rules.specs.Types.Sort.{anything, int, bool, enumeration, structure, row, set, empty_set}
+use Rattle.opl_type_rules.specs.Types.Sort.{int, bool, enumeration, structure, row, set, empty_set, array, activity, unary, discrete}
 use Rattle.opl_type_rules.specs.Types.Sorts.{no_sorts, more_sorts}
 use Rattle.opl_value.specs.declared.value.Value.{Value}
 use Rattle.opl_value.specs.declared.value.Value.TheVariants as values
 use Rattle.opl_value.specs.declared.value.IndexSpace.{IndexSpace}
 use Rattle.opl_value.specs.Places.{AreDifferent, elements, lists}
 
--- a type in which nothing stands for what ranges over `{}`
-abbrev mutual
-  pub is_known : Sort → Bool
-  is_known anything = false
-  is_known (row ss) = are_known ss
-  is_known (set s) = is_known s
-  is_known s = true
+-- what a declaration may write as a type
+abbrev pub is_plain : Sort → Bool
+is_plain int = true
+is_plain (enumeration k) = true
+is_plain (structure k) = true
+is_plain (set s) = is_plain s
+is_plain s = false
 
-  pub are_known : Sorts → Bool
-  are_known no_sorts = true
-  are_known (more_sorts s ss) = is_known s && are_known ss
+abbrev pub are_plain : Sorts → Bool
+are_plain no_sorts = true
+are_plain (more_sorts s ss) = is_plain s && are_plain ss
+
+-- what an array of data or of resources may have as elements
+abbrev pub is_element : Sort → Bool
+is_element unary = true
+is_element discrete = true
+is_element s = is_plain s
+
+-- what a name may be that is no decision: no activity, and no array of activities or of arrays
+abbrev pub is_of_data : Sort → Bool
+is_of_data activity = false
+is_of_data (array indices s) = is_element s
+is_of_data s = true
 
 module _ (fields : ℕ → Sorts) (names : ℕ → ℕ) where
   mutual
