@@ -64,7 +64,7 @@ array_value-fits known form name os axes (Some g) v takes h =
     let w = went_first axes (given_array known form name os g) v h in
     (w.0, w.1, array-fits known form name os g w.0 v takes w.2)
 
-external-fits : (given : Given) (os : List Override) (d : Data) (form : Form) (name : Text) (dims : Option DimsTree) (v : Value) → (is_assigned name os ≡ true → TakesNumbers form) →
+pub external-fits : (given : Given) (os : List Override) (d : Data) (form : Form) (name : Text) (dims : Option DimsTree) (v : Value) → (is_assigned name os ≡ true → TakesNumbers form) →
     external_value given os d form name dims ≡ Ok v → ItemIs (Fits d.known form) d dims v
 external-fits given os d form name None v takes h = single-fits d.known form name os (given_to given name) v takes h
 external-fits given os d form name (Some dims) v takes h =
@@ -195,7 +195,7 @@ given_values_fit position before after t at files os final e h =
 
 -- ---- values that the model gives
 
-length-axes_in : (env : Environment) (before : List Axis) (ts : List DimTree) (axes : List Axis) → axes_in env before ts ≡ Ok axes → length axes ≡ length before + length ts
+pub length-axes_in : (env : Environment) (before : List Axis) (ts : List DimTree) (axes : List Axis) → axes_in env before ts ≡ Ok axes → length axes ≡ length before + length ts
 length-axes_in env before [] axes h = ap length (sym (same_ok before axes h)) ∙ omega arith
 length-axes_in env before (t ∷ ts) axes h =
     let w = went (axis_in env t) (λ axis. axes_in env (before ++ axis ∷ []) ts) axes h in

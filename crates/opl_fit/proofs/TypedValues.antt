@@ -59,14 +59,14 @@ true-both : (a b : Bool) → a ≡ true → b ≡ true → (a && b) ≡ true
 true-both true b p q = q
 true-both false b p q = absurd (cc)
 
-form-plain : (f : Form) (s : Sort) → IsFormOf f s → is_plain s ≡ true
+pub form-plain : (f : Form) (s : Sort) → IsFormOf f s → is_plain s ≡ true
 form-plain _ _ of_numbers = refl
 form-plain _ _ (of_range low high) = refl
 form-plain _ _ (of_names k) = refl
 form-plain _ _ (of_records k) = refl
 form-plain _ _ (of_sets f s h) = form-plain f s h
 
-forms-plain : (fs : List Form) (ss : Sorts) → AreFormsOf fs ss → are_plain ss ≡ true
+pub forms-plain : (fs : List Form) (ss : Sorts) → AreFormsOf fs ss → are_plain ss ≡ true
 forms-plain _ _ no_form = refl
 forms-plain _ _ (one_form f s fs ss h hs) = true-both (is_plain s) (are_plain ss) (form-plain f s h) (forms-plain fs ss hs)
 
@@ -176,7 +176,7 @@ module _ (known : Known) (sc : Scope) (env : Environment) (visible : AreOfTheirS
   -- ---- from types to kinds
 
   mutual
-    sort-kind : (f : Form) (s : Sort) (v : Value) → IsFormOf f s → Has s v → Kind f v
+    pub sort-kind : (f : Form) (s : Sort) (v : Value) → IsFormOf f s → Has s v → Kind f v
     sort-kind f _ _ i (a_number n) = number-form f int known n i refl
     sort-kind f _ _ i (a_truth b) = absurd (no-truth f bool i refl)
     sort-kind f _ _ i (a_name k p l) = subst (λ (g : Form). Kind g (values.Enum k p)) (sym (names-form f (enumeration k) k i refl)) (name_kind k p l)
@@ -264,7 +264,7 @@ module _ (known : Known) (sc : Scope) (env : Environment) (visible : AreOfTheirS
   Sorts_of parts = sorts_of (map (λ (x : Typed). x.sort) parts)
 
   mutual
-    kind : (f : typed_forms.Form) (t : Term) (a : Typed) (form : Form) (want : Sort) (v : Value) → FieldsStand env.position sc f → Says f t → HasType sc f a → IsData a → IsFormOf form want → Fitting want a.sort → (written known t).fit form env ≡ Ok v → Kind form v
+    pub kind : (f : typed_forms.Form) (t : Term) (a : Typed) (form : Form) (want : Sort) (v : Value) → FieldsStand env.position sc f → Says f t → HasType sc f a → IsData a → IsFormOf form want → Fitting want a.sort → (written known t).fit form env ≡ Ok v → Kind form v
     kind (tuple at fs) t a form want v c is h given i g e =
         let r = record-form form want (Sorts_of h.0) i (subst (λ (x : Typed). Fitting want x.sort) h.4 g) in
         let k = r.0 in

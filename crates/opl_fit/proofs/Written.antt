@@ -36,7 +36,7 @@ use Rattle.opl_fit.proofs.Given.{all-new, and_left, and_right}
 
 -- ---- lists
 
-all-joined : {A : Type 0} (P : A → Type 0) (xs ys : List A) → AllByRecursion P xs → AllByRecursion P ys → AllByRecursion P (xs ++ ys)
+pub all-joined : {A : Type 0} (P : A → Type 0) (xs ys : List A) → AllByRecursion P xs → AllByRecursion P ys → AllByRecursion P (xs ++ ys)
 all-joined P [] ys h k = k
 all-joined P (x ∷ xs) ys h k = (h.0, all-joined P xs ys h.1 k)
 

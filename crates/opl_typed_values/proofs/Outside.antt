@@ -32,10 +32,12 @@ IsInt v = (n : ℤ) × (v ≡ values.Int n)
 abbrev pub IsBool : Value → Type 0
 IsBool v = (b : Bool) × (v ≡ values.Bool b)
 
--- no record and no set that is written out
+-- no record, no set and no array that is written out
 abbrev pub whole_layer : {A B C D : Type 0} → Term-F A B C D → Bool
 whole_layer (Term-F.Record at ts) = false
 whole_layer (Term-F.Listed at ts) = false
+whole_layer (Term-F.Array at ts) = false
+whole_layer (Term-F.KeyedArray at ks cs) = false
 whole_layer t = true
 
 abbrev pub IsWhole : Term → Type 0

@@ -1,8 +1,9 @@
 -- What is known of the term of an expression with this form, as far as its value depends on it.
 use Rattle.std.proofs.Common.{◌≡◌, ◌++◌, ℕ, Bool, List, [], ◌∷◌, map, Option, ap}
-use Rattle.opl_type_rules.specs.Forms.{Form, Forms, SetForm, Groups, Params}
+use Rattle.opl_type_rules.specs.Forms.{Form, Forms, Pairs, SetForm, Groups, Params}
 use Rattle.opl_type_rules.specs.Forms.Form.{number, named, bracket, negative, arithmetic, absolute, related, member, connected, aggregate, cardinality, all_different, subscripted, field, tuple, listed, described, cells, keyed_cells, question}
 use Rattle.opl_type_rules.specs.Forms.Forms.{no_forms, more_forms}
+use Rattle.opl_type_rules.specs.Forms.Pairs.{no_pairs, more_pairs}
 use Rattle.opl_type_rules.specs.Forms.SetForm.{whole, between}
 use Rattle.opl_type_rules.specs.Forms.Groups.{no_groups, more_groups}
 use Rattle.opl_type_rules.specs.Forms.Params.{all_of, those_of}
@@ -34,14 +35,20 @@ abbrev mutual
   Says (tuple at fs) t = (p : ℕ) × (us : List Term) × (t ≡ terms.Record p us) × AllSay fs us
   Says (listed at fs) t = (p : ℕ) × (us : List Term) × (t ≡ terms.Listed p us) × AllSay fs us
   Says (described at f p) t = (q : ℕ) × (u : Term) × (gs : List GroupTerm) × (c : Option Term) × (t ≡ terms.Described q u gs c) × Says f u × ParamsSay p gs
-  Says (cells at fs) t = Unit {0}
-  Says (keyed_cells at ps) t = Unit {0}
-  Says (question at op f) t = Unit {0}
+  Says (cells at fs) t = (p : ℕ) × (us : List Term) × (t ≡ terms.Array p us) × AllSay fs us
+  Says (keyed_cells at ps) t = (p : ℕ) × (ks : List Term) × (us : List Term) × (t ≡ terms.KeyedArray p ks us) × PairsSay ps us
+  Says (question at op f) t = IsWhole t
 
   pub AllSay : Forms → List Term → Type 0
   AllSay no_forms [] = Unit {0}
   AllSay (more_forms f fs) (u ∷ us) = Says f u × AllSay fs us
   AllSay fs us = ⊥
+
+  -- what stands behind keys
+  pub PairsSay : Pairs → List Term → Type 0
+  PairsSay no_pairs [] = Unit {0}
+  PairsSay (more_pairs key cell others) (u ∷ us) = Says cell u × PairsSay others us
+  PairsSay ps us = ⊥
 
   pub SetSays : SetForm → SetTerm → Type 0
   SetSays (whole f) s = (u : Term) × (s ≡ sets.Whole u) × Says f u

@@ -110,7 +110,7 @@ module _ (names : ℕ → ℕ) (sc : Scope) (env : Environment) (visible : AreOf
 
   -- ---- elements of arrays
 
-  item-has : (f : Form) (t : Term) (a : Typed) (indices : Sorts) (s : Sort) → is_name f ≡ true → Says f t → HasType sc f a → a.decides ≡ false → a.sort ≡ array indices s → is_storable s ≡ true →
+  pub item-has : (f : Form) (t : Term) (a : Typed) (indices : Sorts) (s : Sort) → is_name f ≡ true → Says f t → HasType sc f a → a.decides ≡ false → a.sort ≡ array indices s → is_storable s ≡ true →
       (i : Item) × ((meaning t).item env ≡ Some i) × IsArrayOf (field_sorts sc) names s i.value
   item-has (named name) t a indices s n is h d e storable =
       let k : is_decided h.0 ≡ false = sym (ap (λ (b : Typed). b.decides) h.2) ∙ d in
@@ -121,7 +121,7 @@ module _ (names : ℕ → ℕ) (sc : Scope) (env : Environment) (visible : AreOf
       (r.0, ap (λ u. (meaning u).item env) is.2 ∙ ap (λ m. m.item env) (meaning-Bracket is.0 is.1) ∙ r.1, r.2)
   item-has f t a indices s n is h d e storable = absurd (cc)
 
-  cell-has : (s : Sort) (cs : List Value) (p : ℕ) → AllHaveSort (field_sorts sc) names s cs → p < length cs → Has s (value_at cs p)
+  pub cell-has : (s : Sort) (cs : List Value) (p : ℕ) → AllHaveSort (field_sorts sc) names s cs → p < length cs → Has s (value_at cs p)
   cell-has s _ p (none_has _) l = absurd (omega (arith, l))
   cell-has s _ zero (more_have _ v vs h hs) l = h
   cell-has s _ (suc p) (more_have _ v vs h hs) l = cell-has s vs p hs (omega (arith, l))
@@ -218,7 +218,7 @@ module _ (names : ℕ → ℕ) (sc : Scope) (env : Environment) (visible : AreOf
 
 -- ---- all forms
 
-with-values-stay : (ns : List NameTree) (ss : List Sort) (sc : Scope) → field_sorts (with_values ns ss sc) ≡ field_sorts sc
+pub with-values-stay : (ns : List NameTree) (ss : List Sort) (sc : Scope) → field_sorts (with_values ns ss sc) ≡ field_sorts sc
 with-values-stay [] ss sc = refl
 with-values-stay (n ∷ ns) [] sc = refl
 with-values-stay (n ∷ ns) (s ∷ ss) sc = with-values-stay ns ss (declared n.text (value s) sc) ∙ fields-stay sc n.text s

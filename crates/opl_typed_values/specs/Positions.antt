@@ -4,9 +4,10 @@ use Rattle.std.specs.Str.{bytes_eq}
 use Rattle.opl_type_rules.specs.Types.{Sort}
 use Rattle.opl_type_rules.specs.Types.Sort.{structure}
 use Rattle.opl_type_rules.specs.Scope.{Field, Scope, Text, fields}
-use Rattle.opl_type_rules.specs.Forms.{Form, Forms, SetForm, Groups, Params}
-use Rattle.opl_type_rules.specs.Forms.Form.{bracket, field, tuple, listed, described}
+use Rattle.opl_type_rules.specs.Forms.{Form, Forms, Pairs, SetForm, Groups, Params}
+use Rattle.opl_type_rules.specs.Forms.Form.{bracket, field, tuple, listed, described, cells, keyed_cells}
 use Rattle.opl_type_rules.specs.Forms.Forms.{no_forms, more_forms}
+use Rattle.opl_type_rules.specs.Forms.Pairs.{no_pairs, more_pairs}
 use Rattle.opl_type_rules.specs.Forms.SetForm.{whole, between}
 use Rattle.opl_type_rules.specs.Forms.Groups.{no_groups, more_groups}
 use Rattle.opl_type_rules.specs.Forms.Params.{all_of, those_of}
@@ -28,11 +29,18 @@ module _ (position : ℕ → ℕ) where
     FieldsStand sc (tuple at fs) = AllStand sc fs
     FieldsStand sc (listed at fs) = AllStand sc fs
     FieldsStand sc (described at f p) = ParamsStand sc p × ((inner : Scope) → Opens data_alone sc p inner → FieldsStand inner f)
+    FieldsStand sc (cells at fs) = AllStand sc fs
+    FieldsStand sc (keyed_cells at ps) = PairsStand sc ps
     FieldsStand sc f = Unit {0}
 
     pub AllStand : Scope → Forms → Type 0
     AllStand sc no_forms = Unit {0}
     AllStand sc (more_forms f fs) = FieldsStand sc f × AllStand sc fs
+
+    -- what a key comes to is looked up among the elements of an index set
+    pub PairsStand : Scope → Pairs → Type 0
+    PairsStand sc no_pairs = Unit {0}
+    PairsStand sc (more_pairs key cell others) = FieldsStand sc cell × PairsStand sc others
 
     pub SetStands : Scope → SetForm → Type 0
     SetStands sc (whole f) = FieldsStand sc f

@@ -1,0 +1,10 @@
+pub mod Agreement
+pub mod Bound
+pub mod Cells
+pub mod Dimensions
+pub mod Enumerations
+pub mod KnownTypes
+pub mod Moves
+pub mod OfForm
+pub mod OneName
+pub mod Steps
