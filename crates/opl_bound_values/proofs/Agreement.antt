@@ -211,10 +211,10 @@ module _ (position : ℕ → ℕ) (k : ℕ) (sc : Scope) (d : Data) (a : Agrees 
       let all = subst (AxesHave (field_sorts sc) (N d.known) is) (sym r.1) r.2 in
       let q = h.1 in
       let f = written-fit d.known form s sc inner d.environment (dims_of dims) q.0 q.1 x.0 (form_add e) (add_term e) w.0 i a.of a.structs
-        (subst (λ (js : List Sort). inner ≡ with_values (dim_names (dims_of dims)) (named_sorts (dims_of dims) js) sc) q.4 h.2)
-        (subst (λ (js : List Sort). AxesHave (field_sorts sc) (N d.known) js x.0) q.4 all) (l ∙ ap length q.4) (ap length (sym q.4) ∙ axes-length (field_sorts sc) (N d.known) is x.0 all)
-        (subst (λ (js : List Sort). HasValue inner s (cells_left (dim_names (dims_of dims)) js) (form_add e)) q.4 n) (add-says e)
-        (subst (λ (P : ℕ → ℕ). FieldsStand P inner (form_add e)) (sym a.placed) c2) w.1 in (
+      (subst (λ (js : List Sort). inner ≡ with_values (dim_names (dims_of dims)) (named_sorts (dims_of dims) js) sc) q.4 h.2)
+      (subst (λ (js : List Sort). AxesHave (field_sorts sc) (N d.known) js x.0) q.4 all) (l ∙ ap length q.4) (ap length (sym q.4) ∙ axes-length (field_sorts sc) (N d.known) is x.0 all)
+      (subst (λ (js : List Sort). HasValue inner s (cells_left (dim_names (dims_of dims)) js) (form_add e)) q.4 n) (add-says e)
+      (subst (λ (P : ℕ → ℕ). FieldsStand P inner (form_add e)) (sym a.placed) c2) w.1 in (
         x.0,
         x.1,
         record { cells = w.0; is = sym (same_ok (array_over x.0 w.0) v w.2); filled = length-written_cells d.known d.environment form (dims_of dims) x.0 (add_term e) w.0 (l ∙ axes-length (field_sorts sc) (N d.known) is x.0 all) w.1; each = f },

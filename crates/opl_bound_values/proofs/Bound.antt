@@ -68,9 +68,9 @@ module _ (position : ℕ → ℕ) (k : ℕ) (sc : Scope) (d : Data) (a : Agrees 
     as_many_names = ap (λ (z : Known). length z.enumerations) is ∙ names-count d.known [] [] ∙ ap suc a.as_many_names;
     as_many_forms = ap (λ (z : Known). length z.names) is ∙ forms-count d.known [] [] a.as_many_forms ∙ sym (ap (λ (z : Known). length z.forms) is);
     types = λ name s q. let r = a.types name s (sym (ap scope.type_of (end-finds end sc name)) ∙ q) in
-      (subst (λ f. IsFormOf f s) (sym (ap (λ (z : Known). form_named z name) is ∙ form-same d.known [] [] name)) r.0, below-more k (suc k) (omega arith) s r.1);
+        (subst (λ f. IsFormOf f s) (sym (ap (λ (z : Known). form_named z name) is ∙ form-same d.known [] [] name)) r.0, below-more k (suc k) (omega arith) s r.1);
     structs = λ j. subst (λ fs. AreFormsOf fs (field_sorts (with_end end sc) j)) (sym (ap (λ (z : Known). fields_of z j) is ∙ fields-same d.known [] j))
-      (subst (λ (f : ℕ → Sorts). AreFormsOf (fields_of d.known j) (f j)) (sym F) (a.structs j));
+        (subst (λ (f : ℕ → Sorts). AreFormsOf (fields_of d.known j) (f j)) (sym F) (a.structs j));
     below = λ j. subst (AllBelow (suc k)) (sym (ap (λ f. f j) F)) (all-below-more k (suc k) (omega arith) (field_sorts sc j) (a.below j));
     things = λ name thing q. below-more k (suc k) (omega arith) (scope.sort_of thing) (a.things name thing (sym (end-finds end sc name) ∙ q));
     of = subst (λ (g : ℕ → ℕ). AreOfTheirSorts g (with_end end sc) x.environment) (sym same_counts) (subst (AreOfTheirSorts (N d.known) (with_end end sc)) (sym v) (same-names (N d.known) sc (with_end end sc) d.environment (end-finds end sc) F a.of));
@@ -211,10 +211,10 @@ bound_values_fit position ds inner files os final small h c m =
       w.0,
       w.1,
       λ before after t e.
-      let s = item-stands position w.0 os before after t final (λ d v. with_decls w.0 os before (no_data position) ≡ Ok d → HasItsForm t d v)
-        (λ d v i b. item-at position w.0 os before after t inner d v (subst (λ (xs : List DeclTree). length xs < 2 ^ 32) e small) (subst (λ (xs : List DeclTree). AllDeclare 0 empty_scope xs inner) e h) (subst (AllSuit position os 0 empty_scope) e c) b i)
-        (subst (λ (xs : List DeclTree). with_decls w.0 os xs (no_data position) ≡ Ok final) e w.2) in
-      record { earlier = s.earlier; comes = s.comes; value = s.value; stands = s.stands; is = s.is s.comes },
+          let s = item-stands position w.0 os before after t final (λ d v. with_decls w.0 os before (no_data position) ≡ Ok d → HasItsForm t d v)
+          (λ d v i b. item-at position w.0 os before after t inner d v (subst (λ (xs : List DeclTree). length xs < 2 ^ 32) e small) (subst (λ (xs : List DeclTree). AllDeclare 0 empty_scope xs inner) e h) (subst (AllSuit position os 0 empty_scope) e c) b i)
+          (subst (λ (xs : List DeclTree). with_decls w.0 os xs (no_data position) ≡ Ok final) e w.2) in
+          record { earlier = s.earlier; comes = s.comes; value = s.value; stands = s.stands; is = s.is s.comes },
     )
 
 pub bound_names_are_of_their_sorts : BoundNamesAreOfTheirSorts

@@ -101,9 +101,9 @@ names-have names k (n ∷ ns) sc env p below things hides room of =
     let F = fields-stay sc n.text (enum_name k) refl in
     let i : Item = record { name = n.text; value = v; declaration = 0 } in
     let o = with-name sc there env (declared n.text v 0 env) names names (suc k) n.text (enum_name k) (λ name. found-behind sc name n.text (enum_name k)) (λ j l. ap (λ f. f j) F) below (λ j l. omega arith) things
-      (λ name b. (value-declared env name n.text v 0 hides ∙ ap (λ c. cond c v (value_named name env)) b, item-declared env name n.text v 0 hides ∙ ap (λ c. cond c (Some i) (item_named name env)) b))
-      (λ name b. name-named (field_sorts there) names k i (item_named name (declared n.text v 0 env)) (item-declared env name n.text v 0 hides ∙ ap (λ c. cond c (Some i) (item_named name env)) b) (a_name k p (omega (arith, room))))
-      (λ j. ap (λ f. are_plain (f j)) F ∙ of.structs j) of in
+    (λ name b. (value-declared env name n.text v 0 hides ∙ ap (λ c. cond c v (value_named name env)) b, item-declared env name n.text v 0 hides ∙ ap (λ c. cond c (Some i) (item_named name env)) b))
+    (λ name b. name-named (field_sorts there) names k i (item_named name (declared n.text v 0 env)) (item-declared env name n.text v 0 hides ∙ ap (λ c. cond c (Some i) (item_named name env)) b) (a_name k p (omega (arith, room))))
+    (λ j. ap (λ f. are_plain (f j)) F ∙ of.structs j) of in
     names-have names k ns there (declared n.text v 0 env) (p + 1) (λ j. subst (AllBelow (suc k)) (sym (ap (λ f. f j) F)) (below j))
     (λ m other q. found-by (Below (suc k) (sort_of other)) (bytes_eq m n.text) (enum_name k) other (lookup sc m) (sym (found-behind sc m n.text (enum_name k)) ∙ q) (λ b t. subst (λ (x : Thing). Below (suc k) (sort_of x)) (sym t) (omega arith)) (λ b t. things m other t))
     hides (omega (arith, room)) o
@@ -150,8 +150,8 @@ unfolding with_listed
 listed-environment written ns d = refl
 
 module _ (position : ℕ → ℕ) (k : ℕ) (sc : Scope) (d : Data) (a : Agrees position k sc d) (small : k < 2 ^ 32) (name : Text) (listed : EnumNamesTree) (ns : List Text) (new : IsNone name (enum_names listed)) (env2 : Environment)
-  (hides2 : env2.parameters ≡ []) (placed2 : env2.position ≡ position)
-  (of2 : (more : ℕ → ℕ) → length ns ≤ more k → AreOfTheirSorts more sc d.environment → AreOfTheirSorts more (with_enum_names k (enum_names listed) sc) env2) where
+    (hides2 : env2.parameters ≡ []) (placed2 : env2.position ≡ position)
+    (of2 : (more : ℕ → ℕ) → length ns ≤ more k → AreOfTheirSorts more sc d.environment → AreOfTheirSorts more (with_enum_names k (enum_names listed) sc) env2) where
   abbrev typed : Known
   typed = with_type name (forms.Enumeration (number_of d.known)) d.known
 
@@ -238,7 +238,7 @@ module _ (position : ℕ → ℕ) (k : ℕ) (sc : Scope) (d : Data) (a : Agrees 
     structs = λ j. subst (λ (z : Known). AreFormsOf (fields_of z j) (field_sorts there j)) (sym is) (subst (λ gs. AreFormsOf gs (field_sorts there j)) (sym (fields-are j)) (subst (λ (f : ℕ → Sorts). AreFormsOf (fields_of d.known j) (f j)) (sym H) (a.structs j)));
     below = λ j. subst (AllBelow (suc k)) (sym (ap (λ f. f j) H)) (all-below-more k (suc k) (omega arith) (field_sorts sc j) (a.below j));
     things = λ m thing q. names-below k (enum_names listed) (scope.declared name (enum_type k) sc)
-      (λ o other g. found-by (Below (suc k) (sort_of other)) (bytes_eq o name) (enum_type k) other (lookup sc o) (sym (found-behind sc o name (enum_type k)) ∙ g) (λ b t. subst (λ (x : Thing). Below (suc k) (sort_of x)) (sym t) (omega arith)) (λ b t. below-more k (suc k) (omega arith) (sort_of other) (a.things o other t))) m thing q;
+        (λ o other g. found-by (Below (suc k) (sort_of other)) (bytes_eq o name) (enum_type k) other (lookup sc o) (sym (found-behind sc o name (enum_type k)) ∙ g) (λ b t. subst (λ (x : Thing). Below (suc k) (sort_of x)) (sym t) (omega arith)) (λ b t. below-more k (suc k) (omega arith) (sort_of other) (a.things o other t))) m thing q;
     of = subst (λ (z : Known). AreOfTheirSorts (N z) there e.environment) (sym is) (subst (AreOfTheirSorts (N known) there) (sym v) third);
   }
 

@@ -66,14 +66,13 @@ module _ (fields : ℕ → Sorts) (names : ℕ → ℕ) where
 
 -- one more name in a scope and, where it is data, in its environment: with more of enumerations, and of structs, from number k on
 module _ (sc there : Scope) (env more : Environment) (names grown : ℕ → ℕ) (k : ℕ) (text : Text) (thing : Thing)
-  (finds : (name : Text) → lookup there name ≡ cond (bytes_eq name text) (Some thing) (lookup sc name))
-  (same : (j : ℕ) → j < k → field_sorts there j ≡ field_sorts sc j) (below : (j : ℕ) → AllBelow k (field_sorts sc j)) (grow : (j : ℕ) → j < k → names j ≤ grown j)
-  (things : (name : Text) (other : Thing) → lookup sc name ≡ Some other → Below k (sort_of other))
-  (keeps : (name : Text) → bytes_eq name text ≡ false → (value_named name more ≡ value_named name env) × (item_named name more ≡ item_named name env))
-  (new : (name : Text) → bytes_eq name text ≡ true → IsNamed (field_sorts there) grown thing (item_named name more))
-  (structs : (j : ℕ) → are_plain (field_sorts there j) ≡ true)
-  (of : AreOfTheirSorts names sc env) where
-
+    (finds : (name : Text) → lookup there name ≡ cond (bytes_eq name text) (Some thing) (lookup sc name))
+    (same : (j : ℕ) → j < k → field_sorts there j ≡ field_sorts sc j) (below : (j : ℕ) → AllBelow k (field_sorts sc j)) (grow : (j : ℕ) → j < k → names j ≤ grown j)
+    (things : (name : Text) (other : Thing) → lookup sc name ≡ Some other → Below k (sort_of other))
+    (keeps : (name : Text) → bytes_eq name text ≡ false → (value_named name more ≡ value_named name env) × (item_named name more ≡ item_named name env))
+    (new : (name : Text) → bytes_eq name text ≡ true → IsNamed (field_sorts there) grown thing (item_named name more))
+    (structs : (j : ℕ) → are_plain (field_sorts there j) ≡ true)
+    (of : AreOfTheirSorts names sc env) where
   Has : Sort → Value → Type 0
   Has s v = HasSort (field_sorts there) grown s v
 

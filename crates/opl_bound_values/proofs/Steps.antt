@@ -100,9 +100,9 @@ module _ (position : ℕ → ℕ) (k : ℕ) (sc : Scope) (d : Data) (a : Agrees 
     structs = λ j. subst (λ (fs : List Form). AreFormsOf fs (field_sorts (scope.declared text thing sc) j)) (sym (fields-are j)) (subst (λ (f : ℕ → Sorts). AreFormsOf (fields_of d.known j) (f j)) (sym F) (a.structs j));
     below = all-more k (field_sorts (scope.declared text thing sc)) (field_sorts sc) F a.below;
     things = λ name other h. found-by (Below (suc k) (sort_of other)) (bytes_eq name text) thing other (lookup sc name) (sym (found-behind sc name text thing) ∙ h) (λ b t. subst (λ (x : Thing). Below (suc k) (sort_of x)) (sym t) low)
-      (λ b t. below-more k (suc k) (omega arith) (sort_of other) (a.things name other t));
+        (λ b t. below-more k (suc k) (omega arith) (sort_of other) (a.things name other t));
     of = with-name sc (scope.declared text thing sc) d.environment e.environment (N d.known) (N e.known) k text thing (λ name. found-behind sc name text thing) (λ j l. ap (λ f. f j) F) a.below (λ j l. let q = ap length (names-are j) in omega (arith, q)) a.things keeps
-      (λ name b. subst (λ (f : ℕ → Sorts). IsNamed f (N e.known) thing (item_named name e.environment)) (sym F) (subst (λ (g : ℕ → ℕ). IsNamed (field_sorts sc) g thing (item_named name e.environment)) (sym same_counts) (new name b))) (λ j. ap (λ f. are_plain (f j)) F ∙ a.of.structs j) a.of;
+        (λ name b. subst (λ (f : ℕ → Sorts). IsNamed f (N e.known) thing (item_named name e.environment)) (sym F) (subst (λ (g : ℕ → ℕ). IsNamed (field_sorts sc) g thing (item_named name e.environment)) (sym same_counts) (new name b))) (λ j. ap (λ f. are_plain (f j)) F ∙ a.of.structs j) a.of;
   }
     where
       F : field_sorts (scope.declared text thing sc) ≡ field_sorts sc
@@ -184,9 +184,9 @@ module _ (position : ℕ → ℕ) (k : ℕ) (sc : Scope) (d : Data) (a : Agrees 
       let v = value-environment t.name.text w.0 d in
       let thing = value (shaped h.1 h.0) in
       let r = one-name position k sc d a x t.name.text thing d.known refl (value-known t.name.text w.0 d) (λ j. refl) (λ j. refl) a.as_many a.as_many_names a.as_many_forms (ap (λ (z : Environment). z.parameters) v ∙ a.hides) (ap (λ (z : Environment). z.position) v ∙ a.placed)
-        (no-type t.name.text thing refl) (shaped-below (suc k) h.1 h.0 (below-more k (suc k) (omega arith) h.0 y.1))
-        (λ name b. subst (λ (z : Environment). (value_named name z ≡ value_named name d.environment) × (item_named name z ≡ item_named name d.environment)) (sym v) (kept name t.name.text w.0 0 b))
-        (λ name b. item-named position k sc d a (form_of t.kind d.known) h.0 t.dims h.1 (record { name = t.name.text; value = w.0; declaration = 0 }) (item_named name x.environment) y.0 h.5.1 f (ap (item_named name) v ∙ there-is name t.name.text w.0 0 b)) in
+      (no-type t.name.text thing refl) (shaped-below (suc k) h.1 h.0 (below-more k (suc k) (omega arith) h.0 y.1))
+      (λ name b. subst (λ (z : Environment). (value_named name z ≡ value_named name d.environment) × (item_named name z ≡ item_named name d.environment)) (sym v) (kept name t.name.text w.0 0 b))
+      (λ name b. item-named position k sc d a (form_of t.kind d.known) h.0 t.dims h.1 (record { name = t.name.text; value = w.0; declaration = 0 }) (item_named name x.environment) y.0 h.5.1 f (ap (item_named name) v ∙ there-is name t.name.text w.0 0 b)) in
       subst (λ (z : Scope). Agrees position (suc k) z e) (sym h.7) (subst (Agrees position (suc k) (scope.declared t.name.text thing sc)) (same_ok x e w.2) r)
 
   pub range-step : (t : RangeTree) (there : Scope) (low high : ℤ) → there ≡ scope.declared t.name.text range sc → Agrees position (suc k) there (with_ends t.name.text low high d)
@@ -195,11 +195,11 @@ module _ (position : ℕ → ℕ) (k : ℕ) (sc : Scope) (d : Data) (a : Agrees 
       let known = with_type t.name.text (forms.Range low high) d.known in
       let v = ends-environment t.name.text low high d in
       let r = one-name position k sc d a x t.name.text range known refl (ends-known t.name.text low high d) (λ j. names-typed d.known t.name.text (forms.Range low high) j) (λ j. fields-typed d.known t.name.text (forms.Range low high) j)
-        (ap length (typed-fields d.known t.name.text (forms.Range low high)) ∙ a.as_many) (ap length (typed-names d.known t.name.text (forms.Range low high)) ∙ a.as_many_names) (typed-forms d.known t.name.text (forms.Range low high) a.as_many_forms)
-        (ap (λ (z : Environment). z.parameters) v ∙ a.hides) (ap (λ (z : Environment). z.position) v ∙ a.placed) (types t low high) tt
-        (λ name b. subst (λ (z : Environment). (value_named name z ≡ value_named name d.environment) × (item_named name z ≡ item_named name d.environment)) (sym v) (kept name t.name.text (values.Range low high) 0 b))
-        (λ name b. range-named (field_sorts sc) (N d.known) (record { name = t.name.text; value = values.Range low high; declaration = 0 }) (item_named name x.environment) (ap (item_named name) v ∙ there-is name t.name.text (values.Range low high) 0 b)
-        (range-has (field_sorts sc) (N d.known) 0 low high)) in
+      (ap length (typed-fields d.known t.name.text (forms.Range low high)) ∙ a.as_many) (ap length (typed-names d.known t.name.text (forms.Range low high)) ∙ a.as_many_names) (typed-forms d.known t.name.text (forms.Range low high) a.as_many_forms)
+      (ap (λ (z : Environment). z.parameters) v ∙ a.hides) (ap (λ (z : Environment). z.position) v ∙ a.placed) (types t low high) tt
+      (λ name b. subst (λ (z : Environment). (value_named name z ≡ value_named name d.environment) × (item_named name z ≡ item_named name d.environment)) (sym v) (kept name t.name.text (values.Range low high) 0 b))
+      (λ name b. range-named (field_sorts sc) (N d.known) (record { name = t.name.text; value = values.Range low high; declaration = 0 }) (item_named name x.environment) (ap (item_named name) v ∙ there-is name t.name.text (values.Range low high) 0 b)
+      (range-has (field_sorts sc) (N d.known) 0 low high)) in
       subst (λ (z : Scope). Agrees position (suc k) z x) (sym h) r
     where
       types : (u : RangeTree) (l m : ℤ) (name : Text) (s : Sort) → type_of (cond (bytes_eq name u.name.text) (Some range) (lookup sc name)) ≡ Some s → IsFormOf (form_named (with_type u.name.text (forms.Range l m) d.known) name) s × Below (suc k) s
@@ -217,7 +217,7 @@ module _ (position : ℕ → ℕ) (k : ℕ) (sc : Scope) (d : Data) (a : Agrees 
       let x = with_known known d in
       let v = known-environment known d in
       let r = one-name position k sc d a x text thing d.known plain (known-known known d) (λ j. refl) (λ j. refl) a.as_many a.as_many_names a.as_many_forms (ap (λ (z : Environment). z.parameters) v ∙ a.hides) (ap (λ (z : Environment). z.position) v ∙ a.placed)
-        (no-type text thing n) low (λ name b. (ap (value_named name) v, ap (item_named name) v)) (λ name b. new (item_named name x.environment)) in
+      (no-type text thing n) low (λ name b. (ap (value_named name) v, ap (item_named name) v)) (λ name b. new (item_named name x.environment)) in
       subst (λ (z : Scope). Agrees position (suc k) z x) (sym h) r
 
   -- ---- structs
@@ -231,10 +231,12 @@ module _ (position : ℕ → ℕ) (k : ℕ) (sc : Scope) (d : Data) (a : Agrees 
       ([], sym (append-nil before), subst (λ (gs : List Field). AreFormsOf [] (sorts_of (map (λ (f : Field). f.sort) gs))) (sym h) no_form, subst (λ (gs : List Field). AllBelow k (sorts_of (map (λ (f : Field). f.sort) gs))) (sym h) tt)
   fields-have-forms (t ∷ ts) before fs h =
       let y = type-form k sc d.known a.types t.kind h.0 h.2 in
-      let r = fields-have-forms ts (before ++ form_of t.kind d.known ∷ []) h.1 h.3 in
-      (form_of t.kind d.known ∷ r.0, r.1 ∙ append_assoc before (form_of t.kind d.known ∷ []) r.0,
+      let r = fields-have-forms ts (before ++ form_of t.kind d.known ∷ []) h.1 h.3 in (
+        form_of t.kind d.known ∷ r.0,
+        r.1 ∙ append_assoc before (form_of t.kind d.known ∷ []) r.0,
         subst (λ (gs : List Field). AreFormsOf (form_of t.kind d.known ∷ r.0) (sorts_of (map (λ (f : Field). f.sort) gs))) (sym h.4) (one_form (form_of t.kind d.known) h.0 r.0 (sorts_of (map (λ (f : Field). f.sort) h.1)) y.0 r.2),
-        subst (λ (gs : List Field). AllBelow k (sorts_of (map (λ (f : Field). f.sort) gs))) (sym h.4) (y.1, r.3))
+        subst (λ (gs : List Field). AllBelow k (sorts_of (map (λ (f : Field). f.sort) gs))) (sym h.4) (y.1, r.3),
+      )
 
   pub struct-step : (t : StructTree) (fs : List Field) (there : Scope) → k < 2 ^ 32 → HaveFields sc (t.first ∷ t.rest) fs → there ≡ scope.declared t.name.text (struct_type k fs) sc → Agrees position (suc k) there (with_known (with_struct t d.known) d)
   struct-step t fs there small h n = subst (λ (z : Scope). Agrees position (suc k) z x) (sym n) here
@@ -314,7 +316,7 @@ module _ (position : ℕ → ℕ) (k : ℕ) (sc : Scope) (d : Data) (a : Agrees 
         structs = agree;
         below = λ j. subst (AllBelow (suc k)) (sym (fields-new sc t.name.text k fs j)) (below-by (nat_eq j k) j);
         things = λ name other q. found-by (Below (suc k) (sort_of other)) (bytes_eq name t.name.text) (struct_type k fs) other (lookup sc name) (sym (found-behind sc name t.name.text (struct_type k fs)) ∙ q) (λ b g. subst (λ (z : Thing). Below (suc k) (sort_of z)) (sym g) tt)
-          (λ b g. below-more k (suc k) (omega arith) (sort_of other) (a.things name other g));
+            (λ b g. below-more k (suc k) (omega arith) (sort_of other) (a.things name other g));
         of = with-name sc S d.environment x.environment (N d.known) (N x.known) k t.name.text (struct_type k fs) (λ name. found-behind sc name t.name.text (struct_type k fs)) same a.below (λ j l. let q = ap length (names-are j) in omega (arith, q)) a.things
-          (λ name b. (ap (value_named name) v, ap (item_named name) v)) (λ name b. struct-named (field_sorts S) (N x.known) k fs (item_named name x.environment)) (λ j. forms-plain (fields_of x.known j) (field_sorts S j) (agree j)) a.of;
+            (λ name b. (ap (value_named name) v, ap (item_named name) v)) (λ name b. struct-named (field_sorts S) (N x.known) k fs (item_named name x.environment)) (λ j. forms-plain (fields_of x.known j) (field_sorts S j) (agree j)) a.of;
       }
