@@ -8,6 +8,7 @@ use Rattle.opl_linear_filter.specs.LinearForms.{IsMade, IsFilterOf, ComparesLine
 use Rattle.opl_all_different.specs.DifferentForms.{IsMade as IsMadeOfSingles, IsFilterOf as IsDifferenceFor, SeparatesVariables}
 use Rattle.opl_reify.specs.Ends as disjunction
 use Rattle.opl_reify.specs.Disjunctions.{IsMadeOfParts, IsDisjunctionFor, IsDisjunction}
+use Rattle.opl_count.specs.CountFilters.{IsMadeOfCounts, IsCountFor, ComparesCounts}
 use Rattle.opl_engine.specs.declared.own_filter.OwnFilter.{OwnFilter}
 use Rattle.opl_engine.specs.declared.own_filter.OwnFilter.TheVariants as own
 
@@ -16,12 +17,14 @@ abbrev pub IsMadeWith : Core → OwnFilter → Type 0
 IsMadeWith core (own.Linear f) = IsMade core f
 IsMadeWith core (own.Different f) = IsMadeOfSingles core f
 IsMadeWith core (own.Reify f) = IsMadeOfParts core f
+IsMadeWith core (own.Count f) = IsMadeOfCounts core f
 
 -- it is the filter of a constraint
 abbrev pub IsOwnFilter : Core → Fact → OwnFilter → Type 0
 IsOwnFilter core c (own.Linear f) = IsFilterOf core c f
 IsOwnFilter core c (own.Different f) = IsDifferenceFor core c f
 IsOwnFilter core c (own.Reify f) = IsDisjunctionFor core c f
+IsOwnFilter core c (own.Count f) = IsCountFor core c f
 
 -- a filter, where there is one, is that of a constraint
 abbrev pub IsOwnFilterIfAny : Core → Fact → Option OwnFilter → Type 0
@@ -33,6 +36,7 @@ abbrev pub sees_ends : OwnFilter → Bool
 sees_ends (own.Linear f) = linear.sees_ends f
 sees_ends (own.Different f) = true
 sees_ends (own.Reify f) = disjunction.sees_ends f
+sees_ends (own.Count f) = false
 
 -- so it is of a filter, where there is one; without one all values count
 abbrev pub sees_ends_if_any : Option OwnFilter → Bool
@@ -44,17 +48,29 @@ pub record KeepsConstraints (old new : Option OwnFilter) : Type 0 where
   pub constraint : (core : Core) (c : Fact) → IsOwnFilterIfAny core c old → IsOwnFilterIfAny core c new
   pub ends : sees_ends_if_any new ≡ sees_ends_if_any old
 
--- each disjunction whose parts compare linear sides has a filter
+-- a constraint is of the kind that such a filter is for
+abbrev pub IsOfKind : Core → Cons → OwnFilter → Type 0
+IsOfKind core c (own.Linear f) = ComparesLinear core c
+IsOfKind core c (own.Different f) = SeparatesVariables core c
+IsOfKind core c (own.Reify f) = IsDisjunction core c
+IsOfKind core c (own.Count f) = ComparesCounts core c
+
+-- each comparison of counting sums has a filter, and what has a filter is of its kind
+abbrev pub IsThereForCounts : Core → Cons → Option OwnFilter → Type 0
+IsThereForCounts core c None = ComparesCounts core c → ⊥
+IsThereForCounts core c (Some f) = IsOfKind core c f
+
+-- so has each disjunction whose parts compare linear sides
 abbrev pub IsThereForDisjunctions : Core → Cons → Option OwnFilter → Type 0
-IsThereForDisjunctions core c None = IsDisjunction core c → ⊥
-IsThereForDisjunctions core c (Some f) = Unit {0}
+IsThereForDisjunctions core c None = (IsDisjunction core c → ⊥) × (ComparesCounts core c → ⊥)
+IsThereForDisjunctions core c (Some f) = IsOfKind core c f
 
 -- so has each alldifferent of linear parts with at most one variable each, no two of them the same
 abbrev pub IsThereForDifferences : Core → Cons → Option OwnFilter → Type 0
-IsThereForDifferences core c None = (SeparatesVariables core c → ⊥) × (IsDisjunction core c → ⊥)
-IsThereForDifferences core c (Some f) = Unit {0}
+IsThereForDifferences core c None = (SeparatesVariables core c → ⊥) × (IsDisjunction core c → ⊥) × (ComparesCounts core c → ⊥)
+IsThereForDifferences core c (Some f) = IsOfKind core c f
 
 -- and so has each comparison of linear sides
 abbrev pub IsThereForKinds : Core → Cons → Option OwnFilter → Type 0
-IsThereForKinds core c None = (ComparesLinear core c → ⊥) × (SeparatesVariables core c → ⊥) × (IsDisjunction core c → ⊥)
-IsThereForKinds core c (Some f) = Unit {0}
+IsThereForKinds core c None = (ComparesLinear core c → ⊥) × (SeparatesVariables core c → ⊥) × (IsDisjunction core c → ⊥) × (ComparesCounts core c → ⊥)
+IsThereForKinds core c (Some f) = IsOfKind core c f

@@ -129,6 +129,7 @@ own_ends_decide : (core : Core) (c : Fact) (f : OwnFilter) → IsOwnFilter core 
 own_ends_decide core c (own.Linear f) i e = linear.ends_decide core c f i e
 own_ends_decide core c (own.Different f) i e = different.different_by_ends core c f i
 own_ends_decide core c (own.Reify f) i e = disjunction.ends_decide core c f i e
+own_ends_decide core c (own.Count f) i e = cc
 
 module _ (core : Core) (c : Fact) (variables : List ℕ) (F G : Family) (m : IsListed core c variables) (wide : length F ≡ length core.sets) (s : IsStable (refutes c) F) (g : Full G) (b : Below G F) where
   filter_rests : (f : OwnFilter) → IsOwnFilter core c f → (t : Bool) → sees_ends f ≡ t →

@@ -1,9 +1,9 @@
-mod Negation
-mod Parts
-mod Carrying
-mod Trying
-mod Opening
-mod Looking
+pub mod Negation
+pub mod Parts
+pub mod Carrying
+pub mod Trying
+pub mod Opening
+pub mod Looking
 mod Shapes
-mod Made
+pub mod Made
 pub mod Ends

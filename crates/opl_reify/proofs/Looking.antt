@@ -26,16 +26,16 @@ use Rattle.opl_reify.proofs.Carrying.{SaysTheSameWithin, between_carried, outcom
 pub left_between : (dead : Family → Bool) (D F : Family) → IsFamily D → IsLeftOf dead D F → IsBetween dead D F
 left_between dead D F f a = record { removals = a; below = left_below dead D F a; sets = left_sets dead D F f a }
 
-nothing_between : (dead : Family → Bool) (D : Family) → IsFamily D → IsBetween dead D D
+pub nothing_between : (dead : Family → Bool) (D : Family) → IsFamily D → IsBetween dead D D
 nothing_between dead D f = left_between dead D D f (left_self dead D)
 
 fails : (dead : Family → Bool) (D : Family) → IsMonotone dead → None ≡ closure dead D → HasFailed dead D
 fails dead D m e = subst (λ o. ClosesTo dead D o) (sym e) (closure_is dead D m)
 
-dead_has_failed : (dead : Family → Bool) (D : Family) → IsMonotone dead → dead D ≡ true → HasFailed dead D
+pub dead_has_failed : (dead : Family → Bool) (D : Family) → IsMonotone dead → dead D ≡ true → HasFailed dead D
 dead_has_failed dead D m h F s = let e = m.falls F D s.stable.full s.within h in let i = s.stable.spared in cc
 
-stuck_has_failed : (dead : Family → Bool) (D F : Family) → IsMonotone dead → IsStuck dead D F → HasFailed dead D
+pub stuck_has_failed : (dead : Family → Bool) (D F : Family) → IsMonotone dead → IsStuck dead D F → HasFailed dead D
 stuck_has_failed dead D F m s =
     fails dead D m (single_fails dead D F s.variable s.value m (left_kept dead D F m s.removals) s.last_value.dead_value s.last_value.last)
 

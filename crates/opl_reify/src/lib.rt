@@ -9,4 +9,7 @@ mod part;
 mod reify_filter;
 mod rounds;
 
+pub use making::literal;
+pub use part::Part;
 pub use reify_filter::ReifyFilter;
+pub use rounds::try_shared;

@@ -70,7 +70,7 @@ fn part_of(
 }
 
 /// The part for a constraint, or for its opposite, if it is a comparison of linear sides or the opposite of one.
-fn literal(
+pub fn literal(
     alloc: Global,
     core: &Core,
     c: &Cons,

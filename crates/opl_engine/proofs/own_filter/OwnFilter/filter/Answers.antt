@@ -1,4 +1,4 @@
-use Rattle.opl_engine.proofs.OwnKinds.{reify_is}
+use Rattle.opl_engine.proofs.OwnKinds.{count_is, reify_is}
 use Rattle.opl_engine.proofs.own_filter.OwnFilter.filter.Goals as goal
 
 pub returns-in-Reify-clause-between : goal.returns-in-Reify-clause-between
@@ -6,3 +6,9 @@ returns-in-Reify-clause-between g c = λ d i. c.filter-in-Reify.ensures.between 
 
 pub returns-in-Reify-clause-outcome : goal.returns-in-Reify-clause-outcome
 returns-in-Reify-clause-outcome g c = λ d i. c.filter-in-Reify.ensures.outcome d (reify_is c.args.core.now d c.args.self.now c.in-Reify.filter c.in-Reify.is i)
+
+pub returns-in-Count-clause-between : goal.returns-in-Count-clause-between
+returns-in-Count-clause-between g c = λ d i. c.filter-in-Count.ensures.between d (count_is c.args.core.now d c.args.self.now c.in-Count.filter c.in-Count.is i)
+
+pub returns-in-Count-clause-outcome : goal.returns-in-Count-clause-outcome
+returns-in-Count-clause-outcome g c = λ d i. c.filter-in-Count.ensures.outcome d (count_is c.args.core.now d c.args.self.now c.in-Count.filter c.in-Count.is i)

@@ -1,0 +1,12 @@
+mod Notices
+mod Implied
+mod Prices
+mod Settling
+mod Read
+mod Both
+mod Shapes
+mod Ranges
+mod Readings
+mod Tying
+mod Over
+mod Made
