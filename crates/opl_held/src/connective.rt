@@ -51,7 +51,7 @@ pub(crate) fn met(
         Outcome::Live(Some((so_far, value))) => {
             Outcome::Live(Some(joined(connective, so_far, is_true(&value))))
         }
-        Outcome::Live(None) => Outcome::Live(None),
+        Outcome::Live(None) => Outcome::Live(None), // Beside a decided part too.
     }
 }
 
