@@ -14,11 +14,7 @@ const MOST: usize = 1 << 24;
 const LEVELS: u32 = 256;
 
 /// The condition of these tokens; None where they begin with none.
-fn parsed(
-    alloc: Global,
-    tokens: &[Token],
-    end: u32,
-) -> Result<Option<Boxed<Term>>, AllocError> {
+fn parsed(alloc: Global, tokens: &[Token], end: u32) -> Result<Option<Boxed<Term>>, AllocError> {
     let level = Level {
         alloc,
         below: Phrases {

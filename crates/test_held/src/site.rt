@@ -1,6 +1,6 @@
 //! One decision variable, and conditions on it.
 ghost use Rattle.std.specs.Prelude.{IfOk};
-ghost use Rattle.test_held.specs.Single.{AreSingle, IsPlain};
+ghost use Rattle.test_held.specs.Single.{AreSingle, IsAlone, IsPlain};
 
 use opl_declared::Declared;
 use opl_eval::{Environment, EvalFault, Positions};
@@ -37,6 +37,38 @@ fn variables(alloc: Global) -> Result<Vec<VariableItem>, AllocError>
     Ok(items)
 }
 
+/// Whether a condition holds where a variable alone is declared.
+fn holds_at(
+    alloc: Global,
+    declared: &Declared<'_>,
+    environment: &Environment<'_>,
+    condition: &Term,
+    number: i64,
+) -> Result<Option<bool>, EvalFault>
+    requires { IsAlone declared.now environment.now }
+{
+    let context = Context {
+        sets: &[(-9, 9)],
+        arrays: &[],
+        item: 0,
+    };
+    let site = Site {
+        context: &context,
+        declared,
+    };
+    let scope = Scope {
+        environment,
+        parameters: &[],
+    };
+    let found = holds_source(alloc, site, scope, condition, &[number]);
+    let Context {
+        sets: _,
+        arrays: _,
+        item: _,
+    } = context;
+    found
+}
+
 /// Whether a condition holds where these are the declared variables.
 fn holds_with(
     alloc: Global,
@@ -46,22 +78,9 @@ fn holds_with(
 ) -> Result<Option<bool>, EvalFault>
     requires { AreSingle items.now }
 {
-    let declared = Declared::new(alloc, items)?;
-    let context = Context {
-        sets: &[(-9, 9)],
-        arrays: &[],
-        item: 0,
-    };
     let environment = Environment::new(alloc, Positions::new(alloc));
-    let site = Site {
-        context: &context,
-        declared: &declared,
-    };
-    let scope = Scope {
-        environment: &environment,
-        parameters: &[],
-    };
-    holds_source(alloc, site, scope, condition, &[number])
+    let declared = Declared::new(alloc, items)?;
+    holds_at(alloc, &declared, &environment, condition, number)
 }
 
 /// Whether a condition holds where `x` has this number.
