@@ -186,14 +186,14 @@ shape-sound sc dims s h =
     let e = same_shape (record { dims = w.0; inner = with_values w.0.names w.0.named sc }) s w.2 in
     subst (Shaped sc dims) e (record { has = (d.new, d.have, λ i. with_values (d.are.names i) (d.are.named i) sc); names = d.are.names })
 
-record Shapes (sc : Scope) (dims : Option DimsTree) (is : List Sort) (inner : Scope) : Type 0 where
-  found : Shape
-  given : shape sc dims ≡ Ok found
-  inside : found.inner ≡ inner
-  indices : found.dims.indices ≡ is
-  names : found.dims.names ≡ dim_names (all_dims dims)
+pub record Shapes (sc : Scope) (dims : Option DimsTree) (is : List Sort) (inner : Scope) : Type 0 where
+  pub found : Shape
+  pub given : shape sc dims ≡ Ok found
+  pub inside : found.inner ≡ inner
+  pub indices : found.dims.indices ≡ is
+  pub names : found.dims.names ≡ dim_names (all_dims dims)
 
-shape-complete : (sc : Scope) (dims : Option DimsTree) (is : List Sort) (inner : Scope) → HasDims sc dims is inner → Shapes sc dims is inner
+pub shape-complete : (sc : Scope) (dims : Option DimsTree) (is : List Sort) (inner : Scope) → HasDims sc dims is inner → Shapes sc dims is inner
 shape-complete sc dims is inner h =
     let d = dims-complete (all_dims dims) sc sc is h.0 h.1 in record {
       found = record { dims = d.0; inner = with_values d.0.names d.0.named sc };

@@ -18,7 +18,7 @@ use Rattle.opl_eval.specs.Evaluation.{Environment, Found, Item, Parameter, bound
 use Rattle.opl_typed_values.specs.OfSort.{AllHaveSort, HasSort, HaveSorts, IsArrayOf, a_name, a_number, a_record, a_row, a_set, a_truth, are_plain, is_of_data, more_have, no_elements, none_has}
 use Rattle.opl_typed_values.specs.Visible.{AreOfTheirSorts}
 use Rattle.opl_typed_values.proofs.Fields.{parts-of}
-use Rattle.opl_typed_values.proofs.Fitting.{none-anything, some_same}
+use Rattle.opl_typed_values.proofs.Fitting.{first-has, none-have, some_same}
 use Rattle.opl_typed_values.proofs.Outside.{same_ok, went}
 
 -- ---- scopes and environments
@@ -180,9 +180,9 @@ module _ (names : ℕ → ℕ) where
   many-more (n ∷ ns) [] sc env vs of h = (subst (Of sc) (sym (ap (λ ws. with_parameters (bound_parts (map (λ (m : NameTree). m.text) (n ∷ ns)) ws) env) (none-have-parts vs h) ∙ with-none env)) of, refl)
     where
       none-have-parts : (ws : List Value) → HaveSorts (field_sorts sc) names no_sorts ws → ws ≡ []
-      none-have-parts ws k = Rattle.opl_typed_values.proofs.Fitting.none-have (field_sorts sc) names no_sorts ws k refl
+      none-have-parts ws k = none-have (field_sorts sc) names no_sorts ws k refl
   many-more (n ∷ ns) (s ∷ ss) sc env vs of h =
-      let f = Rattle.opl_typed_values.proofs.Fitting.first-has (field_sorts sc) names (sorts_of (s ∷ ss)) vs s (sorts_of ss) h refl in
+      let f = first-has (field_sorts sc) names (sorts_of (s ∷ ss)) vs s (sorts_of ss) h refl in
       let o = one-more sc env n.text s f.0 of f.3 in
       let k = fields-stay sc n.text s in
       let r = many-more ns ss (scope.declared n.text (value s) sc) (with_one n.text f.0 env) f.1 o (subst (λ g. HaveSorts g names (sorts_of ss) f.1) (sym k) f.4) in

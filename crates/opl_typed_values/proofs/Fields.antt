@@ -43,22 +43,23 @@ module _ (fields : ℕ → Sorts) (names : ℕ → ℕ) where
   abbrev Sorts_of : List Field → Sorts
   Sorts_of fs = sorts_of (map (λ (f : Field). f.sort) fs)
 
-  pub place-has : (fs : List Field) (name : Text) (p q : ℕ) (s : Sort) (vs : List Value) → HaveSorts fields names (Sorts_of fs) vs → field_sort name fs ≡ Some s → place_from p name fs ≡ Some q →
-      (r : ℕ) × (q ≡ p + r) × HasSort fields names s (value_at vs r)
-  place-has [] name p q s vs h e k = absurd (cc)
-  place-has (f ∷ fs) name p q s vs h e k = by (bytes_eq name f.name) e k (λ ws i d g. place-has fs name (p + 1) q s ws i d g)
+  -- a field that is there has a place, at which a record has a part of its type
+  pub place-has : (fs : List Field) (name : Text) (p : ℕ) (s : Sort) (vs : List Value) → HaveSorts fields names (Sorts_of fs) vs → field_sort name fs ≡ Some s →
+      (r : ℕ) × (place_from p name fs ≡ Some (p + r)) × HasSort fields names s (value_at vs r)
+  place-has [] name p s vs h e = absurd (cc)
+  place-has (f ∷ fs) name p s vs h e = by (bytes_eq name f.name) e (λ ws i d. place-has fs name (p + 1) s ws i d)
     where
       parts : (v : Value) × (ws : List Value) × (vs ≡ v ∷ ws) × HasSort fields names f.sort v × HaveSorts fields names (Sorts_of fs) ws
       parts = first-has fields names (Sorts_of (f ∷ fs)) vs f.sort (Sorts_of fs) h refl
 
-      by : (b : Bool) → cond b (Some f.sort) (field_sort name fs) ≡ Some s → cond b (Some p) (place_from (p + 1) name fs) ≡ Some q →
-          ((ws : List Value) → HaveSorts fields names (Sorts_of fs) ws → field_sort name fs ≡ Some s → place_from (p + 1) name fs ≡ Some q → (r : ℕ) × (q ≡ p + 1 + r) × HasSort fields names s (value_at ws r)) →
-          (r : ℕ) × (q ≡ p + r) × HasSort fields names s (value_at vs r)
-      by true d g more =
-          (0, sym (some_same p q g) ∙ omega arith, subst (λ (ws : List Value). HasSort fields names s (value_at ws 0)) (sym parts.2) (subst (λ (x : Sort). HasSort fields names x parts.0) (some_same f.sort s d) parts.3))
-      by false d g more =
-          let r = more parts.1 parts.4 d g in
-          (suc r.0, r.1 ∙ omega arith, subst (λ (ws : List Value). HasSort fields names s (value_at ws (suc r.0))) (sym parts.2) r.2)
+      by : (b : Bool) → cond b (Some f.sort) (field_sort name fs) ≡ Some s →
+          ((ws : List Value) → HaveSorts fields names (Sorts_of fs) ws → field_sort name fs ≡ Some s → (r : ℕ) × (place_from (p + 1) name fs ≡ Some (p + 1 + r)) × HasSort fields names s (value_at ws r)) →
+          (r : ℕ) × (cond b (Some p) (place_from (p + 1) name fs) ≡ Some (p + r)) × HasSort fields names s (value_at vs r)
+      by true d more =
+          (0, ap Some (omega arith), subst (λ (ws : List Value). HasSort fields names s (value_at ws 0)) (sym parts.2) (subst (λ (x : Sort). HasSort fields names x parts.0) (some_same f.sort s d) parts.3))
+      by false d more =
+          let r = more parts.1 parts.4 d in
+          (suc r.0, r.1 ∙ ap Some (omega arith), subst (λ (ws : List Value). HasSort fields names s (value_at ws (suc r.0))) (sym parts.2) r.2)
 
   pub parts-of : (vs : List Value) → parts (values.Record vs) ≡ vs
   parts-of vs = ap parts_layer (values.outs-Record vs)

@@ -1,5 +1,5 @@
 -- Values are of the types of their expressions.
-use Rattle.std.proofs.Common.{◌≡◌, ◌<◌, ℕ, zero, suc, ℤ, pos, ◌+ℤ◌, ◌-ℤ◌, Bool, true, false, cond, List, [], ◌∷◌, length, map, Option, None, Some, Ok, refl, sym, ap, subst, ◌∙◌, arith}
+use Rattle.std.proofs.Common.{◌≡◌, ◌+◌, ◌<◌, ℕ, zero, suc, ℤ, pos, ◌+ℤ◌, ◌-ℤ◌, Bool, true, false, cond, List, [], ◌∷◌, length, map, Option, None, Some, Ok, refl, sym, ap, subst, ◌∙◌, arith}
 use Rattle.std.specs.List.{AllByRecursion}
 use Rattle.std.specs.Option.{option_map}
 use Rattle.opl_tree.specs.declared.expression.NameTree.{NameTree}
@@ -150,13 +150,14 @@ module _ (names : ℕ → ℕ) (sc : Scope) (env : Environment) (visible : AreOf
   -- ---- fields of records
 
   field-has : (base : Typed) (name : NameTree) (s : Sort) (a : Typed) (w : Value) (f : Form) → HasType sc f base → base.sort ≡ s → IsField sc base name s a → IsData base → (is_storable base.sort ≡ true → Has base.sort w) →
-      ((k : ℕ) → base.sort ≡ structure k → place_from 0 name.text (fields sc k) ≡ Some (env.position name.at)) → Has a.sort (value_at (parts w) (env.position name.at))
+      ((k p : ℕ) → base.sort ≡ structure k → place_from 0 name.text (fields sc k) ≡ Some p → env.position name.at ≡ p) → Has a.sort (value_at (parts w) (env.position name.at))
   field-has base name activity a w f h b e given has place = absurd (no-activity names sc env visible f base h given b)
   field-has base name (structure k) a w f h b e given has place =
       let r = record_has_parts (field_sorts sc) names base.sort w k (has (ap is_storable b)) b in
-      let q = place-has (field_sorts sc) names (fields sc k) name.text 0 (env.position name.at) e.0 r.0 (subst (λ (ss : Sorts). HaveSorts (field_sorts sc) names ss r.0) (fields-same sc k) r.2) e.1 (place k b) in
+      let q = place-has (field_sorts sc) names (fields sc k) name.text 0 e.0 r.0 (subst (λ (ss : Sorts). HaveSorts (field_sorts sc) names ss r.0) (fields-same sc k) r.2) e.1 in
+      let at = place k (0 + q.0) b q.1 in
       subst (λ (x : Sort). Has x (value_at (parts w) (env.position name.at))) (sym (ap (λ (x : Typed). x.sort) e.2))
-      (subst (λ ws. Has e.0 (value_at ws (env.position name.at))) (sym (ap parts r.1 ∙ parts-of (field_sorts sc) names r.0)) (subst (λ (p : ℕ). Has e.0 (value_at r.0 p)) (sym (q.1 ∙ omega arith)) q.2))
+      (subst (λ ws. Has e.0 (value_at ws (env.position name.at))) (sym (ap parts r.1 ∙ parts-of (field_sorts sc) names r.0)) (subst (λ (p : ℕ). Has e.0 (value_at r.0 p)) (sym (at ∙ omega arith)) q.2))
   field-has base name anything a w f h b e given has place = absurd (some-type names sc env visible f base h given b)
   field-has base name s a w f h b e given has place = absurd e
 
@@ -298,7 +299,7 @@ module _ (names : ℕ → ℕ) where
         let w = field-comes env is.0 is.1 is.2 (field_name name) v (sym (ap (λ u. eval u env) is.3) ∙ e) in
         let d = field-base names sc env of h.0 name h.0.sort a h.2 given in
         subst (Sorted sc a.sort) (sym w.2)
-        (field-has names sc env of h.0 name h.0.sort a w.0 f h.1 refl h.2 d (λ st. has sc env of f (with_fields is.0 is.1 is.2) h.0 w.0 c.0 is.4 h.1 d st w.1) (λ k b. c.1 h.0 k h.1 b))
+        (field-has names sc env of h.0 name h.0.sort a w.0 f h.1 refl h.2 d (λ st. has sc env of f (with_fields is.0 is.1 is.2) h.0 w.0 c.0 is.4 h.1 d st w.1) (λ k p b g. c.1 h.0 k p h.1 b g))
     has sc env of (tuple at fs) t a v c is h given storable e =
         let w = went (values_of (map meaning is.1) env) _ v (sym (ap (λ u. eval u env) is.2 ∙ ap (λ m. m.value env) (meaning-Record is.0 is.1)) ∙ e) in
         let r = have sc env of fs is.1 h.0 w.0 c is.3 h.1 h.2 h.3 w.1 in

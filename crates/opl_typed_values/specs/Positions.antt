@@ -25,7 +25,7 @@ module _ (position : ℕ → ℕ) where
   abbrev mutual
     pub FieldsStand : Scope → Form → Type 0
     FieldsStand sc (bracket at f) = FieldsStand sc f
-    FieldsStand sc (field at f name) = FieldsStand sc f × ((a : Typed) (k : ℕ) → HasType sc f a → a.sort ≡ structure k → place_from 0 name.text (fields sc k) ≡ Some (position name.at))
+    FieldsStand sc (field at f name) = FieldsStand sc f × ((a : Typed) (k p : ℕ) → HasType sc f a → a.sort ≡ structure k → place_from 0 name.text (fields sc k) ≡ Some p → position name.at ≡ p)
     FieldsStand sc (tuple at fs) = AllStand sc fs
     FieldsStand sc (listed at fs) = AllStand sc fs
     FieldsStand sc (described at f p) = ParamsStand sc p × ((inner : Scope) → Opens data_alone sc p inner → FieldsStand inner f)
