@@ -31,6 +31,7 @@ abbrev pub ItemSuits : (ℕ → ℕ) → List Override → Scope → DataTree �
 ItemSuits position os sc t =
     DimsStand position sc (all_dims t.dims) × ((is : List Sort) (inner : Scope) → HasDims sc t.dims is inner → InitialStands position inner t.initial) × (is_assigned t.name.text os ≡ true → IsType sc (written t.kind) int)
 
+-- of one declaration
 abbrev pub DeclSuits : (ℕ → ℕ) → List Override → Scope → DeclTree → Type 0
 DeclSuits position os sc (decls.Data t) = ItemSuits position os sc t
 DeclSuits position os sc d = Unit {0}

@@ -1,4 +1,4 @@
-mod Decls
+pub mod Decls
 mod FirstDecls
 mod FirstItems
 mod Items

@@ -16,6 +16,7 @@ is_plain (structure k) = true
 is_plain (set s) = is_plain s
 is_plain s = false
 
+-- and all of these
 abbrev pub are_plain : Sorts → Bool
 are_plain no_sorts = true
 are_plain (more_sorts s ss) = is_plain s && are_plain ss

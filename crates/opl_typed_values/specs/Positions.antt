@@ -19,10 +19,9 @@ abbrev pub place_from : ℕ → Text → List Field → Option ℕ
 place_from p name [] = None
 place_from p name (f ∷ fs) = cond (bytes_eq name f.name) (Some p) (place_from (p + 1) name fs)
 
--- the position that is told for the place of a field's name is that of the field in its struct: of each field of which the value of an expression is made. What numbers and truth values are made
--- of does not matter
 module _ (position : ℕ → ℕ) where
   abbrev mutual
+    -- the position of each field of which an expression's value is made is that of the field in its struct; what numbers and truth values are made of does not matter
     pub FieldsStand : Scope → Form → Type 0
     FieldsStand sc (bracket at f) = FieldsStand sc f
     FieldsStand sc (field at f name) = FieldsStand sc f × ((a : Typed) (k p : ℕ) → HasType sc f a → a.sort ≡ structure k → place_from 0 name.text (fields sc k) ≡ Some p → position name.at ≡ p)
@@ -33,23 +32,27 @@ module _ (position : ℕ → ℕ) where
     FieldsStand sc (keyed_cells at ps) = PairsStand sc ps
     FieldsStand sc f = Unit {0}
 
+    -- the same of expressions one beside the other
     pub AllStand : Scope → Forms → Type 0
     AllStand sc no_forms = Unit {0}
     AllStand sc (more_forms f fs) = FieldsStand sc f × AllStand sc fs
 
-    -- what a key comes to is looked up among the elements of an index set
+    -- of the cells behind keys: what a key comes to is looked up among the elements of an index set
     pub PairsStand : Scope → Pairs → Type 0
     PairsStand sc no_pairs = Unit {0}
     PairsStand sc (more_pairs key cell others) = FieldsStand sc cell × PairsStand sc others
 
+    -- of a set of parameters
     pub SetStands : Scope → SetForm → Type 0
     SetStands sc (whole f) = FieldsStand sc f
     SetStands sc (between low high) = Unit {0}
 
+    -- of the sets of groups, each in the scope of those before it
     pub GroupsStand : Scope → Groups → Type 0
     GroupsStand sc no_groups = Unit {0}
     GroupsStand sc (more_groups ps over others) = SetStands sc over × ((s : Sort) (behind : Scope) → IsSetOf sc over s → AllName sc s ps behind → GroupsStand behind others)
 
+    -- of parameters, whose condition is a truth value
     pub ParamsStand : Scope → Params → Type 0
     ParamsStand sc (all_of groups) = GroupsStand sc groups
     ParamsStand sc (those_of groups condition) = GroupsStand sc groups
