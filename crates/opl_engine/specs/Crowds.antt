@@ -1,6 +1,8 @@
 -- Crowds: members over some variables, some of whom wait.
-use Rattle.std.specs.Prelude.{◌≡◌, ℕ, ◌<◌, ◌^◌, Bool, List, map, length}
+use Rattle.std.specs.Prelude.{◌≡◌, ℕ, ◌<◌, ◌^◌, Bool, true, List, map, length}
 use Rattle.opl_expr.specs.declared.model.Core.{Core}
+use Rattle.opl_closure.specs.Waits.{watches}
+use Rattle.opl_closure.specs.Watching.{KeepsBefore}
 use Rattle.opl_closure.specs.Members.{AreWatched}
 use Rattle.opl_engine.specs.Members.{fact_of, wakes_on, wakes_by_ends, IsMember}
 use Rattle.opl_engine.specs.declared.member.Member.{Member}
@@ -19,6 +21,15 @@ pub record IsCrowd (members : List Member) (watchers end_watchers : List (List �
   pub watched : AreWatched watchers (map wakes_on members)
   pub watched_ends : AreWatched end_watchers (map wakes_by_ends members)
   pub alike : length end_watchers ≡ length watchers
+
+-- as many variables have lists, and the members before i watch what they watched
+pub record Keeps (i : ℕ) (old new : List (List ℕ)) : Type 0 where
+  pub long : length new ≡ length old
+  pub before : KeepsBefore i old new
+
+-- member i watches the variables that wake it
+abbrev pub Watches : ℕ → (ℕ → Bool) → List (List ℕ) → Type 0
+Watches i wakes watchers = (x : ℕ) → wakes x ≡ true → watches watchers i x ≡ true
 
 -- the kinds of members
 abbrev pub kind_of : Member → ℕ

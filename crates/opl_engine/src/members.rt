@@ -1,12 +1,12 @@
 //! The members of an engine, those who watch variables, and those who wait.
-ghost use Rattle.std.specs.Prelude.{◌≡◌, ℕ, ℤ, List, Option, ◌<◌, ◌≤◌, ◌≢◌, [], ◌∷◌, ◌++◌, true, false, map, take, length, slice_get, slice_set, Some, IfOk, OnOk, OnErr};
+ghost use Rattle.std.specs.Prelude.{◌≡◌, ℕ, ℤ, List, Option, ◌<◌, ◌≤◌, ◌^◌, ◌≢◌, [], ◌∷◌, ◌++◌, true, false, map, take, length, slice_get, slice_set, Some, IfOk, OnOk, OnErr};
 ghost use Rattle.opl_domain.specs.Family.{Family, Below};
 ghost use Rattle.opl_expr.specs.Solutions.{declared};
 ghost use Rattle.opl_trace.specs.Removals.{Kept};
 ghost use Rattle.opl_closure.specs.Members.{refutes_one, Each, WaitOrAreStable, Rest, Closes};
 ghost use Rattle.opl_closure.specs.Waits.{waits};
-ghost use Rattle.opl_engine.specs.Crowds.{kind_of};
-ghost use Rattle.opl_engine.specs.Members.{fact_of, names, sees_ends, IsMember};
+ghost use Rattle.opl_engine.specs.Crowds.{Keeps, Watches, kind_of};
+ghost use Rattle.opl_engine.specs.Members.{fact_of, names, sees_ends, wakes_on, wakes_by_ends, IsMember};
 ghost use Rattle.opl_engine.specs.declared.member.Member.TheVariants as variant;
 
 use crate::member::Member;
@@ -76,9 +76,13 @@ impl Members {
             return Err(OutOfMemory);
         }
         self.members.reserve(1)?;
-        self.watchers.add(member.wakers(), place as u32)?;
-        self.end_watchers.add(member.end_wakers(), place as u32)?;
-        self.waiting.push()?;
+        enrol(
+            &mut self.watchers,
+            &mut self.end_watchers,
+            &mut self.waiting,
+            &member,
+            place as u32,
+        )?;
         self.members.push_reserved(member);
         Ok(())
     }
@@ -166,6 +170,27 @@ impl Members {
             n,
         )
     }
+}
+
+/// Lets a new member watch its variables, and wait. Where memory is wanting, it does not wait, and those before it watch what they did.
+fn enrol(
+    watchers: &mut Watchers,
+    end_watchers: &mut Watchers,
+    waiting: &mut Waiting,
+    member: &Member,
+    place: u32,
+) -> Result<(), OutOfMemory>
+    requires named { (x : ℕ) → names member.now x ≡ true → x < length watchers.old }
+    requires alike { length end_watchers.old ≡ length watchers.old }
+    requires few { length waiting.old < 2 ^ 32 }
+    ensures kept { Keeps place watchers.old watchers.new × Keeps place end_watchers.old end_watchers.new }
+    ensures ok { OnOk result (Watches place (wakes_on member.now) watchers.new × Watches place (wakes_by_ends member.now) end_watchers.new × (waiting.new ≡ waiting.old ++ true ∷ [])) }
+    ensures err { OnErr result (waiting.new ≡ waiting.old) }
+{
+    watchers.add(member.wakers(), place)?;
+    end_watchers.add(member.end_wakers(), place)?;
+    waiting.push()?;
+    Ok(())
 }
 
 /// Gives a bound another best value.
