@@ -4,6 +4,7 @@ mod Drawn
 mod Forms
 mod Gathering
 mod Made
+mod Refused
 mod Sources
 mod Values
 mod Variables

@@ -59,16 +59,16 @@ use Rattle.opl_held.proofs.Values.{no-place, values_of, worth_means}
 -- ---- outcomes and their data
 
 -- what follows from the data of what is found
-data-then : {X P Y Q : Type 0} (of : X → P) (to : Y → Q) (r : Found X) (f : X → Found Y) (g : P → Found Q) → ((x : X) → found to (f x) ≡ g (of x)) → found to (then r f) ≡ then (found of r) g
+pub data-then : {X P Y Q : Type 0} (of : X → P) (to : Y → Q) (r : Found X) (f : X → Found Y) (g : P → Found Q) → ((x : X) → found to (f x) ≡ g (of x)) → found to (then r f) ≡ then (found of r) g
 data-then of to (Ok x) f g h = h x
 data-then of to (Err fault) f g h = refl
 
 -- what comes of data, where there are some
-abbrev settles : {A B : Type 0} → (A → Found B) → Option A → Found (Option B)
+abbrev pub settles : {A B : Type 0} → (A → Found B) → Option A → Found (Option B)
 settles f None = Ok None
 settles f (Some a) = found (λ b. Some b) (f a)
 
-told-data : {A B : Type 0} (f : A → Found B) (o : Outcome A) → found data_of (told (changed f o)) ≡ settles f (data_of o)
+pub told-data : {A B : Type 0} (f : A → Found B) (o : Outcome A) → found data_of (told (changed f o)) ≡ settles f (data_of o)
 told-data {A = A} {B = B} f o = data-told (changed f o) ∙ ap (λ r. elim r as (λ r. Found (Option B)) [ None ↦ Ok None | Some r ↦ found (λ a. Some a) r ]) (data-changed f o) ∙ by (data_of o)
   where
     by : (r : Option A) → elim (option_map f r) as (λ r. Found (Option B)) [ None ↦ Ok None | Some r ↦ found (λ a. Some a) r ] ≡ settles f r
@@ -132,17 +132,17 @@ operand-data item at n (condition c) h e =
     let p = sized-made at 1 (counted item n (suc (measures.depth_of c)) (suc (measures.nodes_of c)) (truth c)) h e in
     ap known_in (counted-made item n (suc (measures.depth_of c)) (suc (measures.nodes_of c)) (truth c) h p.1)
 
-operand-made : (item at n : ℕ) (q : Made Form) (g : Form) (r : Found (Option Value)) → ((h : Form) → q ≡ Ok h → r ≡ Ok (known_in h)) → as_operand item at n q ≡ Ok g → r ≡ Ok (known_in g)
+pub operand-made : (item at n : ℕ) (q : Made Form) (g : Form) (r : Found (Option Value)) → ((h : Form) → q ≡ Ok h → r ≡ Ok (known_in h)) → as_operand item at n q ≡ Ok g → r ≡ Ok (known_in g)
 operand-made item at n q g r f e =
     let p = next-made q (λ g. operand item at n g) g e in
     f p.0 p.1 ∙ ap (λ v. Ok v) (operand-data item at n p.0 g p.2)
 
 -- one value of one part, and two of two
-one-of : {B : Type 0} (f : Value → Found B) (g : Option Value) → settles f g ≡ settles (λ vs. f (value_at vs 0)) (settled.all_of (g ∷ []))
+pub one-of : {B : Type 0} (f : Value → Found B) (g : Option Value) → settles f g ≡ settles (λ vs. f (value_at vs 0)) (settled.all_of (g ∷ []))
 one-of f None = refl
 one-of f (Some v) = refl
 
-two-of : {B : Type 0} (f : Value × Value → Found B) (g h : Option Value) → settles f (pair_of g h) ≡ settles (λ vs. f (value_at vs 0, value_at vs 1)) (settled.all_of (g ∷ h ∷ []))
+pub two-of : {B : Type 0} (f : Value × Value → Found B) (g h : Option Value) → settles f (pair_of g h) ≡ settles (λ vs. f (value_at vs 0, value_at vs 1)) (settled.all_of (g ∷ h ∷ []))
 two-of f None h = refl
 two-of f (Some v) None = refl
 two-of f (Some v) (Some w) = refl
@@ -188,10 +188,10 @@ first-is (Some v) bs = rest-is (is_true v) bs ∙ more (settled.all_of bs)
 -- ---- sums
 
 -- the numbers of operands added up: the first, and the others
-abbrev sum_data : ℕ → Option Value → List (Option Value) → Option (Found ℤ)
+abbrev pub sum_data : ℕ → Option Value → List (Option Value) → Option (Found ℤ)
 sum_data at a others = option_map (λ p. run at (number p.0) (map operations.Plus (map number p.1))) (pair_of a (settled.all_of others))
 
-begun-data : (at : ℕ) (o : Worth) (g : Option Value) → data_of o ≡ g → data_of (begun o) ≡ sum_data at g []
+pub begun-data : (at : ℕ) (o : Worth) (g : Option Value) → data_of o ≡ g → data_of (begun o) ≡ sum_data at g []
 begun-data at o g e = data-changed (λ v. Ok (number v)) o ∙ ap (option_map (λ v. Ok (number v))) e ∙ by g
   where
     by : (g : Option Value) → option_map (λ v. Ok (number v)) g ≡ sum_data at g []
@@ -300,10 +300,10 @@ module _ (sets : List (ℤ × ℤ)) (arrays : List Cells) (item : ℕ) where
   part-data at n (truth c) h e = number-live at n (as_number (truth c)) h e
 
   -- what a sum comes to at its end
-  abbrev ended : spec.Sum → Found (Option Value)
+  abbrev pub ended : spec.Sum → Found (Option Value)
   ended s = found data_of (found (changed values.Int) (told s))
 
-  ended-data : (s : spec.Sum) (a : Option (Found ℤ)) → data_of s ≡ a → ended s ≡ settles integer a
+  pub ended-data : (s : spec.Sum) (a : Option (Found ℤ)) → data_of s ≡ a → ended s ≡ settles integer a
   ended-data s a e = data-then data_of data_of (told s) (λ o. Ok (changed values.Int o)) (λ n. Ok (option_map values.Int n)) (λ o. ap (λ q. Ok q) (data-changed values.Int o)) ∙ ap (λ r. then r (λ n. Ok (option_map values.Int n))) (data-told s) ∙ by (data_of s) ∙ ap (settles integer) e
     where
       by : (a : Option (Found ℤ)) → then (elim a as (λ r. Found (Option ℤ)) [ None ↦ Ok None | Some r ↦ found (λ n. Some n) r ]) (λ n. Ok (option_map values.Int n)) ≡ settles integer a
@@ -311,7 +311,7 @@ module _ (sets : List (ℤ × ℤ)) (arrays : List Cells) (item : ℕ) where
       by (Some (Ok n)) = refl
       by (Some (Err fault)) = refl
 
-  chained-data : (at n : ℕ) (g : Form) (hs : List Form) (k : Form) (s : spec.Sum) → data_of s ≡ sum_data at (known_in g) (map known_in hs) → chained sets arrays item at n g hs ≡ Ok k → ended s ≡ Ok (known_in k)
+  pub chained-data : (at n : ℕ) (g : Form) (hs : List Form) (k : Form) (s : spec.Sum) → data_of s ≡ sum_data at (known_in g) (map known_in hs) → chained sets arrays item at n g hs ≡ Ok k → ended s ≡ Ok (known_in k)
   chained-data at n g [] k s e f = ended-data s (sum_data at (known_in g) []) e ∙ by (known_in g) ∙ ap (λ v. Ok v) (part-data at n g k f)
     where
       by : (g : Option Value) → settles integer (sum_data at g []) ≡ Ok (option_map (λ v. values.Int (number v)) g)
@@ -329,7 +329,7 @@ module _ (sets : List (ℤ × ℤ)) (arrays : List Cells) (item : ℕ) where
       by (Some v) (Some vs) = refl
 
   -- the number behind it
-  numbered-data : (s : spec.Sum) (k : Option Value) → ended s ≡ Ok k → found data_of (told s) ≡ Ok (option_map number k)
+  pub numbered-data : (s : spec.Sum) (k : Option Value) → ended s ≡ Ok k → found data_of (told s) ≡ Ok (option_map number k)
   numbered-data s k e = by (found data_of (told s)) (sym (data-then data_of data_of (told s) (λ o. Ok (changed values.Int o)) (λ n. Ok (option_map values.Int n)) (λ o. ap (λ q. Ok q) (data-changed values.Int o))) ∙ e)
     where
       same : (a b : Option Value) → ok a ≡ Ok b → a ≡ b
@@ -343,7 +343,7 @@ module _ (sets : List (ℤ × ℤ)) (arrays : List Cells) (item : ℕ) where
       by (Ok n) e = ap (λ m. Ok m) (back n ∙ ap (option_map number) (same (option_map values.Int n) k e))
       by (Err fault) e = absurd (cc)
 
-  zero-data : (g : Form) (o : Worth) → data_of o ≡ known_in g → is_zero o ≡ nodes.is_zero g
+  pub zero-data : (g : Form) (o : Worth) → data_of o ≡ known_in g → is_zero o ≡ nodes.is_zero g
   zero-data g (Fixed v) e = by g e
     where
       by : (g : Form) → Some v ≡ known_in g → int_eq (number v) (pos 0) ≡ nodes.is_zero g
@@ -373,7 +373,7 @@ module _ (sets : List (ℤ × ℤ)) (arrays : List Cells) (item : ℕ) where
 
   -- ---- products
 
-  ok-back : {A : Type 0} (a b : A) → ok a ≡ Ok b → a ≡ b
+  pub ok-back : {A : Type 0} (a b : A) → ok a ≡ Ok b → a ≡ b
   ok-back a b e = cc
 
   -- what two numbers come to begins the next sum
@@ -399,7 +399,7 @@ module _ (sets : List (ℤ × ℤ)) (arrays : List Cells) (item : ℕ) where
       by (Some v) None i = ap (λ k. Ok (sum_data at k [])) (back None k i)
       by (Some v) (Some w) i = two (applied at (number v) (operation sign (number w))) i
 
-  multiplied-data : (at n : ℕ) (g h k : Form) → nodes.multiplied sets arrays item at n g h ≡ Ok k → settles (λ p. integer (times at (number p.0) (number p.1))) (pair_of (known_in g) (known_in h)) ≡ Ok (known_in k)
+  pub multiplied-data : (at n : ℕ) (g h k : Form) → nodes.multiplied sets arrays item at n g h ≡ Ok k → settles (λ p. integer (times at (number p.0) (number p.1))) (pair_of (known_in g) (known_in h)) ≡ Ok (known_in k)
   multiplied-data at n g h k e =
       two-of (λ p. integer (times at (number p.0) (number p.1))) (known_in g) (known_in h)
       ∙ folded-data item n (g ∷ h ∷ []) (λ vs. integer (times at (number (value_at vs 0)) (number (value_at vs 1)))) (number_node sets arrays item at n (E.Mul (as_number g) (as_number h))) k e
@@ -432,14 +432,14 @@ module _ (sets : List (ℤ × ℤ)) (arrays : List Cells) (item : ℕ) where
       ∙ folded-data item n (g ∷ h ∷ []) come node k p.1 (number-live at n (E.Rem (as_number g) (as_number h)) k))
 
   -- what follows from what is found with these data
-  then-known : {X P Y Q : Type 0} (of : X → P) (to : Y → Q) (r : Found X) (f : X → Found Y) (d : P) (z : Found Q) → found of r ≡ Ok d → ((x : X) → of x ≡ d → found to (f x) ≡ z) → found to (then r f) ≡ z
+  pub then-known : {X P Y Q : Type 0} (of : X → P) (to : Y → Q) (r : Found X) (f : X → Found Y) (d : P) (z : Found Q) → found of r ≡ Ok d → ((x : X) → of x ≡ d → found to (f x) ≡ z) → found to (then r f) ≡ z
   then-known of to (Ok x) f d z e h = h x (ok-back (of x) d e)
   then-known of to (Err fault) f d z e h = absurd (cc)
 
   -- ---- steps
 
   -- the data of the parts of a sum
-  abbrev parts_data : ℕ → nodes.Parts → Option (Found ℤ)
+  abbrev pub parts_data : ℕ → nodes.Parts → Option (Found ℤ)
   parts_data at ps = sum_data at (known_in ps.0) (map known_in ps.1)
 
   longer : (at : ℕ) (ps qs : nodes.Parts) (h : Form) → ◌≡◌ {A = Made nodes.Parts} (Ok (ps.0, ps.1 ++ h ∷ [])) (Ok qs) → sum_data at (known_in ps.0) (map known_in ps.1 ++ known_in h ∷ []) ≡ parts_data at qs
@@ -472,7 +472,7 @@ module _ (sets : List (ℤ × ℤ)) (arrays : List Cells) (item : ℕ) where
   negative-none : (own : ℕ) (b c : Option Value) → settles (λ v. integer (negative own (number v))) b ≡ Ok c → b ≡ None → c ≡ None
   negative-none own b c e f = sym (ok-back None c (sym (ap (settles (λ v. integer (negative own (number v)))) f) ∙ e))
 
-  stepped-data : (at own n : ℕ) (sign : Sign) (ps qs : nodes.Parts) (g : Form) (s : spec.Sum) (o : Worth) → data_of s ≡ parts_data at ps → data_of o ≡ known_in g → nodes.stepped sets arrays item sign at own n ps g ≡ Ok qs →
+  pub stepped-data : (at own n : ℕ) (sign : Sign) (ps qs : nodes.Parts) (g : Form) (s : spec.Sum) (o : Worth) → data_of s ≡ parts_data at ps → data_of o ≡ known_in g → nodes.stepped sets arrays item sign at own n ps g ≡ Ok qs →
       found data_of (stepped at sign s o) ≡ Ok (parts_data at qs)
   stepped-data at own n plus ps qs g s o e f h =
       ap (λ q. Ok q)
@@ -493,16 +493,16 @@ module _ (sets : List (ℤ × ℤ)) (arrays : List Cells) (item : ℕ) where
   -- ---- aggregates
 
   -- the first part is small where it is a value
-  abbrev FirstSmall : List Form → Type 0
+  abbrev pub FirstSmall : List Form → Type 0
   FirstSmall [] = Unit {0}
   FirstSmall (g ∷ gs) = (v : Value) → known_in g ≡ Some v → unsigned_abs (number v) < 2 ^ 127
 
-  found-then : {X Y Z : Type 0} (r : Found X) (f : X → Found Y) (g : Y → Z) → found g (then r f) ≡ then r (λ x. found g (f x))
+  pub found-then : {X Y Z : Type 0} (r : Found X) (f : X → Found Y) (g : Y → Z) → found g (then r f) ≡ then r (λ x. found g (f x))
   found-then (Ok x) f g = refl
   found-then (Err fault) f g = refl
 
   -- one factor more
-  factor-data : (at : ℕ) (a : Outcome ℤ) (o : Worth) (g h k : Option Value) → data_of a ≡ option_map number g → data_of o ≡ h → settles (λ p. integer (times at (number p.0) (number p.1))) (pair_of g h) ≡ Ok k →
+  pub factor-data : (at : ℕ) (a : Outcome ℤ) (o : Worth) (g h k : Option Value) → data_of a ≡ option_map number g → data_of o ≡ h → settles (λ p. integer (times at (number p.0) (number p.1))) (pair_of g h) ≡ Ok k →
       found data_of (told (changed (λ p. times at p.0 (number p.1)) (both a o))) ≡ Ok (option_map number k)
   factor-data at a o g h k e f i =
       told-data (λ p. times at p.0 (number p.1)) (both a o)
@@ -521,10 +521,10 @@ module _ (sets : List (ℤ × ℤ)) (arrays : List Cells) (item : ℕ) where
       by (Some v) None i = ap (λ k. Ok (option_map number k)) (back None k i)
       by (Some v) (Some w) i = two (times at (number v) (number w)) i
 
-  head-same : (x y : Option Value) (xs ys : List (Option Value)) → x ∷ xs ≡ y ∷ ys → x ≡ y
+  pub head-same : (x y : Option Value) (xs ys : List (Option Value)) → x ∷ xs ≡ y ∷ ys → x ≡ y
   head-same x y xs ys e = cc
 
-  tail-same : (x y : Option Value) (xs ys : List (Option Value)) → x ∷ xs ≡ y ∷ ys → xs ≡ ys
+  pub tail-same : (x y : Option Value) (xs ys : List (Option Value)) → x ∷ xs ≡ y ∷ ys → xs ≡ ys
   tail-same x y xs ys e = cc
 
   product-found : (gs : List Form) (at n : ℕ) (g k : Form) (a : Outcome ℤ) (os : List Worth) → data_of a ≡ option_map number (known_in g) → map data_of os ≡ map known_in gs → nodes.product_from sets arrays item at n g gs ≡ Ok k →
@@ -547,7 +547,7 @@ module _ (sets : List (ℤ × ℤ)) (arrays : List Cells) (item : ℕ) where
   one-times z = omega (arith, ints)
 
   -- 1 times the first factor
-  first-factor : (at : ℕ) (o : Worth) (g : Option Value) → data_of o ≡ g → ((v : Value) → g ≡ Some v → unsigned_abs (number v) < 2 ^ 127) →
+  pub first-factor : (at : ℕ) (o : Worth) (g : Option Value) → data_of o ≡ g → ((v : Value) → g ≡ Some v → unsigned_abs (number v) < 2 ^ 127) →
       found data_of (told (changed (λ p. times at p.0 (number p.1)) (both (Fixed (pos 1)) o))) ≡ Ok (option_map number g)
   first-factor at o g e small =
       told-data (λ p. times at p.0 (number p.1)) (both (Fixed (pos 1)) o) ∙ ap (settles (λ p. times at p.0 (number p.1))) (data-both (Fixed (pos 1)) o ∙ ap (pair_of (Some (pos 1))) e) ∙ by g small
@@ -724,7 +724,7 @@ module _ (sets : List (ℤ × ℤ)) (arrays : List Cells) (item : ℕ) where
   -- ---- whole drafts
 
   module _ (small : (n : ℕ) (d : Draft) (v : Value) → made sets arrays item n d ≡ Ok (known v) → unsigned_abs (number v) < 2 ^ 127) (ns : List ℤ) where
-    first-small : (n : ℕ) (d : Draft) (g : Form) → as_operand item (place d) n (made sets arrays item n d) ≡ Ok g → (v : Value) → known_in g ≡ Some v → unsigned_abs (number v) < 2 ^ 127
+    pub first-small : (n : ℕ) (d : Draft) (g : Form) → as_operand item (place d) n (made sets arrays item n d) ≡ Ok g → (v : Value) → known_in g ≡ Some v → unsigned_abs (number v) < 2 ^ 127
     first-small n d g e v f =
         let p = next-made (made sets arrays item n d) (λ g. operand item (place d) n g) g e in
         small n d v (p.1 ∙ ap (λ g. Ok g) (by p.0 (operand-data item (place d) n p.0 g p.2 ∙ f)))
@@ -739,7 +739,7 @@ module _ (sets : List (ℤ × ℤ)) (arrays : List Cells) (item : ℕ) where
         by (condition c) e = absurd (cc)
         by (truth c) e = absurd (cc)
 
-    operands-small : (n : ℕ) (ds : Drafts) (gs : List Form) → made_operands sets arrays item n ds ≡ Ok gs → FirstSmall gs
+    pub operands-small : (n : ℕ) (ds : Drafts) (gs : List Form) → made_operands sets arrays item n ds ≡ Ok gs → FirstSmall gs
     operands-small n no_drafts [] e = tt
     operands-small n no_drafts (g ∷ gs) e = absurd (cc)
     operands-small n (more_drafts d ds) [] e =
@@ -847,14 +847,14 @@ module _ (sets : List (ℤ × ℤ)) (arrays : List Cells) (item : ℕ) where
           let p = next-made (made_all sets arrays item n ds) (λ gs. nodes.indexed sets arrays item at n k (array_of arrays k) (places ds) gs) g e in
           then-known (map data_of) data_of (worths arrays ns ds) (indexed arrays ns at (array_at arrays ns k)) (map known_in p.0) (Ok (known_in g)) (all-found ds n p.0 p.1) (λ os i. indexed-data at n ns k (places ds) p.0 os g i p.2)
 
-      all-found : (ds : Drafts) (n : ℕ) (gs : List Form) → made_all sets arrays item n ds ≡ Ok gs → found (map data_of) (worths arrays ns ds) ≡ Ok (map known_in gs)
+      pub all-found : (ds : Drafts) (n : ℕ) (gs : List Form) → made_all sets arrays item n ds ≡ Ok gs → found (map data_of) (worths arrays ns ds) ≡ Ok (map known_in gs)
       all-found no_drafts n gs e = ap (λ gs. Ok (map known_in gs)) (ok-same [] gs e)
       all-found (more_drafts d ds) n gs e =
           let p = next-made (made sets arrays item n d) (λ g. next (made_all sets arrays item (n + part_nodes g) ds) (λ gs. Ok (g ∷ gs))) gs e in
           let q = next-made (made_all sets arrays item (n + part_nodes p.0) ds) (λ gs. Ok (p.0 ∷ gs)) gs p.2 in
           more-found d ds (known_in p.0) (map known_in q.0) (made-found d n p.0 p.1) (all-found ds (n + part_nodes p.0) q.0 q.1) ∙ ap (λ gs. Ok (map known_in gs)) (ok-same (p.0 ∷ q.0) gs q.2)
 
-      operands-found : (ds : Drafts) (n : ℕ) (gs : List Form) → made_operands sets arrays item n ds ≡ Ok gs → found (map data_of) (worths arrays ns ds) ≡ Ok (map known_in gs)
+      pub operands-found : (ds : Drafts) (n : ℕ) (gs : List Form) → made_operands sets arrays item n ds ≡ Ok gs → found (map data_of) (worths arrays ns ds) ≡ Ok (map known_in gs)
       operands-found no_drafts n gs e = ap (λ gs. Ok (map known_in gs)) (ok-same [] gs e)
       operands-found (more_drafts d ds) n gs e =
           let p = next-made (as_operand item (place d) n (made sets arrays item n d)) (λ g. next (made_operands sets arrays item (n + part_nodes g) ds) (λ gs. Ok (g ∷ gs))) gs e in
@@ -862,7 +862,7 @@ module _ (sets : List (ℤ × ℤ)) (arrays : List Cells) (item : ℕ) where
           more-found d ds (known_in p.0) (map known_in q.0) (operand-made item (place d) n (made sets arrays item n d) p.0 (found data_of (worth arrays ns d)) (λ h f. made-found d n h f) p.1) (operands-found ds (n + part_nodes p.0) q.0 q.1)
           ∙ ap (λ gs. Ok (map known_in gs)) (ok-same (p.0 ∷ q.0) gs q.2)
 
-      steps-found : (ss : Steps) (at n : ℕ) (ps qs : nodes.Parts) (s : spec.Sum) → data_of s ≡ parts_data at ps → made_steps sets arrays item at n ps ss ≡ Ok qs → found data_of (worth_steps arrays ns at s ss) ≡ Ok (parts_data at qs)
+      pub steps-found : (ss : Steps) (at n : ℕ) (ps qs : nodes.Parts) (s : spec.Sum) → data_of s ≡ parts_data at ps → made_steps sets arrays item at n ps ss ≡ Ok qs → found data_of (worth_steps arrays ns at s ss) ≡ Ok (parts_data at qs)
       steps-found no_steps at n ps qs s e h = ap (λ q. Ok q) (e ∙ ap (parts_data at) (ok-same ps qs h))
       steps-found (more_steps sign d ss) at n ps qs s e h =
           let m : ℕ = n + parts_nodes ps in
@@ -906,7 +906,7 @@ module _ (sets : List (ℤ × ℤ)) (arrays : List Cells) (item : ℕ) where
               (condition-live item n (C.Iff (as_condition g) (as_condition h)) k))
 
 -- a value of a form is small
-known-small : (sets : List (ℤ × ℤ)) (arrays : List Cells) (item : ℕ) → AreSoundArrays sets arrays → (n : ℕ) (d : Draft) (v : Value) → made sets arrays item n d ≡ Ok (known v) → unsigned_abs (number v) < 2 ^ 127
+pub known-small : (sets : List (ℤ × ℤ)) (arrays : List Cells) (item : ℕ) → AreSoundArrays sets arrays → (n : ℕ) (d : Draft) (v : Value) → made sets arrays item n d ≡ Ok (known v) → unsigned_abs (number v) < 2 ^ 127
 known-small sets arrays item all n d v e = subst (IsSoundTerm sets) (term_Const (tables arrays) [] (number v)) (made_is_sound sets arrays item n d (known v) all e).as_number
 
 pub made_is_found : MadeIsFound

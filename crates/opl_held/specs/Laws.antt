@@ -1,13 +1,15 @@
 -- Laws of what conditions come to under an assignment.
-use Rattle.std.specs.Prelude.{◌≡◌, ℕ, ℤ, Bool, List, [], Option, Some, None, Ok, Err}
+use Rattle.std.specs.Prelude.{◌≡◌, ◌≢◌, ℕ, ℤ, Bool, List, [], Option, Some, None, Ok, Err}
 use Rattle.opl_draft.specs.Drafts.{Cells, Draft, draft_value}
 use Rattle.opl_eval.specs.declared.fault.EvalFault.{EvalFault}
+use Rattle.opl_eval.specs.declared.fault.EvalFault.TheVariants.{OutOfIndex}
 use Rattle.opl_eval.specs.Evaluation.{Found, found, is_true}
 use Rattle.opl_value.specs.declared.value.Value.{Value}
 use Rattle.opl_draft.specs.Instances.{Condition}
 use Rattle.opl_form.specs.Forms.{form}
 use Rattle.opl_form.specs.Laws.{AreSoundArrays, IsAssignment}
 use Rattle.opl_form.specs.Made.{made}
+use Rattle.opl_form.specs.Nodes.Fault.{eval}
 use Rattle.opl_form.specs.Parts.{Form, as_condition}
 use Rattle.opl_form.specs.Parts.Form.{known}
 use Rattle.opl_form.specs.Worth.{hold, some_of}
@@ -50,3 +52,9 @@ MadeIsFound = (sets : List (ℤ × ℤ)) (arrays : List Cells) (item n : ℕ) (d
 abbrev pub ComesToConstraint : Type 0
 ComesToConstraint = (sets : List (ℤ × ℤ)) (arrays : List Cells) (n : ℕ) (c : Condition) (g : Form) → AreSoundArrays sets arrays → form sets arrays n c ≡ Ok g →
     (ns : List ℤ) → IsAssignment sets ns → comes_to arrays ns c.draft ≡ Ok (hold arrays ns (as_condition g))
+
+-- Where no ground form is made because of a fault of data, that is the first fault without variables. `OutOfIndex` is left out, since a form has it
+-- also at variables, arrays and subscripts that typing rules out.
+abbrev pub RefusedIsFault : Type 0
+RefusedIsFault = (sets : List (ℤ × ℤ)) (arrays : List Cells) (item n : ℕ) (d : Draft) (fault : EvalFault) → AreSoundArrays sets arrays → ((at : ℕ) → fault ≢ OutOfIndex at) →
+    made sets arrays item n d ≡ Err (eval fault) → (ns : List ℤ) → worth arrays ns d ≡ Err fault

@@ -1,5 +1,5 @@
 //! Laws of what conditions come to under an assignment, as contracts of functions without effect.
-ghost use Rattle.opl_held.specs.Laws.{ComesToAnswer, ComesToConstraint, DataStays, MadeIsFound, WorthMeans};
+ghost use Rattle.opl_held.specs.Laws.{ComesToAnswer, ComesToConstraint, DataStays, MadeIsFound, RefusedIsFault, WorthMeans};
 
 /// An unrolled condition is worth what evaluation of it comes to, and undefined where evaluation finds a fault.
 pub fn worth_means()
@@ -27,4 +27,10 @@ pub fn made_is_found()
 /// under each assignment of the declared sets.
 pub fn comes_to_constraint()
     ensures { ComesToConstraint }
+{}
+
+/// Where no ground form is made because of a fault of data, that is the first fault without variables. `OutOfIndex` is left out, since a form
+/// has it also at variables, arrays and subscripts that typing rules out.
+pub fn refused_is_fault()
+    ensures { RefusedIsFault }
 {}
