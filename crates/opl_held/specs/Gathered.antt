@@ -44,11 +44,12 @@ nothing aggregates.Product at = Ok (pos 1)
 nothing aggregates.Min at = Err (EmptyMinMax at)
 nothing aggregates.Max at = Err (EmptyMinMax at)
 
--- The least and the greatest number so far, and one more.
+-- The least number so far, and one more.
 abbrev pub lesser : Found ℤ → ℤ → Found ℤ
 lesser (Ok m) n = Ok (int_min m n)
 lesser (Err fault) n = Ok n
 
+-- The greatest number so far, and one more.
 abbrev pub greater : Found ℤ → ℤ → Found ℤ
 greater (Ok m) n = Ok (int_max m n)
 greater (Err fault) n = Ok n

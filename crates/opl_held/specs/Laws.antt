@@ -1,11 +1,12 @@
 -- Laws of what conditions come to under an assignment.
-use Rattle.std.specs.Prelude.{◌≡◌, ◌≢◌, ℕ, ℤ, Bool, List, [], Option, Some, None, Ok, Err}
+use Rattle.std.specs.Prelude.{◌≡◌, ◌≢◌, ◌↔◌, ℕ, ℤ, Bool, true, List, [], Option, Some, None, Ok, Err}
 use Rattle.opl_draft.specs.Drafts.{Cells, Draft, draft_value}
 use Rattle.opl_eval.specs.declared.fault.EvalFault.{EvalFault}
 use Rattle.opl_eval.specs.declared.fault.EvalFault.TheVariants.{OutOfIndex}
 use Rattle.opl_eval.specs.Evaluation.{Found, found, is_true}
 use Rattle.opl_value.specs.declared.value.Value.{Value}
 use Rattle.opl_draft.specs.Instances.{Condition}
+use Rattle.opl_draft.specs.Laws.{is_met}
 use Rattle.opl_form.specs.Forms.{form}
 use Rattle.opl_form.specs.Laws.{AreSoundArrays, IsAssignment}
 use Rattle.opl_form.specs.Made.{made}
@@ -37,6 +38,10 @@ answer None (Err fault) = Ok None
 -- A condition comes to its first fault without variables, and else to what evaluation finds.
 abbrev pub ComesToAnswer : Type 0
 ComesToAnswer = (arrays : List Cells) (ns : List ℤ) (d : Draft) → comes_to arrays ns d ≡ answer (data_fault arrays d) (draft_value arrays ns d)
+
+-- A condition is met under an assignment exactly where it comes to true.
+abbrev pub MetIsTrue : Type 0
+MetIsTrue = (arrays : List Cells) (ns : List ℤ) (c : Condition) → (is_met arrays ns c ≡ true) ↔ (comes_to arrays ns c.draft ≡ Ok (Some true))
 
 -- The value of a ground form in which no variable is left.
 abbrev pub known_in : Form → Option Value

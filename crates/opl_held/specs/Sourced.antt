@@ -33,10 +33,11 @@ term_worth s scope ns t = worth_at s ns (draft s scope t)
 abbrev pub terms_behind : {S : Type 0} → Site → Scope → List ℤ → (S → Worth → S) → S → List Term → Found S
 terms_behind s scope ns more first ts = behind (arrays s.context.now) ns more first (drafts s scope ts)
 
--- One step of a chain, and several.
+-- One step of a chain more.
 abbrev pub step_behind : Site → Scope → List ℤ → ℕ → Sum → Step → Found Sum
 step_behind s scope ns at sum t = then (worth_at s ns (step_draft s scope t).operand) (λ o. stepped at (step_draft s scope t).sign sum o)
 
+-- The steps of a chain, one after another.
 abbrev pub steps_behind : Site → Scope → List ℤ → ℕ → Sum → List Step → Found Sum
 steps_behind s scope ns at sum ts = worth_steps (arrays s.context.now) ns at sum (steps_of (step_drafts s scope ts))
 

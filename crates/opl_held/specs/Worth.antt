@@ -70,6 +70,7 @@ are_live (listed vs) = false
 are_live (numbered kind x zero) = false
 are_live (numbered kind x (suc n)) = true
 
+-- The same of an array; what is no array has none.
 abbrev pub has_variables : Option Cells → Bool
 has_variables None = false
 has_variables (Some a) = are_live a.leaves

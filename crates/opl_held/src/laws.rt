@@ -1,5 +1,5 @@
 //! Laws of what conditions come to under an assignment, as contracts of functions without effect.
-ghost use Rattle.opl_held.specs.Laws.{ComesToAnswer, ComesToConstraint, DataStays, MadeIsFound, RefusedIsFault, WorthMeans};
+ghost use Rattle.opl_held.specs.Laws.{ComesToAnswer, ComesToConstraint, DataStays, MadeIsFound, MetIsTrue, RefusedIsFault, WorthMeans};
 
 /// An unrolled condition is worth what evaluation of it comes to, and undefined where evaluation finds a fault.
 pub fn worth_means()
@@ -15,6 +15,11 @@ pub fn data_stays()
 /// A condition comes to its first fault without variables, and else to what evaluation finds.
 pub fn comes_to_answer()
     ensures { ComesToAnswer }
+{}
+
+/// A condition is met under an assignment exactly where it comes to true.
+pub fn met_is_true()
+    ensures { MetIsTrue }
 {}
 
 /// Where a ground form is made of an unrolled condition, that has no fault without variables; a decision variable is left in both, or the
