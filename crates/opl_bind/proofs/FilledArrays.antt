@@ -3,7 +3,7 @@ use Rattle.std.proofs.Common.{◌≡◌, ℕ, ◌+◌, ℤ, Bool, true, false, c
 use Rattle.std.specs.Prelude.{bytes_eq}
 use Rattle.std.specs.List.{list_all}
 use Rattle.std.proofs.lemmas.List.{length-set}
-use Rattle.opl_tree.specs.declared.declaration.DataTree.{DataTree}
+use Rattle.opl_tree.specs.declared.declaration.DataDeclTree.{DataDeclTree}
 use Rattle.opl_tree.specs.declared.declaration.DeclTree.{DeclTree}
 use Rattle.opl_tree.specs.declared.declaration.DeclTree.TheVariants as decls
 use Rattle.opl_tree.specs.declared.declaration.DimTree.{DimTree}
@@ -133,11 +133,11 @@ filled-model d form (Some dims) e v h =
     let l : length (dims_of dims) ≡ length a.0 = sym (length-axes_in d.environment [] (dims_of dims) a.0 a.1 ∙ omega arith) in
     subst IsFilled (same_ok (array_over a.0 w.0) v w.2) (filled-over a.0 w.0 (length-written_cells d.known d.environment form (dims_of dims) a.0 (add_term e) w.0 l w.1))
 
-filled-initial : (given : Given) (os : List Override) (d : Data) (form : Form) (t : DataTree) (initial : InitialTree) (v : Value) → initial_value given os d form t initial ≡ Ok v → IsFilled v
+filled-initial : (given : Given) (os : List Override) (d : Data) (form : Form) (t : DataDeclTree) (initial : InitialTree) (v : Value) → initial_value given os d form t initial ≡ Ok v → IsFilled v
 filled-initial given os d form t (initials.External at) v h = filled-external given os d form t.name.text t.dims v h
 filled-initial given os d form t (initials.Written e) v h = filled-model d form t.dims e v h
 
-filled-item : (given : Given) (os : List Override) (t : DataTree) (d : Data) (v : Value) → item_value given os t d ≡ Ok v → IsFilled v
+filled-item : (given : Given) (os : List Override) (t : DataDeclTree) (d : Data) (v : Value) → item_value given os t d ≡ Ok v → IsFilled v
 unfolding item_value
 filled-item given os t d v h = filled-initial given os d (form_of t.kind d.known) t t.initial v h
 

@@ -1,6 +1,6 @@
 -- Want of memory is no fault of a model's data.
 use Rattle.std.proofs.Common.{ℕ, not, List, [], ◌∷◌, Option, None, Some, Ok}
-use Rattle.opl_tree.specs.declared.declaration.DataTree.{DataTree}
+use Rattle.opl_tree.specs.declared.declaration.DataDeclTree.{DataDeclTree}
 use Rattle.opl_tree.specs.declared.declaration.DeclTree.{DeclTree}
 use Rattle.opl_tree.specs.declared.declaration.DeclTree.TheVariants as decls
 use Rattle.opl_tree.specs.declared.declaration.DimsTree.{DimsTree}
@@ -10,7 +10,7 @@ use Rattle.opl_tree.specs.declared.declaration.InitialTree.{InitialTree}
 use Rattle.opl_tree.specs.declared.declaration.InitialTree.TheVariants as initials
 use Rattle.opl_tree.specs.declared.declaration.RangeTree.{RangeTree}
 use Rattle.opl_tree.specs.declared.expression.AddTree.{AddTree, out-AddTree}
-use Rattle.opl_data.specs.declared.tree.DataFile.{DataFile}
+use Rattle.opl_data.specs.declared.tree.DataTree.{DataTree}
 use Rattle.opl_term.specs.Terms.{add_term}
 use Rattle.opl_value.specs.declared.value.Value.{Value}
 use Rattle.opl_given.specs.declared.assigned.Override.{Override}
@@ -41,11 +41,11 @@ real_model_value d form (Some dims) e =
     real_then (axes_in d.environment [] (dims_of dims)) _ (real_axes d.environment [] (dims_of dims))
     (λ axes. real_found (array_over axes) (written_cells d.known d.environment form (dims_of dims) axes (add_term e)) (real_written_cells d.known d.environment form (dims_of dims) axes (add_term e)))
 
-real_initial : (given : Given) (os : List Override) (d : Data) (form : Form) (t : DataTree) (initial : InitialTree) → Real (initial_value given os d form t initial)
+real_initial : (given : Given) (os : List Override) (d : Data) (form : Form) (t : DataDeclTree) (initial : InitialTree) → Real (initial_value given os d form t initial)
 real_initial given os d form t (initials.External at) = real_external given os d form t.name.text t.dims
 real_initial given os d form t (initials.Written e) = real_model_value d form t.dims e
 
-real_item : (given : Given) (os : List Override) (t : DataTree) (d : Data) → Real (item_value given os t d)
+real_item : (given : Given) (os : List Override) (t : DataDeclTree) (d : Data) → Real (item_value given os t d)
 unfolding item_value
 real_item given os t d = real_initial given os d (form_of t.kind d.known) t t.initial
 
@@ -72,7 +72,7 @@ real_decls given os [] d = real_ok d
 real_decls given os (t ∷ ts) d = real_then (with_decl given os t d) (λ more. with_decls given os ts more) (real_decl given os t d) (λ more. real_decls given os ts more)
 
 -- no data of a model are want of memory
-pub real_bound : (position : ℕ → ℕ) (ts : List DeclTree) (files : List DataFile) (os : List Override) → Real (bound position ts files os)
+pub real_bound : (position : ℕ → ℕ) (ts : List DeclTree) (files : List DataTree) (os : List Override) → Real (bound position ts files os)
 unfolding bound
 real_bound position ts files os = real_then (all_given ts files) _ (real_all_given ts files) (λ given. real_decls given os ts (no_data position))
 

@@ -1,6 +1,6 @@
 -- The data values of a model.
 use Rattle.std.specs.Prelude.{ℕ, ◌+◌, ℤ, not, List, [], ◌∷◌, Option, Some, None, Ok, Err}
-use Rattle.opl_tree.specs.declared.declaration.DataTree.{DataTree}
+use Rattle.opl_tree.specs.declared.declaration.DataDeclTree.{DataDeclTree}
 use Rattle.opl_tree.specs.declared.declaration.DeclTree.{DeclTree}
 use Rattle.opl_tree.specs.declared.declaration.DeclTree.TheVariants as decls
 use Rattle.opl_tree.specs.declared.declaration.DimsTree.{DimsTree}
@@ -10,7 +10,7 @@ use Rattle.opl_tree.specs.declared.declaration.InitialTree.{InitialTree}
 use Rattle.opl_tree.specs.declared.declaration.InitialTree.TheVariants as initials
 use Rattle.opl_tree.specs.declared.declaration.RangeTree.{RangeTree}
 use Rattle.opl_tree.specs.declared.expression.AddTree.{AddTree, out-AddTree}
-use Rattle.opl_data.specs.declared.tree.DataFile.{DataFile}
+use Rattle.opl_data.specs.declared.tree.DataTree.{DataTree}
 use Rattle.opl_term.specs.Terms.{add_term}
 use Rattle.opl_value.specs.declared.value.Value.{Value}
 use Rattle.opl_value.specs.declared.value.Value.TheVariants as values
@@ -49,11 +49,11 @@ model_value d form (Some dims) e =
     then (axes_in d.environment [] (dims_of dims)) (λ axes. found (array_over axes) (written_cells d.known d.environment form (dims_of dims) axes (add_term e)))
 
 -- the value of an item by the form of its type
-abbrev pub initial_value : Given → List Override → Data → Form → DataTree → InitialTree → Bound Value
+abbrev pub initial_value : Given → List Override → Data → Form → DataDeclTree → InitialTree → Bound Value
 initial_value given os d form t (initials.External at) = external_value given os d form t.name.text t.dims
 initial_value given os d form t (initials.Written e) = model_value d form t.dims e
 
-unfoldable pub item_value : Given → List Override → DataTree → Data → Bound Value
+unfoldable pub item_value : Given → List Override → DataDeclTree → Data → Bound Value
 item_value given os t d = initial_value given os d (form_of t.kind d.known) t t.initial
 
 -- the names of an enumeration
@@ -116,5 +116,5 @@ abbrev pub no_data : (ℕ → ℕ) → Data
 no_data position = record { known = nothing_known; environment = record { items = []; parameters = []; position = position } }
 
 -- the data of a model: first the values that files give are looked at, then the declarations, each in order
-unfoldable pub bound : (ℕ → ℕ) → List DeclTree → List DataFile → List Override → Bound Data
+unfoldable pub bound : (ℕ → ℕ) → List DeclTree → List DataTree → List Override → Bound Data
 bound position ts files os = then (all_given ts files) (λ given. with_decls given os ts (no_data position))

@@ -1,7 +1,7 @@
 -- Laws of the data values of a model.
 use Rattle.std.specs.Prelude.{◌≡◌, ◌≢◌, ℕ, List, [], ◌∷◌, length, Ok, Err}
 use Rattle.opl_tree.specs.declared.declaration.DeclTree.{DeclTree}
-use Rattle.opl_data.specs.declared.tree.DataFile.{DataFile}
+use Rattle.opl_data.specs.declared.tree.DataTree.{DataTree}
 use Rattle.opl_value.specs.declared.value.Value.{Value}
 use Rattle.opl_value.specs.declared.value.IndexSpace.{IndexSpace}
 use Rattle.opl_value.specs.declared.value.Dimension.TheOpen.{Value-F}
@@ -27,10 +27,10 @@ AreFilled (i ∷ items) = IsFilled i.value × AreFilled items
 
 -- each declared array is: for each of its keys it has one cell
 abbrev pub ArraysAreFilled : Type 0
-ArraysAreFilled = (position : ℕ → ℕ) (ts : List DeclTree) (files : List DataFile) (os : List Override) (d : Data) →
+ArraysAreFilled = (position : ℕ → ℕ) (ts : List DeclTree) (files : List DataTree) (os : List Override) (d : Data) →
     bound position ts files os ≡ Ok d → AreFilled d.environment.items
 
 -- want of memory is no fault of the data of a model, nor of an expression in it
 abbrev pub NeverMemory : Type 0
-NeverMemory = (position : ℕ → ℕ) (ts : List DeclTree) (files : List DataFile) (os : List Override) →
+NeverMemory = (position : ℕ → ℕ) (ts : List DeclTree) (files : List DataTree) (os : List Override) →
     (bound position ts files os ≢ Err OutOfMemory) × (bound position ts files os ≢ Err (Eval evaluation.OutOfMemory))

@@ -15,7 +15,7 @@ ghost use Rattle.opl_bind.specs.Readings.{data_of};
 
 use crate::dimension::{axes_in, number_in};
 use crate::written::{written_cells, written_value};
-use opl_data::DataFile;
+use opl_data::DataTree;
 use opl_eval::{Environment, Positions};
 use opl_given::{
     Axis, BindFault, Form, Given, GivenValue, Names, Override, Types, all_given, array_over,
@@ -26,7 +26,7 @@ use opl_list::Seq;
 use opl_term::add_term;
 use opl_token::Name;
 use opl_tree::{
-    AddTree, DataTree, DeclTree, DimsTree, EnumNamesTree, EnumTree, InitialTree, RangeTree,
+    AddTree, DataDeclTree, DeclTree, DimsTree, EnumNamesTree, EnumTree, InitialTree, RangeTree,
     StructTree,
 };
 use opl_value::Value;
@@ -179,7 +179,7 @@ fn item_value(
     given: &Given<'_>,
     overrides: &[Override],
     before: &DataValues<'_>,
-    t: &DataTree,
+    t: &DataDeclTree,
 ) -> Result<Value, BindFault>
     ensures value { Binds (spec.item_value (given_of given.now) overrides.now t.now (data_of before.now)) result }
     ensures keyed { IfOk result IsKeyed }
@@ -444,7 +444,7 @@ pub fn bind<'a>(
     alloc: Global,
     positions: Positions,
     decls: &'a [DeclTree],
-    files: &'a [DataFile],
+    files: &'a [DataTree],
     overrides: &[Override],
 ) -> Result<DataValues<'a>, BindFault>
     ensures { Gives data_of (spec.bound (position_in positions) decls.now files.now overrides.now) result }

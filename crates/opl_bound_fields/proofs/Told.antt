@@ -1,7 +1,7 @@
 -- Positions that are told of each field that is found suit expressions and declarations.
 use Rattle.std.proofs.Common.{◌≡◌, ◌<◌, ◌^◌, ℕ, suc, ◌+◌, List, [], ◌∷◌, ◌++◌, length, map, Option, None, Some, refl, sym, ap, subst, ◌∙◌, arith, append_assoc, length-append}
 use Rattle.std.specs.List.{slice_get}
-use Rattle.opl_tree.specs.declared.declaration.DataTree.{DataTree}
+use Rattle.opl_tree.specs.declared.declaration.DataDeclTree.{DataDeclTree}
 use Rattle.opl_tree.specs.declared.declaration.DeclTree.{DeclTree}
 use Rattle.opl_tree.specs.declared.declaration.DeclTree.TheVariants as decls
 use Rattle.opl_tree.specs.declared.declaration.DimTree.{DimTree}
@@ -129,7 +129,7 @@ module _ (ds : List DeclTree) (P : ℕ → ℕ) where
   initial-told (initials.External at) sc h t = tt
   initial-told (initials.Written e) sc h t = form-told (form_add e) sc h t
 
-  item-told : (t : DataTree) (sc : Scope) → StructsAre ds sc → Tell (in_decl ds (decls.Data t) sc) → ItemSuits P [] sc t
+  item-told : (t : DataDeclTree) (sc : Scope) → StructsAre ds sc → Tell (in_decl ds (decls.Data t) sc) → ItemSuits P [] sc t
   item-told t sc h told =
       let inside = in_initial ds t.initial (scope_inside ds sc (shape sc t.dims)) in (
         dims-told t.dims sc h (first-told (in_dims ds t.dims sc) inside told),

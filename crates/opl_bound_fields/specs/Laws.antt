@@ -1,7 +1,7 @@
 -- The positions of fields that are found suit the declarations.
 use Rattle.std.specs.Prelude.{◌≡◌, ◌<◌, ◌^◌, ℕ, List, [], ◌∷◌, ◌++◌, length, Ok}
 use Rattle.std.specs.List.{AllByRecursion}
-use Rattle.opl_tree.specs.declared.declaration.DataTree.{DataTree}
+use Rattle.opl_tree.specs.declared.declaration.DataDeclTree.{DataDeclTree}
 use Rattle.opl_tree.specs.declared.declaration.DeclTree.{DeclTree}
 use Rattle.opl_tree.specs.declared.declaration.DeclTree.TheVariants as decls
 use Rattle.opl_tree.specs.declared.model.ModelTree.{ModelTree}
@@ -9,7 +9,7 @@ use Rattle.opl_type_rules.specs.Scope.{empty_scope}
 use Rattle.opl_typed_model.specs.Laws.{IsModel}
 use Rattle.opl_fields.specs.declared.place.FieldPlace.{FieldPlace}
 use Rattle.opl_fields.specs.Whole.{in_decls, model_fields}
-use Rattle.opl_data.specs.declared.tree.DataFile.{DataFile}
+use Rattle.opl_data.specs.declared.tree.DataTree.{DataTree}
 use Rattle.opl_given.specs.Given.{Given, all_given}
 use Rattle.opl_bind.specs.Bind.{Data, bound}
 use Rattle.opl_fit.specs.Declared.{Stands}
@@ -27,5 +27,5 @@ PositionsSuit = (position : ℕ → ℕ) (ds : List DeclTree) → length ds < 2 
 -- so in a model that has types each value that binding gives has the form of its declared type
 abbrev pub ModelValuesFit : Type 0
 ModelValuesFit =
-    (position : ℕ → ℕ) (t : ModelTree) (files : List DataFile) (final : Data) → length t.decls < 2 ^ 32 → IsModel t → Tells position (model_fields t) → bound position t.decls files [] ≡ Ok final →
-    (given : Given) × (all_given t.decls files ≡ Ok given) × ((before after : List DeclTree) (item : DataTree) → t.decls ≡ before ++ decls.Data item ∷ after → Stands position given [] before item final (HasItsForm item))
+    (position : ℕ → ℕ) (t : ModelTree) (files : List DataTree) (final : Data) → length t.decls < 2 ^ 32 → IsModel t → Tells position (model_fields t) → bound position t.decls files [] ≡ Ok final →
+    (given : Given) × (all_given t.decls files ≡ Ok given) × ((before after : List DeclTree) (item : DataDeclTree) → t.decls ≡ before ++ decls.Data item ∷ after → Stands position given [] before item final (HasItsForm item))

@@ -1,6 +1,6 @@
 -- What the declarations so far come to agrees with what typing knows of them.
 use Rattle.std.proofs.Common.{◌≡◌, not, ℕ, true, List, [], ◌∷◌, length, map, Option, None, Some, Ok, refl, sym, ap, subst, ◌∙◌}
-use Rattle.opl_tree.specs.declared.declaration.DataTree.{DataTree}
+use Rattle.opl_tree.specs.declared.declaration.DataDeclTree.{DataDeclTree}
 use Rattle.opl_tree.specs.declared.declaration.DimsTree.{DimsTree}
 use Rattle.opl_tree.specs.declared.declaration.InitialTree.{InitialTree}
 use Rattle.opl_tree.specs.declared.declaration.InitialTree.TheVariants as initials
@@ -220,13 +220,13 @@ module _ (position : ℕ → ℕ) (k : ℕ) (sc : Scope) (d : Data) (a : Agrees 
         record { cells = w.0; is = sym (same_ok (array_over x.0 w.0) v w.2); filled = length-written_cells d.known d.environment form (dims_of dims) x.0 (add_term e) w.0 (l ∙ axes-length (field_sorts sc) (N d.known) is x.0 all) w.1; each = f },
       )
 
-  initial-fits : (given : Given) (os : List Override) (form : Form) (s : Sort) (t : DataTree) (is : List Sort) (inner : Scope) (i : InitialTree) (v : Value) → IsFormOf form s → HasDims sc t.dims is inner → HasInitial inner s (cells_left (dim_names (all_dims t.dims)) is) i →
+  initial-fits : (given : Given) (os : List Override) (form : Form) (s : Sort) (t : DataDeclTree) (is : List Sort) (inner : Scope) (i : InitialTree) (v : Value) → IsFormOf form s → HasDims sc t.dims is inner → HasInitial inner s (cells_left (dim_names (all_dims t.dims)) is) i →
       DimsStand position sc (all_dims t.dims) → InitialStands position inner i → (is_assigned t.name.text os ≡ true → TakesNumbers form) → initial_value given os d form t i ≡ Ok v → ItemIs (Fits d.known form) d t.dims v
   initial-fits given os form s t is inner (initials.External at) v f h n c1 c2 takes m = external-fits given os d form t.name.text t.dims v takes m
   initial-fits given os form s t is inner (initials.Written e) v f h n c1 c2 takes m = model-fits form s t.dims is inner e v f h n c1 c2 m
 
   -- an item that is declared has a value of the form of its type
-  pub item-has-form : (given : Given) (os : List Override) (t : DataTree) (s : Sort) (is : List Sort) (inner : Scope) (v : Value) → IsType sc (written t.kind) s → HasDims sc t.dims is inner → HasInitial inner s (cells_left (dim_names (all_dims t.dims)) is) t.initial →
+  pub item-has-form : (given : Given) (os : List Override) (t : DataDeclTree) (s : Sort) (is : List Sort) (inner : Scope) (v : Value) → IsType sc (written t.kind) s → HasDims sc t.dims is inner → HasInitial inner s (cells_left (dim_names (all_dims t.dims)) is) t.initial →
       ItemSuits position os sc t → item_value given os t d ≡ Ok v → HasItsForm t d v
   unfolding item_value
   item-has-form given os t s is inner v y h n c m =

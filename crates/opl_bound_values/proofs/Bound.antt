@@ -1,6 +1,6 @@
 -- All declarations: the values that binding gives have the forms of their types.
 use Rattle.std.proofs.Common.{◌≡◌, ◌<◌, ◌^◌, ℕ, zero, suc, ◌+◌, List, [], ◌∷◌, ◌++◌, length, Option, None, Some, Ok, refl, sym, ap, subst, ◌∙◌, arith, length-append}
-use Rattle.opl_tree.specs.declared.declaration.DataTree.{DataTree}
+use Rattle.opl_tree.specs.declared.declaration.DataDeclTree.{DataDeclTree}
 use Rattle.opl_tree.specs.declared.declaration.DeclTree.{DeclTree}
 use Rattle.opl_tree.specs.declared.declaration.DeclTree.TheVariants as decls
 use Rattle.opl_tree.specs.declared.declaration.ScheduleEnd.{ScheduleEnd}
@@ -136,14 +136,14 @@ module _ (position : ℕ → ℕ) (given : Given) (os : List Override) where
   suits-before (b ∷ before) after k sc c = (c.0, λ z q. suits-before before after (next k) z (c.1 z q))
 
   -- the declarations before one, and it
-  record Split (before : List DeclTree) (t : DataTree) (k : ℕ) (sc : Scope) : Type 0 where
+  record Split (before : List DeclTree) (t : DataDeclTree) (k : ℕ) (sc : Scope) : Type 0 where
     here : Scope
     there : Scope
     first : AllDeclare k sc before here
     declares : Declares (k + length before) here (decls.Data t) there
     one : DeclSuits position os here (decls.Data t)
 
-  split : (before after : List DeclTree) (t : DataTree) (k : ℕ) (sc inner : Scope) → k + length (before ++ decls.Data t ∷ after) < 2 ^ 32 → AllDeclare k sc (before ++ decls.Data t ∷ after) inner → AllSuit position os k sc (before ++ decls.Data t ∷ after) → Split before t k sc
+  split : (before after : List DeclTree) (t : DataDeclTree) (k : ℕ) (sc inner : Scope) → k + length (before ++ decls.Data t ∷ after) < 2 ^ 32 → AllDeclare k sc (before ++ decls.Data t ∷ after) inner → AllSuit position os k sc (before ++ decls.Data t ∷ after) → Split before t k sc
   split [] after t k sc inner small h c = record { here = sc; there = h.0; first = refl; declares = h.1; one = c.0 }
   split (b ∷ before) after t k sc inner small h c =
       let n = next-is k (let l = length-append before (decls.Data t ∷ after) in omega (arith, small, l)) in
@@ -196,7 +196,7 @@ module _ (position : ℕ → ℕ) where
   }
 
   -- what is known of an item behind the declarations before it
-  item-at : (given : Given) (os : List Override) (before after : List DeclTree) (t : DataTree) (inner : Scope) (d : Data) (v : Value) → length (before ++ decls.Data t ∷ after) < 2 ^ 32 → AllDeclare 0 empty_scope (before ++ decls.Data t ∷ after) inner →
+  item-at : (given : Given) (os : List Override) (before after : List DeclTree) (t : DataDeclTree) (inner : Scope) (d : Data) (v : Value) → length (before ++ decls.Data t ∷ after) < 2 ^ 32 → AllDeclare 0 empty_scope (before ++ decls.Data t ∷ after) inner →
       AllSuit position os 0 empty_scope (before ++ decls.Data t ∷ after) → with_decls given os before (no_data position) ≡ Ok d → item_value given os t d ≡ Ok v → HasItsForm t d v
   item-at given os before after t inner d v small h c m e =
       let r = split position given os before after t 0 empty_scope inner (omega (arith, small)) h c in

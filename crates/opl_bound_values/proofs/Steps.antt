@@ -1,7 +1,7 @@
 -- One more declaration: what it comes to agrees with what typing knows of it.
 use Rattle.std.proofs.Common.{◌≡◌, ◌<◌, ◌^◌, ℕ, suc, ℤ, Bool, true, false, cond, List, [], ◌∷◌, ◌++◌, length, map, Option, None, Some, Ok, refl, sym, ap, subst, ◌∙◌, arith, length-append, append_assoc, append-nil}
 use Rattle.std.specs.Prelude.{bytes_eq, nat_eq}
-use Rattle.opl_tree.specs.declared.declaration.DataTree.{DataTree}
+use Rattle.opl_tree.specs.declared.declaration.DataDeclTree.{DataDeclTree}
 use Rattle.opl_tree.specs.declared.declaration.DeclTree.TheVariants as decls
 use Rattle.opl_tree.specs.declared.declaration.FieldTree.{FieldTree}
 use Rattle.opl_tree.specs.declared.declaration.RangeTree.{RangeTree}
@@ -175,7 +175,7 @@ module _ (position : ℕ → ℕ) (k : ℕ) (sc : Scope) (d : Data) (a : Agrees 
   no-type text thing n name s h =
       type-by (bytes_eq name text) thing (lookup sc name) s (IsFormOf (form_named d.known name) s × Below (suc k) s) h (λ b t. absurd (let x = sym n ∙ t in cc)) (λ b t. old-types k sc d.known a.types name s t)
 
-  pub data-step : (given : Given) (os : List Override) (t : DataTree) (there : Scope) (e : Data) → Declares k sc (decls.Data t) there → ItemSuits position os sc t → with_decl given os (decls.Data t) d ≡ Ok e → Agrees position (suc k) there e
+  pub data-step : (given : Given) (os : List Override) (t : DataDeclTree) (there : Scope) (e : Data) → Declares k sc (decls.Data t) there → ItemSuits position os sc t → with_decl given os (decls.Data t) d ≡ Ok e → Agrees position (suc k) there e
   data-step given os t there e h c m =
       let w = went_first (item_value given os t d) (λ v. Ok (with_value t.name.text v d)) e m in
       let f = item-has-form position k sc d a given os t h.0 h.1 h.2 w.0 h.3 h.5 h.6 c w.1 in

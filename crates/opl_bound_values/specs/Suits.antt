@@ -1,6 +1,6 @@
 -- When what binding is called with suits the declarations: the positions of fields, and the values that are assigned.
 use Rattle.std.specs.Prelude.{◌≡◌, ℕ, true, List, [], ◌∷◌}
-use Rattle.opl_tree.specs.declared.declaration.DataTree.{DataTree}
+use Rattle.opl_tree.specs.declared.declaration.DataDeclTree.{DataDeclTree}
 use Rattle.opl_tree.specs.declared.declaration.DeclTree.{DeclTree}
 use Rattle.opl_tree.specs.declared.declaration.DeclTree.TheVariants as decls
 use Rattle.opl_tree.specs.declared.declaration.DimTree.{DimTree}
@@ -27,7 +27,7 @@ InitialStands position sc (initials.External at) = Unit {0}
 InitialStands position sc (initials.Written e) = FieldsStand position sc (form_add e)
 
 -- the fields in an item's dimensions and in its initial value have their positions, and numbers are assigned to it only where its type is one of numbers
-abbrev pub ItemSuits : (ℕ → ℕ) → List Override → Scope → DataTree → Type 0
+abbrev pub ItemSuits : (ℕ → ℕ) → List Override → Scope → DataDeclTree → Type 0
 ItemSuits position os sc t =
     DimsStand position sc (all_dims t.dims) × ((is : List Sort) (inner : Scope) → HasDims sc t.dims is inner → InitialStands position inner t.initial) × (is_assigned t.name.text os ≡ true → IsType sc (written t.kind) int)
 

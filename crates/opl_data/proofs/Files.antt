@@ -6,7 +6,7 @@ use Rattle.opl_tree.specs.declared.expression.NameTree.{NameTree}
 use Rattle.opl_tree.specs.Marks as mk
 use Rattle.opl_tree.proofs.Marks.{marks_name-is}
 use Rattle.opl_grammar.specs.Input.{Input, Parser, sign, is_name, many}
-use Rattle.opl_data.specs.declared.tree.DataFile.{DataFile}
+use Rattle.opl_data.specs.declared.tree.DataTree.{DataTree}
 use Rattle.opl_data.specs.declared.tree.DataItem.{DataItem}
 use Rattle.opl_data.specs.declared.tree.DataValue.{DataValue}
 use Rattle.opl_data.specs.Grammar as g
@@ -51,7 +51,7 @@ item_written t = subst Written (sym (marks_item-is t ∙ ap (λ ms. mk.place t.a
 
 -- ---- the items
 
-abbrev file_to : ℕ × List DataItem → DataFile
+abbrev file_to : ℕ × List DataItem → DataTree
 file_to c = record { at = c.0; items = c.1 }
 
 file_is : (p : Parser DataValue) (i : Input) → g.file p i ≡ mapped file_to (placed (many is_name (g.item p))) i

@@ -1,6 +1,4 @@
-pub mod Capped
 pub mod Levels
-pub mod Lists
 pub mod Trees
 pub mod Shapes
 pub mod Values

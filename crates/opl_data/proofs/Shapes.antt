@@ -6,7 +6,7 @@ use Rattle.opl_tree.specs.declared.expression.NameTree.{NameTree}
 use Rattle.opl_tree.specs.Marks.{marks_name}
 use Rattle.opl_tree.specs.Marks as mk
 use Rattle.opl_grammar.specs.Input.{is_sign, is_name, is_number}
-use Rattle.opl_data.specs.declared.tree.DataFile.{DataFile}
+use Rattle.opl_data.specs.declared.tree.DataTree.{DataTree}
 use Rattle.opl_data.specs.declared.tree.DataItem.{DataItem}
 use Rattle.opl_data.specs.declared.tree.DataPair.{DataPair}
 use Rattle.opl_data.specs.declared.tree.DataValue.{DataValue}
@@ -52,7 +52,7 @@ keyed_shape = plain (λ xs. mk.several signs.Comma (map marks_pair xs)) EndsList
 abbrev pub item_shape : Shape DataItem
 item_shape = plain marks_item Any (First is_name)
 
-abbrev pub file_shape : Shape DataFile
+abbrev pub file_shape : Shape DataTree
 file_shape = plain marks_file (λ k. is_name k ≡ false) (λ F k. (is_name k ≡ true) ⊎ F k)
 
 -- the laws of what stands behind an opening token, over so many levels and over more

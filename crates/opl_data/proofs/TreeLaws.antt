@@ -4,7 +4,7 @@ use Rattle.opl_data.specs.Answers.{ParseAnswers}
 use Rattle.opl_data.specs.Grammar.{whole, whole_within}
 use Rattle.opl_data.specs.Laws.{OneTree, TreeOrStop, OneStop, OneOpening, ParseTotal, DeepOrTree, OnlyDeeper}
 use Rattle.opl_data.specs.Marks.{marks_file}
-use Rattle.opl_data.specs.declared.tree.DataFile.{DataFile}
+use Rattle.opl_data.specs.declared.tree.DataTree.{DataTree}
 use Rattle.opl_data.proofs.Files.{starts_file, data_grammar}
 use Rattle.opl_grammar.specs.Model.{ReadsAll, start}
 use Rattle.opl_token.specs.declared.token.Token.{Token}
@@ -33,5 +33,5 @@ pub only_deeper : OnlyDeeper
 only_deeper = of_readers.only_deeper marks_file starts_file whole_within data_grammar
 
 -- what the parser answers
-pub read_answers : (tokens : List Token) (end : ℕ) (r : Result DataFile SyntaxFault) → ReadsAll (whole (start tokens end)) r → ParseAnswers tokens end r
+pub read_answers : (tokens : List Token) (end : ℕ) (r : Result DataTree SyntaxFault) → ReadsAll (whole (start tokens end)) r → ParseAnswers tokens end r
 read_answers = of_readers.read_answers marks_file starts_file whole_within data_grammar

@@ -8,11 +8,12 @@ use Rattle.opl_grammar.specs.declared.look.Look.{Look}
 use Rattle.opl_grammar.specs.declared.look.Look.TheVariants as looks
 use Rattle.opl_grammar.specs.Input.{Parser, look, ◌>>=◌, ◌>>◌, ◌<$>◌, pure, refuse_level, here, one, sign, either, many, after_each, is_sign, is_name, is_number, name_in, number_in}
 use Rattle.opl_grammar.specs.Model.{finish}
-use Rattle.opl_data.specs.declared.tree.DataFile.{DataFile}
+use Rattle.opl_data.specs.declared.tree.DataTree.{DataTree}
 use Rattle.opl_data.specs.declared.tree.DataItem.{DataItem}
 use Rattle.opl_data.specs.declared.tree.DataPair.{DataPair, roll-DataPair}
 use Rattle.opl_data.specs.declared.tree.DataValue.{DataValue}
 use Rattle.opl_data.specs.declared.tree.DataValue.TheVariants as values_are
+use Rattle.opl_tree.specs.Depth.{max_nesting}
 
 -- whether a value begins with the sign
 abbrev pub sign_begins : Sign → Bool
@@ -170,7 +171,7 @@ module _ (value : Parser DataValue) where
     pure (record { at = at; name = t; value = v })
 
   -- the items of a file
-  unfoldable pub file : Parser DataFile
+  unfoldable pub file : Parser DataTree
   file = do
     at ← here
     items ← many is_name item
@@ -195,16 +196,12 @@ abbrev pub value_within : ℕ → Parser DataValue
 value_within levels = value (rules levels)
 
 -- a data file, and nothing behind it, where so many levels may be opened
-unfoldable pub whole_within : ℕ → Parser DataFile
+unfoldable pub whole_within : ℕ → Parser DataTree
 whole_within levels = do
   t ← file (value_within levels)
   finish
   pure t
 
--- how many levels a data file may open one in another
-abbrev pub max_nesting : ℕ
-max_nesting = 256
-
 -- a data file, and nothing behind it
-abbrev pub whole : Parser DataFile
+abbrev pub whole : Parser DataTree
 whole = whole_within max_nesting

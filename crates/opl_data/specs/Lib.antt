@@ -1,6 +1,4 @@
 pub mod Answers
-pub mod Capped
-pub mod Depth
 pub mod Grammar
 pub mod Laws
 pub mod Marks

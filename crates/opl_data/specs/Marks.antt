@@ -5,7 +5,7 @@ use Rattle.opl_token.specs.declared.sign.Sign.TheVariants as signs
 use Rattle.opl_tree.specs.Marks.{sign, number, place, token, Marks, nested, joined, behind, several, marks_name}
 use Rattle.opl_token.specs.declared.token.Kind.{Kind}
 use Rattle.opl_tree.specs.Spelling.{kinds_of}
-use Rattle.opl_data.specs.declared.tree.DataFile.{DataFile}
+use Rattle.opl_data.specs.declared.tree.DataTree.{DataTree}
 use Rattle.opl_data.specs.declared.tree.DataItem.{DataItem}
 use Rattle.opl_data.specs.declared.tree.DataPair.{DataPair}
 use Rattle.opl_data.specs.declared.tree.DataValue.{DataValue}
@@ -42,9 +42,9 @@ unfoldable pub marks_item : DataItem → Marks
 marks_item t = place t.at ∷ (marks_name t.name ++ token (sign signs.Equal) ∷ (marks_value t.value ++ token (sign signs.Semicolon) ∷ []))
 
 -- the items, one after another
-unfoldable pub marks_file : DataFile → Marks
+unfoldable pub marks_file : DataTree → Marks
 marks_file t = place t.at ∷ joined (map marks_item t.items)
 
 -- the tokens of a data file's tree
-abbrev pub spelling : DataFile → List Kind
+abbrev pub spelling : DataTree → List Kind
 spelling t = kinds_of (marks_file t)

@@ -21,7 +21,7 @@ pub fn one_opening()
     ensures { OneOpening }
 {}
 
-/// Tokens have a tree that nests at most 256 levels, or stop somewhere and open no level too many, or open one.
+/// Tokens have a tree that does not nest too deep, or stop somewhere and open no level too many, or open one.
 pub fn parse_total()
     ensures { ParseTotal }
 {}

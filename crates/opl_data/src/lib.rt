@@ -1,15 +1,11 @@
-//! Data files: their trees, the reader of their tokens, and the plain programs that spell and measure a tree.
+//! Data files: their trees, and the reader of their tokens.
 #![tactic(auto)]
 
-mod depth;
 mod keeping;
 pub mod laws;
 mod reader;
-mod spell;
 mod tree;
 mod value;
 
-pub use depth::depth_data;
 pub use reader::parse_data;
-pub use spell::spell_data;
-pub use tree::{DataFile, DataItem, DataPair, DataValue};
+pub use tree::{DataItem, DataPair, DataTree, DataValue};

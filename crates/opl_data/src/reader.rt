@@ -3,19 +3,17 @@ ghost use Rattle.opl_grammar.specs.Input.{Reads, is_name};
 ghost use Rattle.opl_grammar.specs.Model.{ReadsAll, start};
 ghost use Rattle.opl_data.specs.Answers.{ParseAnswers};
 ghost use Rattle.opl_data.specs.Grammar as rules;
+ghost use Rattle.opl_tree.specs.Depth.{max_nesting};
 ghost use Rattle.std.specs.Prelude.{◌≡◌, ⊤};
 
 use crate::keeping::keep;
-use crate::tree::{DataFile, DataItem};
+use crate::tree::{DataItem, DataTree};
 use crate::value::{name, read_value};
 use opl_grammar::Cursor;
 use opl_grammar::list::{Part, many};
 use opl_token::{Sign, Token};
-use opl_tree::SyntaxFault;
+use opl_tree::{MAX_NESTING, SyntaxFault};
 use std::alloc::Global;
-
-/// How many levels a data file may open one in another.
-pub const MAX_NESTING: u32 = 256;
 
 /// The rule of an item.
 #[derive(Drop)]
@@ -26,7 +24,7 @@ struct ItemRule {
 impl Part<DataItem> for ItemRule {
     ghost begins = { λ _. is_name };
 
-    ghost part = { λ _. rules.item (rules.value_within rules.max_nesting) };
+    ghost part = { λ _. rules.item (rules.value_within max_nesting) };
 
     ghost is_ready = { λ _. ⊤ };
 
@@ -47,17 +45,17 @@ impl Part<DataItem> for ItemRule {
 
 /// The items of a data file.
 #[tactic(auto, unfolding(crate::specs::Grammar::file))]
-fn file(alloc: Global, cursor: &mut Cursor<'_>) -> Result<DataFile, SyntaxFault>
-    ensures { Reads (rules.file (rules.value_within rules.max_nesting) cursor.old) result cursor.new }
+fn file(alloc: Global, cursor: &mut Cursor<'_>) -> Result<DataTree, SyntaxFault>
+    ensures { Reads (rules.file (rules.value_within max_nesting) cursor.old) result cursor.new }
 {
     let at = cursor.place();
     let items = many(alloc, cursor, &ItemRule { alloc })?;
-    Ok(DataFile { at, items })
+    Ok(DataTree { at, items })
 }
 
 /// A data file, and nothing behind it.
 #[tactic(auto, unfolding(crate::specs::Grammar::whole_within))]
-fn whole(alloc: Global, cursor: &mut Cursor<'_>) -> Result<DataFile, SyntaxFault>
+fn whole(alloc: Global, cursor: &mut Cursor<'_>) -> Result<DataTree, SyntaxFault>
     ensures { Reads (rules.whole cursor.old) result cursor.new }
 {
     let tree = file(alloc, cursor)?;
@@ -66,19 +64,19 @@ fn whole(alloc: Global, cursor: &mut Cursor<'_>) -> Result<DataFile, SyntaxFault
 }
 
 /// The tree of the tokens of a text with `end` bytes, by the rules of the grammar. `Syntax` holds the place of the first
-/// token that does not fit, or `end` where more tokens are wanted; `TooDeep` the place of the token that opens level 257.
-fn read_data(alloc: Global, tokens: &[Token], end: u32) -> Result<DataFile, SyntaxFault>
+/// token that does not fit, or `end` where more tokens are wanted; `TooDeep` the place of the token that opens a level too many.
+fn read_data(alloc: Global, tokens: &[Token], end: u32) -> Result<DataTree, SyntaxFault>
     ensures { ReadsAll (rules.whole (start tokens.now end)) result }
 {
     let mut cursor = Cursor::new(tokens, end);
     whole(alloc, &mut cursor)
 }
 
-/// The tree of the tokens of a text with `end` bytes. `TooDeep` holds the place of the first token that opens the 257th
-/// level of nesting. `Syntax` comes where there is no such token; it holds the place of the token that follows the longest
+/// The tree of the tokens of a text with `end` bytes. `TooDeep` holds the place of the first token that opens a level
+/// beyond `MAX_NESTING`. `Syntax` comes where there is no such token; it holds the place of the token that follows the longest
 /// beginning of the tokens that a data file begins with, or `end` if none follows.
 #[tactic(auto, using(crate::proofs::TreeLaws::read_answers))]
-pub fn parse_data(alloc: Global, tokens: &[Token], end: u32) -> Result<DataFile, SyntaxFault>
+pub fn parse_data(alloc: Global, tokens: &[Token], end: u32) -> Result<DataTree, SyntaxFault>
     ensures { ParseAnswers tokens.now end result }
 {
     read_data(alloc, tokens, end)

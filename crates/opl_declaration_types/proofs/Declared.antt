@@ -3,7 +3,7 @@ use Rattle.std.proofs.Common.{arith, length, ◌≡◌, ℕ, Bool, true, false, 
 use Rattle.std.specs.Str.{bytes_eq}
 use Rattle.opl_tree.specs.declared.declaration.ActivityTree.{ActivityTree}
 use Rattle.opl_tree.specs.declared.declaration.BoundsTree.{BoundsTree}
-use Rattle.opl_tree.specs.declared.declaration.DataTree.{DataTree}
+use Rattle.opl_tree.specs.declared.declaration.DataDeclTree.{DataDeclTree}
 use Rattle.opl_tree.specs.declared.declaration.DeclTree.{DeclTree}
 use Rattle.opl_tree.specs.declared.declaration.DeclTree.TheVariants as decls
 use Rattle.opl_tree.specs.declared.declaration.DimTree.{DimTree}
@@ -247,7 +247,7 @@ initial-front : (ks : List Sort) (sc : Scope) (s : Sort) (is : List Sort) (t : I
 initial-front ks sc s is (initials.External at) = sym (front-none ks)
 initial-front ks sc s is (initials.Written t) = refl
 
-abbrev data_seen : List Sort → Scope → DataTree → Checked Seen → Checked Opened
+abbrev data_seen : List Sort → Scope → DataDeclTree → Checked Seen → Checked Opened
 data_seen ks sc t y = do
   s ← written_type t.kind sc
   fresh sc t.name
@@ -255,7 +255,7 @@ data_seen ks sc t y = do
   more ← front_initial (ks ++ d.kinds) d.inner s (cells_seen d.is_named d.indices) t.initial
   makes sc t.name (value (shaped d.indices s)) more
 
-data-by : (ks : List Sort) (sc : Scope) (t : DataTree) (c : Checked Sort) (x : Checked (Unit {0})) (y : Checked Shape) →
+data-by : (ks : List Sort) (sc : Scope) (t : DataDeclTree) (c : Checked Sort) (x : Checked (Unit {0})) (y : Checked Shape) →
     behind ks (and_then c (λ s. and_then x (λ u. and_then y (λ d. and_then (initial_kinds d.inner s (cell_indices d.dims) t.initial) (λ kinds. makes sc t.name (value (shaped d.dims.indices s)) (d.dims.kinds ++ kinds))))))
     ≡ and_then c (λ s. and_then x (λ u. and_then (and_then y (λ d. Ok (seen_of d))) (λ d. and_then (front_initial (ks ++ d.kinds) d.inner s (cells_seen d.is_named d.indices) t.initial) (λ more. makes sc t.name (value (shaped d.indices s)) more))))
 data-by ks sc t (Err e) x y = refl
@@ -267,7 +267,7 @@ data-by ks sc t (Ok s) (Ok u) (Ok d) =
     (ap (λ is. front (ks ++ d.dims.kinds) (initial_kinds d.inner s is t.initial)) (cells-left d.dims.names d.dims.indices)
     ∙ initial-front (ks ++ d.dims.kinds) d.inner s (cells_seen (any_name d.dims.names) d.dims.indices) t.initial)
 
-data-law : (ks : List Sort) (sc : Scope) (t : DataTree) → behind ks (data_decl sc t) ≡ data_behind ks sc t
+data-law : (ks : List Sort) (sc : Scope) (t : DataDeclTree) → behind ks (data_decl sc t) ≡ data_behind ks sc t
 data-law ks sc t = data-by ks sc t (written_type t.kind sc) (fresh sc t.name) (shape sc t.dims) ∙ ap (data_seen ks sc t) (sym (seen-shape sc t.dims))
 
 range-by : (ks : List Sort) (sc : Scope) (name : NameTree) (x : Checked (Unit {0})) (low high : Checked (List Sort)) →
@@ -489,7 +489,7 @@ struct-law ks k sc t =
 
 -- ---- all kinds of declarations
 
-pub decl-Data : (ks : List Sort) (k : ℕ) (sc : Scope) (t : DataTree) → behind ks (decl k sc (decls.Data t)) ≡ data_behind ks sc t
+pub decl-Data : (ks : List Sort) (k : ℕ) (sc : Scope) (t : DataDeclTree) → behind ks (decl k sc (decls.Data t)) ≡ data_behind ks sc t
 unfolding decl
 decl-Data ks k sc t = data-law ks sc t
 

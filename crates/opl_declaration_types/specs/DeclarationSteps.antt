@@ -2,7 +2,7 @@
 use Rattle.std.specs.Prelude.{ℕ, Bool, true, false, cond, not, List, [], ◌∷◌, ◌++◌, map, Option, Some, None, is_some, Ok}
 use Rattle.opl_tree.specs.declared.declaration.ActivityTree.{ActivityTree}
 use Rattle.opl_tree.specs.declared.declaration.BoundsTree.{BoundsTree}
-use Rattle.opl_tree.specs.declared.declaration.DataTree.{DataTree}
+use Rattle.opl_tree.specs.declared.declaration.DataDeclTree.{DataDeclTree}
 use Rattle.opl_tree.specs.declared.declaration.DeclTree.{DeclTree}
 use Rattle.opl_tree.specs.declared.declaration.DimTree.{DimTree}
 use Rattle.opl_tree.specs.declared.declaration.DimsTree.{DimsTree}
@@ -131,7 +131,7 @@ abbrev pub front_initial : List Sort → Scope → Sort → List Sort → Initia
 front_initial ks sc s is (initials.External at) = Ok ks
 front_initial ks sc s is (initials.Written t) = front ks (initial sc s is (form_add t))
 
-abbrev pub data_behind : List Sort → Scope → DataTree → Checked Opened
+abbrev pub data_behind : List Sort → Scope → DataDeclTree → Checked Opened
 data_behind ks sc t = do
   s ← written_type t.kind sc
   fresh sc t.name

@@ -2,7 +2,7 @@
 use Rattle.std.specs.Prelude.{ℕ, ◌+◌, ◌-◌, ◌^◌, min, Bool, true, ◌&&◌, not, List, [], ◌∷◌, ◌++◌, Option, Some, None, is_some, is_none, Ok, Err}
 use Rattle.opl_tree.specs.declared.declaration.ActivityTree.{ActivityTree}
 use Rattle.opl_tree.specs.declared.declaration.BoundsTree.{BoundsTree}
-use Rattle.opl_tree.specs.declared.declaration.DataTree.{DataTree}
+use Rattle.opl_tree.specs.declared.declaration.DataDeclTree.{DataDeclTree}
 use Rattle.opl_tree.specs.declared.declaration.DeclTree.{DeclTree}
 use Rattle.opl_tree.specs.declared.declaration.DeclTree.TheVariants as decls
 use Rattle.opl_tree.specs.declared.declaration.DimTree.{DimTree}
@@ -164,7 +164,7 @@ shape sc dims = do
   Ok (record { dims = d; inner = with_values d.names d.named sc })
 
 -- `TYPE NAME [DIMS] = INITIAL;`
-abbrev pub data_decl : Scope → DataTree → Checked Opened
+abbrev pub data_decl : Scope → DataDeclTree → Checked Opened
 data_decl sc t = do
   s ← written_type t.kind sc
   fresh sc t.name

@@ -13,7 +13,7 @@ ghost use Rattle.opl_type_rules.specs.Values.{Does, Gives, field_of, scope_of, w
 use opl_expression_types::{Cells, add, cells_of, set};
 use opl_list::{Boxed, Seq};
 use opl_tree::{
-    ActivityTree, AddTree, BoundsTree, DataTree, DeclTree, DimTree, DimsTree, DiscreteTree,
+    ActivityTree, AddTree, BoundsTree, DataDeclTree, DeclTree, DimTree, DimsTree, DiscreteTree,
     EnumNamesTree, EnumTree, FieldTree, InitialTree, KeyedTree, NameTree, RangeTree, ScheduleEnd,
     ScheduleTree, StructTree, TypeTree, UnaryTree, VariableTree, VariableTypeTree,
 };
@@ -411,7 +411,7 @@ fn initial_value(
 fn data<'a>(
     alloc: Global,
     model: &mut Names<'a>,
-    t: &'a DataTree,
+    t: &'a DataDeclTree,
     kinds: &mut Seq<Ty>,
 ) -> Result<(), TypeFault>
     ensures { Gives (λ u. record { scope = scope_of model.new; kinds = map sort kinds.new }) (step.data_behind (map sort kinds.old) (scope_of model.old) t.now) result }

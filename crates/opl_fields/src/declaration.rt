@@ -5,7 +5,7 @@ ghost use Rattle.opl_fields.specs.Walk as walk;
 
 use crate::walk::Walk;
 use opl_tree::{
-    ActivityTree, BoundsTree, DataTree, DeclTree, DimTree, DimsTree, DiscreteTree, InitialTree,
+    ActivityTree, BoundsTree, DataDeclTree, DeclTree, DimTree, DimsTree, DiscreteTree, InitialTree,
     RangeTree, VariableTree,
 };
 use std::alloc::{AllocError, Global};
@@ -79,7 +79,12 @@ impl<'a> Walk<'a> {
     }
 
     /// Goes through an item of data.
-    fn data(&mut self, alloc: Global, decls: &[DeclTree], t: &DataTree) -> Result<(), AllocError>
+    fn data(
+        &mut self,
+        alloc: Global,
+        decls: &[DeclTree],
+        t: &DataDeclTree,
+    ) -> Result<(), AllocError>
         ensures { OnOk result (self.new ≡ spec.walk_initial decls.now t.now.initial (spec.walk_dims decls.now t.now.dims self.old)) }
     {
         self.dims(alloc, decls, &t.dims)?;

@@ -17,7 +17,7 @@ use Rattle.opl_type_rules.specs.Types.{Sort}
 use Rattle.opl_data.proofs.Files.{starts_file, data_grammar}
 use Rattle.opl_data.specs.Grammar as data_files
 use Rattle.opl_data.specs.Marks.{marks_file}
-use Rattle.opl_data.specs.declared.tree.DataFile.{DataFile}
+use Rattle.opl_data.specs.declared.tree.DataTree.{DataTree}
 use Rattle.opl_files.specs.declared.refusal.Fault.TheVariants.{Syntax, TooDeep}
 use Rattle.opl_files.specs.declared.refusal.Refusal.{Refusal}
 use Rattle.opl_files.specs.declared.refusal.Refusal.TheVariants.{At}
@@ -26,13 +26,14 @@ use Rattle.opl_files.specs.declared.stop.Stop.{Stop}
 use Rattle.opl_files.specs.Reading.{refusal_of_scan, Scanned, IsSyntaxFault, TreeOf, Parsed, DataParsed, HasTypes, refusal_of_type, Understood, Read}
 use Rattle.opl_files.specs.Stage.{Stage, Then, Only, Each, Gives}
 use Rattle.opl_files.proofs.StageLemmas.{IsOne, each_one, only_one, then_one, then-gives, then-stops}
+use Rattle.opl_tree.specs.Depth.{max_nesting}
 
 -- behind the model's tree and those of the data files come the types
-abbrev Behind : Tokens → List Tokens → ModelTree → Stage (ModelTree × List DataFile)
+abbrev Behind : Tokens → List Tokens → ModelTree → Stage (ModelTree × List DataTree)
 Behind tokens more tree = Then (Each DataParsed 1 more) (λ files. Then (HasTypes tree) (λ t. Only (t, files)))
 
 -- the model and the data files have trees, and typing ended so
-pub understood-typed : (tokens : Tokens) (more : List Tokens) (tree : ModelTree) (files : List DataFile) (r : Result (ModelTree × List DataFile) Stop) →
+pub understood-typed : (tokens : Tokens) (more : List Tokens) (tree : ModelTree) (files : List DataTree) (r : Result (ModelTree × List DataTree) Stop) →
     Parsed tokens (Ok tree) → Each DataParsed 1 more (Ok files) → Gives (Then (HasTypes tree) (λ t. Only (t, files))) r → Gives (Understood tokens more) r
 understood-typed tokens more tree files r parsed trees h =
     then-gives (Parsed tokens) (Behind tokens more) tree r parsed (then-gives (Each DataParsed 1 more) (λ fs. Then (HasTypes tree) (λ t. Only (t, fs))) files r trees h)
@@ -44,18 +45,18 @@ understood-stops tokens more tree stop parsed h =
     then-gives (Parsed tokens) (Behind tokens more) tree (Err stop) parsed (then-stops (Each DataParsed 1 more) (λ fs. Then (HasTypes tree) (λ t. Only (t, fs))) stop h)
 
 -- all have trees, and typing ended
-pub understood-untyped : (tokens : Tokens) (more : List Tokens) (tree : ModelTree) (files : List DataFile) (stop : Stop) → Parsed tokens (Ok tree) →
+pub understood-untyped : (tokens : Tokens) (more : List Tokens) (tree : ModelTree) (files : List DataTree) (stop : Stop) → Parsed tokens (Ok tree) →
     Each DataParsed 1 more (Ok files) → Gives (HasTypes tree) (Err stop) → Gives (Understood tokens more) (Err stop)
 understood-untyped tokens more tree files stop parsed trees h =
     understood-typed tokens more tree files (Err stop) parsed trees (then-stops (HasTypes tree) (λ t. Only (t, files)) stop h)
 
 -- all have trees, the model's with types
-pub understood-all : (tokens : Tokens) (more : List Tokens) (tree t : ModelTree) (files : List DataFile) → Parsed tokens (Ok tree) →
+pub understood-all : (tokens : Tokens) (more : List Tokens) (tree t : ModelTree) (files : List DataTree) → Parsed tokens (Ok tree) →
     Each DataParsed 1 more (Ok files) → HasTypes tree (Ok t) → Understood tokens more (Ok (t, files))
 understood-all tokens more tree t files parsed trees h = inl (tree, parsed, inl (files, trees, inl (t, h, refl)))
 
 -- the same of their bytes and tokens
-pub read-gives : (bytes : List ℕ) (more : List (List ℕ)) (tokens : Tokens) (others these : List Tokens) (r : Result (ModelTree × List DataFile) Stop) → these ≡ others →
+pub read-gives : (bytes : List ℕ) (more : List (List ℕ)) (tokens : Tokens) (others these : List Tokens) (r : Result (ModelTree × List DataTree) Stop) → these ≡ others →
     Scanned 0 bytes (Ok tokens) → Each Scanned 1 more (Ok others) → Gives (Understood tokens these) r → Gives (Read bytes more) r
 read-gives bytes more tokens others these r same scanned all h =
     then-gives (Scanned 0 bytes) (λ ts. Then (Each Scanned 1 more) (Understood ts)) tokens r scanned (then-gives (Each Scanned 1 more) (Understood tokens) others r all (subst (λ ts. Gives (Understood tokens ts) r) same h))
@@ -82,13 +83,13 @@ scanned_one file bytes (Err e) (Err f) p q =
 module _ {T : Type 0} (marks : T → Marks) (begins : (Option Kind → Type 0) → Option Kind → Type 0) (read : ℕ → Parser T) (G : Grammar marks begins read) (file : ℕ) (tokens : Tokens) where
   not_both : (t : T) (e : Refusal) → TreeOf marks file tokens (Ok t) → IsSyntaxFault marks file tokens e → ⊥
   not_both t e p (inl q) = tree_or_stop marks begins read G tokens.list tokens.end t q.0 p.0 q.2
-  not_both t e p (inr q) = let deep = deep_or_tree marks begins read G 256 tokens.list tokens.end t q.0 p.0 q.2 in let shallow = p.1 in omega arith
+  not_both t e p (inr q) = let deep = deep_or_tree marks begins read G max_nesting tokens.list tokens.end t q.0 p.0 q.2 in let shallow = p.1 in omega arith
 
   one_syntax_fault : (e f : Refusal) → IsSyntaxFault marks file tokens e → IsSyntaxFault marks file tokens f → e ≡ f
   one_syntax_fault e f (inl p) (inl q) = p.1 ∙ (ap (At Syntax file) (one_stop marks begins read G tokens.list tokens.end p.0 q.0 p.2 q.2) ∙ sym q.1)
   one_syntax_fault e f (inl p) (inr q) = absurd (p.3 q.0 q.2)
   one_syntax_fault e f (inr p) (inl q) = absurd (q.3 p.0 p.2)
-  one_syntax_fault e f (inr p) (inr q) = p.1 ∙ (ap (At TooDeep file) (one_opening marks begins read G 256 tokens.list p.0 q.0 p.2 q.2) ∙ sym q.1)
+  one_syntax_fault e f (inr p) (inr q) = p.1 ∙ (ap (At TooDeep file) (one_opening marks begins read G max_nesting tokens.list p.0 q.0 p.2 q.2) ∙ sym q.1)
 
   tree_one : IsOne (TreeOf marks file tokens)
   tree_one (Ok t) (Ok u) p q = ap Ok (one_tree marks begins read G tokens.list tokens.end t u p.0 q.0)

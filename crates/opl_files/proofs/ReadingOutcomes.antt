@@ -2,7 +2,7 @@
 use Rattle.std.proofs.Common.{◌≡◌, ◌≢◌, ◌⊎◌, ◌≤◌, refl, ℕ, List, length, Result, Ok, Err, inl, inr}
 use Rattle.opl_parse.proofs.TreeLaws.{parse_total}
 use Rattle.opl_tree.specs.declared.model.ModelTree.{ModelTree}
-use Rattle.opl_tree.specs.Depth.{depth_of}
+use Rattle.opl_tree.specs.Depth.{depth_of, max_nesting}
 use Rattle.opl_token.proofs.Unique.{total}
 use Rattle.opl_token.specs.declared.fault.ScanFault.{ScanFault}
 use Rattle.opl_token.specs.declared.fault.ScanFault.TheVariants as scan
@@ -39,8 +39,8 @@ scanned_comes : (file : ℕ) (bytes : List ℕ) → Comes (Scanned file bytes)
 scanned_comes file bytes = scanned_by file bytes (total bytes)
 
 tree_by : {T : Type 0} (marks : T → Marks) (file : ℕ) (tokens : Tokens) →
-    ((t : T) × of_marks.IsTreeOf marks t tokens.list tokens.end × (depth_of (marks t) ≤ 256))
-    ⊎ (((at : ℕ) × of_marks.StopsAt marks tokens.list tokens.end at × of_marks.NoneOpens marks 256 tokens.list) ⊎ ((at : ℕ) × of_marks.OpensAt marks 256 tokens.list at)) → Comes (TreeOf marks file tokens)
+    ((t : T) × of_marks.IsTreeOf marks t tokens.list tokens.end × (depth_of (marks t) ≤ max_nesting))
+    ⊎ (((at : ℕ) × of_marks.StopsAt marks tokens.list tokens.end at × of_marks.NoneOpens marks max_nesting tokens.list) ⊎ ((at : ℕ) × of_marks.OpensAt marks max_nesting tokens.list at)) → Comes (TreeOf marks file tokens)
 tree_by marks file tokens (inl t) = (Ok t.0, (t.1, t.2))
 tree_by marks file tokens (inr (inl s)) = (Err (At Syntax file s.0), inl (s.0, refl, s.1, s.2))
 tree_by marks file tokens (inr (inr o)) = (Err (At TooDeep file o.0), inr (o.0, refl, o.1))

@@ -1,7 +1,7 @@
 -- The bytes of files that are asked for, and their trees.
 use Rattle.std.specs.Prelude.{◌≡◌, ◌⊎◌, ◌<◌, ◌≤◌, ℕ, List, length, Some, None, Ok, Err, IsSomeAnd}
 use Rattle.opl_outside.specs.Files.{Files, max_bytes}
-use Rattle.opl_data.specs.declared.tree.DataFile.{DataFile}
+use Rattle.opl_data.specs.declared.tree.DataTree.{DataTree}
 use Rattle.opl_tree.specs.declared.model.ModelTree.{ModelTree}
 use Rattle.opl_files.specs.declared.refusal.Refusal.TheVariants.{Absent, TooLong}
 use Rattle.opl_files.specs.Reading.{Read}
@@ -15,7 +15,7 @@ Held files file name (Err e) =
 
 -- the trees of a model's file and of data files
 abbrev pub Trees : Type 0
-Trees = ModelTree × List DataFile
+Trees = ModelTree × List DataTree
 
 -- the trees of the files of these names, the model's first: the reading of each comes first
 abbrev pub Loaded : Files → (model : List ℕ) → (names : List (List ℕ)) → Stage Trees

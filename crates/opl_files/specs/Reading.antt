@@ -4,10 +4,10 @@ use Rattle.opl_token.specs.declared.fault.ScanFault.{ScanFault}
 use Rattle.opl_token.specs.declared.fault.ScanFault.TheVariants as scan
 use Rattle.opl_token.specs.Scan.{Scans, Faults}
 use Rattle.opl_tree.specs.declared.model.ModelTree.{ModelTree}
-use Rattle.opl_tree.specs.Depth.{depth_of}
+use Rattle.opl_tree.specs.Depth.{depth_of, max_nesting}
 use Rattle.opl_tree.specs.Marks.{Marks, marks_model}
 use Rattle.opl_reader_laws.specs.Reading as of_marks
-use Rattle.opl_data.specs.declared.tree.DataFile.{DataFile}
+use Rattle.opl_data.specs.declared.tree.DataTree.{DataTree}
 use Rattle.opl_data.specs.Marks.{marks_file}
 use Rattle.opl_model_types.specs.Models.{model}
 use Rattle.opl_type_rules.specs.declared.fault.TypeFault.{TypeFault}
@@ -39,12 +39,12 @@ Scanned file bytes (Err e) = (fault : ScanFault) × (refusal_of_scan file fault 
 -- the first that opens one
 abbrev pub IsSyntaxFault : {T : Type 0} → (T → Marks) → (file : ℕ) → Tokens → Refusal → Type 0
 IsSyntaxFault marks file tokens e =
-    ((at : ℕ) × (e ≡ At Syntax file at) × of_marks.StopsAt marks tokens.list tokens.end at × of_marks.NoneOpens marks 256 tokens.list)
-    ⊎ ((at : ℕ) × (e ≡ At TooDeep file at) × of_marks.OpensAt marks 256 tokens.list at)
+    ((at : ℕ) × (e ≡ At Syntax file at) × of_marks.StopsAt marks tokens.list tokens.end at × of_marks.NoneOpens marks max_nesting tokens.list)
+    ⊎ ((at : ℕ) × (e ≡ At TooDeep file at) × of_marks.OpensAt marks max_nesting tokens.list at)
 
--- the tree of a file's tokens, which nests at most 256 levels
+-- the tree of a file's tokens, which does not nest too deep
 abbrev pub TreeOf : {T : Type 0} → (T → Marks) → (file : ℕ) → Tokens → Stage T
-TreeOf marks file tokens (Ok tree) = of_marks.IsTreeOf marks tree tokens.list tokens.end × (depth_of (marks tree) ≤ 256)
+TreeOf marks file tokens (Ok tree) = of_marks.IsTreeOf marks tree tokens.list tokens.end × (depth_of (marks tree) ≤ max_nesting)
 TreeOf marks file tokens (Err e) = IsSyntaxFault marks file tokens e
 
 -- the tree of the model's tokens
@@ -52,7 +52,7 @@ abbrev pub Parsed : Tokens → Stage ModelTree
 Parsed = TreeOf marks_model 0
 
 -- the tree of a data file's tokens
-abbrev pub DataParsed : (file : ℕ) → Tokens → Stage DataFile
+abbrev pub DataParsed : (file : ℕ) → Tokens → Stage DataTree
 DataParsed = TreeOf marks_file
 
 -- the refusal at a fault of typing; want of memory is none
@@ -74,14 +74,14 @@ tree_of (Ok typed) = Ok typed.tree
 tree_of (Err stop) = Err stop
 
 -- the trees of the files of a call, the model's with the types of its expressions
-abbrev pub front_of : Result Front Stop → Result (ModelTree × List DataFile) Stop
+abbrev pub front_of : Result Front Stop → Result (ModelTree × List DataTree) Stop
 front_of (Ok front) = Ok (front.typed.tree, front.files)
 front_of (Err stop) = Err stop
 
 -- the tree of the model's tokens, whose expressions have types, and those of the data files: the syntax of each comes first
-abbrev pub Understood : Tokens → List Tokens → Stage (ModelTree × List DataFile)
+abbrev pub Understood : Tokens → List Tokens → Stage (ModelTree × List DataTree)
 Understood tokens more = Then (Parsed tokens) (λ tree. Then (Each DataParsed 1 more) (λ files. Then (HasTypes tree) (λ t. Only (t, files))))
 
 -- the trees of the bytes of the model's file and of the data files: the scan of each comes first
-abbrev pub Read : List ℕ → List (List ℕ) → Stage (ModelTree × List DataFile)
+abbrev pub Read : List ℕ → List (List ℕ) → Stage (ModelTree × List DataTree)
 Read bytes more = Then (Scanned 0 bytes) (λ tokens. Then (Each Scanned 1 more) (Understood tokens))

@@ -1,5 +1,5 @@
 //! The trees of the files of a call.
-use opl_data::DataFile;
+use opl_data::DataTree;
 use opl_list::Seq;
 use opl_types::Typed;
 
@@ -7,5 +7,5 @@ use opl_types::Typed;
 #[derive(Drop)]
 pub struct Front {
     pub typed: Typed,
-    pub files: Seq<DataFile>,
+    pub files: Seq<DataTree>,
 }

@@ -1,7 +1,7 @@
 -- The values of declared items fit their types.
 use Rattle.std.proofs.Common.{◌≡◌, ℕ, ◌+◌, ℤ, true, List, [], ◌∷◌, ◌++◌, length, map, Option, None, Some, Ok, refl, sym, ap, subst, ◌∙◌, append_assoc, append-nil, not, arith, length-append}
 use Rattle.std.specs.List.{AllByRecursion, slice_get}
-use Rattle.opl_tree.specs.declared.declaration.DataTree.{DataTree}
+use Rattle.opl_tree.specs.declared.declaration.DataDeclTree.{DataDeclTree}
 use Rattle.opl_tree.specs.declared.declaration.DeclTree.{DeclTree}
 use Rattle.opl_tree.specs.declared.declaration.DeclTree.TheVariants as decls
 use Rattle.opl_tree.specs.declared.declaration.DimTree.{DimTree}
@@ -70,11 +70,11 @@ external-fits given os d form name None v takes h = single-fits d.known form nam
 external-fits given os d form name (Some dims) v takes h =
     array_value-fits d.known form name os (axes_in d.environment [] (dims_of dims)) (given_to given name) v takes h
 
-initial-fits : (given : Given) (os : List Override) (d : Data) (form : Form) (t : DataTree) (i : InitialTree) (at : ℕ) (v : Value) → i ≡ initials.External at → (is_assigned t.name.text os ≡ true → TakesNumbers form) →
+initial-fits : (given : Given) (os : List Override) (d : Data) (form : Form) (t : DataDeclTree) (i : InitialTree) (at : ℕ) (v : Value) → i ≡ initials.External at → (is_assigned t.name.text os ≡ true → TakesNumbers form) →
     initial_value given os d form t i ≡ Ok v → ItemIs (Fits d.known form) d t.dims v
 initial-fits given os d form t i at v e takes h = external-fits given os d form t.name.text t.dims v takes (ap (initial_value given os d form t) (sym e) ∙ h)
 
-item-fits : (given : Given) (os : List Override) (t : DataTree) (d : Data) (at : ℕ) (v : Value) → t.initial ≡ initials.External at → item_value given os t d ≡ Ok v → ItemFits os t d v
+item-fits : (given : Given) (os : List Override) (t : DataDeclTree) (d : Data) (at : ℕ) (v : Value) → t.initial ≡ initials.External at → item_value given os t d ≡ Ok v → ItemFits os t d v
 unfolding item_value
 item-fits given os t d at v e h takes = initial-fits given os d (form_of t.kind d.known) t t.initial at v e takes h
 
@@ -168,7 +168,7 @@ unfolding with_value
 added name v d = refl
 
 -- an item of whose value this holds, whatever it is
-pub item-stands : (position : ℕ → ℕ) (given : Given) (os : List Override) (before after : List DeclTree) (t : DataTree) (final : Data) (Is : Data → Value → Type 0) →
+pub item-stands : (position : ℕ → ℕ) (given : Given) (os : List Override) (before after : List DeclTree) (t : DataDeclTree) (final : Data) (Is : Data → Value → Type 0) →
     ((d : Data) (v : Value) → item_value given os t d ≡ Ok v → Is d v) → with_decls given os (before ++ decls.Data t ∷ after) (no_data position) ≡ Ok final →
     Stands position given os before t final Is
 item-stands position given os before after t final Is is h =
@@ -224,11 +224,11 @@ model-fits d form (Some dims) e v h =
       },
     )
 
-written-initial-fits : (given : Given) (os : List Override) (d : Data) (form : Form) (t : DataTree) (i : InitialTree) (e : AddTree) (v : Value) → i ≡ initials.Written e →
+written-initial-fits : (given : Given) (os : List Override) (d : Data) (form : Form) (t : DataDeclTree) (i : InitialTree) (e : AddTree) (v : Value) → i ≡ initials.Written e →
     initial_value given os d form t i ≡ Ok v → ItemIs (FitsByKind d.known form) d t.dims v
 written-initial-fits given os d form t i e v is h = model-fits d form t.dims e v (ap (initial_value given os d form t) (sym is) ∙ h)
 
-written-item-fits : (given : Given) (os : List Override) (t : DataTree) (d : Data) (e : AddTree) (v : Value) → t.initial ≡ initials.Written e → item_value given os t d ≡ Ok v → ItemFitsByKind t d v
+written-item-fits : (given : Given) (os : List Override) (t : DataDeclTree) (d : Data) (e : AddTree) (v : Value) → t.initial ≡ initials.Written e → item_value given os t d ≡ Ok v → ItemFitsByKind t d v
 unfolding item_value
 written-item-fits given os t d e v is h = written-initial-fits given os d (form_of t.kind d.known) t t.initial e v is h
 

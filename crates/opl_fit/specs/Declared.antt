@@ -1,7 +1,7 @@
 -- What the value of a declared item is, by its type and its dimensions as they are where it is declared.
 use Rattle.std.specs.Prelude.{◌≡◌, ℕ, List, [], length, Option, Some, None, Ok}
 use Rattle.std.specs.List.{AllByRecursion, slice_get}
-use Rattle.opl_tree.specs.declared.declaration.DataTree.{DataTree}
+use Rattle.opl_tree.specs.declared.declaration.DataDeclTree.{DataDeclTree}
 use Rattle.opl_tree.specs.declared.declaration.DeclTree.{DeclTree}
 use Rattle.opl_tree.specs.declared.declaration.DimsTree.{DimsTree}
 use Rattle.opl_value.specs.declared.value.Value.{Value}
@@ -26,7 +26,7 @@ ItemIs P d None v = P v
 ItemIs P d (Some dims) v = (axes : List Axis) × (axes_in d.environment [] (dims_of dims) ≡ Ok axes) × IsArrayOf P axes v
 
 -- an item among the data of a model: what the declarations before it come to, and the value with which it stands behind them
-pub record Stands (position : ℕ → ℕ) (given : Given) (os : List Override) (before : List DeclTree) (t : DataTree) (final : Data) (Is : Data → Value → Type 0) : Type 0 where
+pub record Stands (position : ℕ → ℕ) (given : Given) (os : List Override) (before : List DeclTree) (t : DataDeclTree) (final : Data) (Is : Data → Value → Type 0) : Type 0 where
   pub earlier : Data
   pub comes : with_decls given os before (no_data position) ≡ Ok earlier
   pub value : Value

@@ -1,7 +1,7 @@
 -- Laws of the values of data.
 use Rattle.std.specs.Prelude.{◌≡◌, ◌≤◌, ◌<◌, ◌⊎◌, ℕ, ℤ, ◌+ℤ◌, ◌*ℤ◌, ◌≤ℤ◌, pos, unsigned_abs, true, List, ◌∷◌, ◌++◌, length, Some, Ok, false}
 use Rattle.std.specs.List.{list_any, slice_get}
-use Rattle.opl_tree.specs.declared.declaration.DataTree.{DataTree}
+use Rattle.opl_tree.specs.declared.declaration.DataDeclTree.{DataDeclTree}
 use Rattle.opl_tree.specs.declared.declaration.DeclTree.{DeclTree}
 use Rattle.opl_tree.specs.declared.declaration.DeclTree.TheVariants as decls
 use Rattle.opl_tree.specs.declared.declaration.DimTree.{DimTree}
@@ -16,7 +16,7 @@ use Rattle.opl_type_rules.specs.Expressions.{Node, typing, used}
 use Rattle.opl_type_rules.specs.Expressions.Need.{data_alone}
 use Rattle.opl_typed_values.specs.Positions.{FieldsStand}
 use Rattle.opl_typed_values.specs.Visible.{AreOfTheirSorts}
-use Rattle.opl_data.specs.declared.tree.DataFile.{DataFile}
+use Rattle.opl_data.specs.declared.tree.DataTree.{DataTree}
 use Rattle.opl_data.specs.declared.tree.DataValue.{DataValue}
 use Rattle.opl_value.specs.declared.value.Value.{Value}
 use Rattle.opl_value.specs.Places.{place_in, place_of}
@@ -47,13 +47,13 @@ abbrev pub TakesNumbers : Form → Type 0
 TakesNumbers form = (form ≡ forms.Int) ⊎ ((low : ℤ) × (high : ℤ) × (form ≡ forms.Range low high))
 
 -- where numbers are assigned to an item only if its type takes them, its value fits its type
-abbrev pub ItemFits : List Override → DataTree → Data → Value → Type 0
+abbrev pub ItemFits : List Override → DataDeclTree → Data → Value → Type 0
 ItemFits os t d v =
     (is_assigned t.name.text os ≡ true → TakesNumbers (form_of t.kind d.known)) → ItemIs (Fits d.known (form_of t.kind d.known)) d t.dims v
 
 -- each item whose value a data file gives, or is assigned, has a value of the form of its type
 abbrev pub GivenValuesFit : Type 0
-GivenValuesFit = (position : ℕ → ℕ) (before after : List DeclTree) (t : DataTree) (at : ℕ) (files : List DataFile) (os : List Override) (final : Data) →
+GivenValuesFit = (position : ℕ → ℕ) (before after : List DeclTree) (t : DataDeclTree) (at : ℕ) (files : List DataTree) (os : List Override) (final : Data) →
     t.initial ≡ initials.External at → bound position (before ++ decls.Data t ∷ after) files os ≡ Ok final →
     (given : Given) × (all_given (before ++ decls.Data t ∷ after) files ≡ Ok given) × Stands position given os before t final (ItemFits os t)
 
@@ -61,12 +61,12 @@ GivenValuesFit = (position : ℕ → ℕ) (before after : List DeclTree) (t : Da
 abbrev pub FitsByKind : Known → Form → Value → Type 0
 FitsByKind known form v = HasKind known form v → Fits known form v
 
-abbrev pub ItemFitsByKind : DataTree → Data → Value → Type 0
+abbrev pub ItemFitsByKind : DataDeclTree → Data → Value → Type 0
 ItemFitsByKind t d v = ItemIs (FitsByKind d.known (form_of t.kind d.known)) d t.dims v
 
 -- each item whose value the model itself gives has a value of the form of its type, where it is of the kind of the type
 abbrev pub WrittenValuesFit : Type 0
-WrittenValuesFit = (position : ℕ → ℕ) (before after : List DeclTree) (t : DataTree) (e : AddTree) (files : List DataFile) (os : List Override) (final : Data) →
+WrittenValuesFit = (position : ℕ → ℕ) (before after : List DeclTree) (t : DataDeclTree) (e : AddTree) (files : List DataTree) (os : List Override) (final : Data) →
     t.initial ≡ initials.Written e → bound position (before ++ decls.Data t ∷ after) files os ≡ Ok final →
     (given : Given) × (all_given (before ++ decls.Data t ∷ after) files ≡ Ok given) × Stands position given os before t final (ItemFitsByKind t)
 

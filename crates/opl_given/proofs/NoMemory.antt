@@ -4,7 +4,7 @@ use Rattle.std.specs.Prelude.{bytes_eq, int_le, is_some, nat_eq, slice_get}
 use Rattle.std.specs.List.{list_all}
 use Rattle.opl_tree.specs.declared.declaration.DeclTree.{DeclTree}
 use Rattle.opl_tree.specs.declared.expression.NameTree.{NameTree}
-use Rattle.opl_data.specs.declared.tree.DataFile.{DataFile}
+use Rattle.opl_data.specs.declared.tree.DataTree.{DataTree}
 use Rattle.opl_data.specs.declared.tree.DataItem.{DataItem}
 use Rattle.opl_data.specs.declared.tree.DataPair.{DataPair}
 use Rattle.opl_data.specs.declared.tree.DataValue.{DataValue}
@@ -149,12 +149,12 @@ real_give_items : (awaiting : List Text) (file : ℕ) (given : Given) (items : L
 real_give_items awaiting file given [] = real_ok given
 real_give_items awaiting file given (i ∷ is) = real_then (give awaiting file given i) (λ more. give_items awaiting file more is) (real_give awaiting file given i) (λ more. real_give_items awaiting file more is)
 
-real_give_files : (awaiting : List Text) (file : ℕ) (given : Given) (fs : List DataFile) → Real (give_files awaiting file given fs)
+real_give_files : (awaiting : List Text) (file : ℕ) (given : Given) (fs : List DataTree) → Real (give_files awaiting file given fs)
 real_give_files awaiting file given [] = real_ok given
 real_give_files awaiting file given (f ∷ fs) =
     real_then (give_items awaiting file given f.items) (λ more. give_files awaiting (file + 1) more fs) (real_give_items awaiting file given f.items) (λ more. real_give_files awaiting (file + 1) more fs)
 
-pub real_all_given : (ts : List DeclTree) (files : List DataFile) → Real (all_given ts files)
+pub real_all_given : (ts : List DeclTree) (files : List DataTree) → Real (all_given ts files)
 unfolding all_given
 real_all_given ts files = real_give_files (awaited [] ts) 1 nothing_given files
 

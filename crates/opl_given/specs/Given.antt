@@ -6,7 +6,7 @@ use Rattle.opl_tree.specs.declared.declaration.EnumNamesTree.{EnumNamesTree}
 use Rattle.opl_tree.specs.declared.declaration.EnumNamesTree.TheVariants as names
 use Rattle.opl_tree.specs.declared.declaration.InitialTree.{InitialTree}
 use Rattle.opl_tree.specs.declared.declaration.InitialTree.TheVariants as initials
-use Rattle.opl_data.specs.declared.tree.DataFile.{DataFile}
+use Rattle.opl_data.specs.declared.tree.DataTree.{DataTree}
 use Rattle.opl_data.specs.declared.tree.DataItem.{DataItem}
 use Rattle.opl_data.specs.declared.tree.DataValue.{DataValue}
 use Rattle.opl_given.specs.declared.fault.BindFault.TheVariants as faults
@@ -74,10 +74,10 @@ give_items awaiting file given [] = Ok given
 give_items awaiting file given (item ∷ items) = then (give awaiting file given item) (λ more. give_items awaiting file more items)
 
 -- the items of all files, in order, of which the first has this number
-abbrev pub give_files : List Text → ℕ → Given → List DataFile → Bound Given
+abbrev pub give_files : List Text → ℕ → Given → List DataTree → Bound Given
 give_files awaiting file given [] = Ok given
 give_files awaiting file given (f ∷ fs) = then (give_items awaiting file given f.items) (λ more. give_files awaiting (file + 1) more fs)
 
 -- the values that data files give to what these declarations await
-unfoldable pub all_given : List DeclTree → List DataFile → Bound Given
+unfoldable pub all_given : List DeclTree → List DataTree → Bound Given
 all_given ts files = give_files (awaited [] ts) 1 nothing_given files

@@ -7,7 +7,7 @@ ghost use Rattle.opl_given.specs.Readings.{given_of, given_value_of, texts_of};
 
 use crate::fault::BindFault;
 use crate::names::Names;
-use opl_data::{DataFile, DataItem, DataValue};
+use opl_data::{DataItem, DataTree, DataValue};
 use opl_list::Seq;
 use opl_token::Name;
 use opl_tree::{DeclTree, EnumNamesTree, InitialTree};
@@ -183,7 +183,7 @@ fn next_file(file: u32) -> Result<u32, BindFault>
 pub fn all_given<'d>(
     alloc: Global,
     ts: &[DeclTree],
-    files: &'d [DataFile],
+    files: &'d [DataTree],
 ) -> Result<Given<'d>, BindFault>
     ensures { Gives given_of (spec.all_given ts.now files.now) result }
 {

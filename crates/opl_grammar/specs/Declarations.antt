@@ -4,7 +4,7 @@ use Rattle.opl_token.specs.declared.sign.Sign.TheVariants as signs
 use Rattle.opl_tree.specs.declared.keyword.Keyword.TheVariants as words
 use Rattle.opl_tree.specs.declared.declaration.ActivityTree.{ActivityTree}
 use Rattle.opl_tree.specs.declared.declaration.BoundsTree.{BoundsTree}
-use Rattle.opl_tree.specs.declared.declaration.DataTree.{DataTree}
+use Rattle.opl_tree.specs.declared.declaration.DataDeclTree.{DataDeclTree}
 use Rattle.opl_tree.specs.declared.declaration.DeclTree.{DeclTree}
 use Rattle.opl_tree.specs.declared.declaration.DeclTree.TheVariants as decls
 use Rattle.opl_tree.specs.declared.declaration.DimsTree.{DimsTree}
@@ -51,7 +51,7 @@ module _ (below : Rules) where
   initial = either (is_sign signs.Ellipsis) external (initials.Written <$> add below)
 
   -- TYPE NAME [DIMS] = INITIAL;
-  unfoldable pub data_decl : Parser DataTree
+  unfoldable pub data_decl : Parser DataDeclTree
   data_decl = do
     at ← here
     kind ← type_tree below

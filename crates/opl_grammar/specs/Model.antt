@@ -1,4 +1,4 @@
--- The rule of models, with 256 levels of nesting.
+-- The rule of models.
 use Rattle.std.specs.Prelude.{ℕ, List, Option, Some, None, Result, Ok}
 use Rattle.opl_token.specs.declared.token.Kind.{Kind}
 use Rattle.opl_token.specs.declared.token.Token.{Token}
@@ -11,6 +11,7 @@ use Rattle.opl_grammar.specs.Items.{ItemRules, item_rules, instr}
 use Rattle.opl_grammar.specs.Rules.{Rules, rules}
 use Rattle.opl_grammar.specs.Search.{StatementRules, statement_rules, search_section}
 use Rattle.opl_grammar.specs.Tables.{starts_decl}
+use Rattle.opl_tree.specs.Depth.{max_nesting}
 
 -- DECL* INSTR [SEARCH]
 unfoldable pub model : Rules → ItemRules → StatementRules → Parser ModelTree
@@ -41,10 +42,6 @@ whole_within levels = do
   t ← model (rules levels) (item_rules levels) (statement_rules levels)
   finish
   pure t
-
--- how many levels a model may open one in another
-abbrev pub max_nesting : ℕ
-max_nesting = 256
 
 -- a model, and nothing behind it
 abbrev pub whole : Parser ModelTree

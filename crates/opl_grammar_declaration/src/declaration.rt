@@ -12,9 +12,9 @@ use opl_level::{Below, Level, keep, name};
 use opl_list::{Boxed, Seq};
 use opl_token::Sign;
 use opl_tree::{
-    ActivityTree, AddTree, BoundsTree, DataTree, DeclTree, DimsTree, DiscreteTree, EnumNamesTree,
-    EnumTree, InitialTree, Keyword, RangeTree, ScheduleTree, StructTree, SyntaxFault, UnaryTree,
-    VariableTree, VariableTypeTree,
+    ActivityTree, AddTree, BoundsTree, DataDeclTree, DeclTree, DimsTree, DiscreteTree,
+    EnumNamesTree, EnumTree, InitialTree, Keyword, RangeTree, ScheduleTree, StructTree,
+    SyntaxFault, UnaryTree, VariableTree, VariableTypeTree,
 };
 
 /// A tree without its box.
@@ -82,7 +82,10 @@ fn initial<B: Below>(level: &Level<B>, cursor: &mut Cursor<'_>) -> Result<Initia
 
 /// `TYPE NAME [DIMS] = INITIAL;`
 #[tactic(auto, unfolding(opl_grammar::specs::Declarations::data_decl))]
-fn data_decl<B: Below>(level: &Level<B>, cursor: &mut Cursor<'_>) -> Result<DataTree, SyntaxFault>
+fn data_decl<B: Below>(
+    level: &Level<B>,
+    cursor: &mut Cursor<'_>,
+) -> Result<DataDeclTree, SyntaxFault>
     requires { B.is_ready level.now.below }
     ensures { Reads (rules.data_decl (B.rules level.now.below) cursor.old) result cursor.new }
 {
@@ -93,7 +96,7 @@ fn data_decl<B: Below>(level: &Level<B>, cursor: &mut Cursor<'_>) -> Result<Data
     let (parts, ()) = keep(parts, cursor.expect_sign(Sign::Equal))?;
     let parts = keep(parts, initial(level, cursor))?;
     let ((((kind, name), dims), initial), ()) = keep(parts, cursor.expect_sign(Sign::Semicolon))?;
-    Ok(DataTree {
+    Ok(DataDeclTree {
         at,
         kind,
         name,

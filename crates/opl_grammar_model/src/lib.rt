@@ -3,4 +3,4 @@
 
 mod model;
 
-pub use model::{MAX_NESTING, read_model};
+pub use model::read_model;

@@ -15,11 +15,8 @@ use opl_grammar_statement::search_section;
 use opl_level::{Level, keep};
 use opl_phrase::Phrases;
 use opl_token::Token;
-use opl_tree::{Keyword, ModelTree, SearchTree, SyntaxFault};
+use opl_tree::{Keyword, MAX_NESTING, ModelTree, SearchTree, SyntaxFault};
 use std::alloc::Global;
-
-/// How many levels a model may open one in another.
-pub const MAX_NESTING: u32 = 256;
 
 /// `SEARCH` or nothing, where so many levels may be opened
 fn optional_search(
@@ -68,7 +65,7 @@ fn whole(alloc: Global, cursor: &mut Cursor<'_>) -> Result<ModelTree, SyntaxFaul
 }
 
 /// The tree of the tokens of a text with `end` bytes, by the rules of the grammar. `Syntax` holds the place of the first
-/// token that does not fit, or `end` where more tokens are wanted; `TooDeep` the place of the token that opens level 257.
+/// token that does not fit, or `end` where more tokens are wanted; `TooDeep` the place of the token that opens a level too many.
 pub fn read_model(alloc: Global, tokens: &[Token], end: u32) -> Result<ModelTree, SyntaxFault>
     ensures { ReadsAll (rules.whole (start tokens.now end)) result }
 {

@@ -2,7 +2,7 @@
 use Rattle.std.proofs.Common.{◌≡◌, ℕ, not, List, [], ◌∷◌, Option, None, Some, sym, subst}
 use Rattle.opl_tree.specs.declared.declaration.ActivityTree.{ActivityTree}
 use Rattle.opl_tree.specs.declared.declaration.BoundsTree.{BoundsTree}
-use Rattle.opl_tree.specs.declared.declaration.DataTree.{DataTree}
+use Rattle.opl_tree.specs.declared.declaration.DataDeclTree.{DataDeclTree}
 use Rattle.opl_tree.specs.declared.declaration.DeclTree.{DeclTree}
 use Rattle.opl_tree.specs.declared.declaration.DeclTree.TheVariants as decls
 use Rattle.opl_tree.specs.declared.declaration.DimTree.{DimTree}
@@ -116,7 +116,7 @@ pub real_maybe_number : (sc : Scope) (t : Option AddTree) → Real (maybe_number
 real_maybe_number sc None = real_ok []
 real_maybe_number sc (Some t) = real_number sc t
 
-real_data : (sc : Scope) (t : DataTree) → Real (data_decl sc t)
+real_data : (sc : Scope) (t : DataDeclTree) → Real (data_decl sc t)
 real_data sc t =
     real_then _ _ (real_written_type t.kind sc) (λ s. real_then _ _ (real_fresh sc t.name) (λ u. real_then _ _ (real_shape sc t.dims) (λ d. real_then _ _ (real_initial_kinds d.inner s (cell_indices d.dims) t.initial) (λ kinds. real_ok _))))
 

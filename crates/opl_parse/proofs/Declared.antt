@@ -5,7 +5,7 @@ use Rattle.opl_token.specs.declared.sign.Sign.{Sign}
 use Rattle.opl_token.specs.declared.sign.Sign.TheVariants as signs
 use Rattle.opl_token.specs.declared.token.Kind.{Kind}
 use Rattle.opl_tree.specs.declared.declaration.DeclTree.{DeclTree}
-use Rattle.opl_tree.specs.declared.declaration.DataTree.{DataTree}
+use Rattle.opl_tree.specs.declared.declaration.DataDeclTree.{DataDeclTree}
 use Rattle.opl_tree.specs.declared.declaration.InitialTree.{InitialTree}
 use Rattle.opl_tree.specs.declared.declaration.TypeTree.{TypeTree}
 use Rattle.opl_tree.specs.declared.declaration.DimsTree.{DimsTree}
@@ -144,10 +144,10 @@ initial_law {n} {r} {s} R = plain_law (either_law (is_sign signs.Ellipsis) (plac
   begins = λ F k h. h;
 }) (gd.initial r) (gd.initial s) (initial_is r) (initial_is s)
 
-abbrev pub data_shape : Shape DataTree
+abbrev pub data_shape : Shape DataDeclTree
 data_shape = plain marks_data (Any) (First starts_type)
 
-abbrev data_to : ℕ × ((TypeTree) × ((NameTree) × ((Option DimsTree) × ((Unit {0}) × ((InitialTree) × (Unit {0})))))) → DataTree
+abbrev data_to : ℕ × ((TypeTree) × ((NameTree) × ((Option DimsTree) × ((Unit {0}) × ((InitialTree) × (Unit {0})))))) → DataDeclTree
 data_to c = record { at = c.0; kind = c.1.0; name = c.1.1.0; dims = c.1.1.1.0; initial = c.1.1.1.1.1.0 }
 
 data_is : (r : Rules) (i : Input) → gd.data_decl r i ≡ mapped data_to (placed (pair (g.type_tree r) (pair g.name (pair (gd.optional_dims r) (pair (sign signs.Equal) (pair (gd.initial r) (sign signs.Semicolon))))))) i
@@ -479,7 +479,7 @@ schedule_starts schedule_ends.Horizon = refl
 -- ---- a declaration
 
 abbrev DeclParts : Type 0
-DeclParts = DataTree ⊎ (RangeTree ⊎ (EnumTree ⊎ (StructTree ⊎ (VariableTree ⊎ (ActivityTree ⊎ (UnaryTree ⊎ (DiscreteTree ⊎ (ScheduleTree))))))))
+DeclParts = DataDeclTree ⊎ (RangeTree ⊎ (EnumTree ⊎ (StructTree ⊎ (VariableTree ⊎ (ActivityTree ⊎ (UnaryTree ⊎ (DiscreteTree ⊎ (ScheduleTree))))))))
 
 abbrev decl_to : DeclParts → DeclTree
 decl_to (inl t) = decls.Data t

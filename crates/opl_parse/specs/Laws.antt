@@ -18,7 +18,7 @@ OneStop = of_marks.OneStop marks_model
 abbrev pub OneOpening : Type 0
 OneOpening = of_marks.OneOpening marks_model
 
--- tokens have a tree that nests at most 256 levels, or stop somewhere and open no level too many, or open one
+-- tokens have a tree that does not nest too deep, or stop somewhere and open no level too many, or open one
 abbrev pub ParseTotal : Type 0
 ParseTotal = of_marks.ParseTotal marks_model
 

@@ -6,8 +6,8 @@ use opl_token::Token;
 use opl_tree::{ModelTree, SyntaxFault};
 use std::alloc::Global;
 
-/// The tree of the tokens of a text with `end` bytes. `TooDeep` holds the place of the first token that opens the 257th
-/// level of nesting. `Syntax` comes where there is no such token; it holds the place of the token that follows the longest
+/// The tree of the tokens of a text with `end` bytes. `TooDeep` holds the place of the first token that opens a level
+/// beyond `MAX_NESTING`. `Syntax` comes where there is no such token; it holds the place of the token that follows the longest
 /// beginning of the tokens that a model begins with, or `end` if none follows.
 #[tactic(auto, using(crate::proofs::TreeLaws::read_answers))]
 pub fn parse_model(alloc: Global, tokens: &[Token], end: u32) -> Result<ModelTree, SyntaxFault>

@@ -5,7 +5,7 @@ use Rattle.opl_bind.proofs.FilledArrays.{arrays_filled}
 use Rattle.opl_bind.specs.Bind.{Data, bound}
 use Rattle.opl_complete.proofs.Ground.{core_is_ground}
 use Rattle.opl_complete.specs.Complete.{IsAccepted, SearchBegins, SearchFindsAll, ValuesMean}
-use Rattle.opl_data.specs.declared.tree.DataFile.{DataFile}
+use Rattle.opl_data.specs.declared.tree.DataTree.{DataTree}
 use Rattle.opl_eval.proofs.Items.{items-keyed}
 use Rattle.opl_eval.specs.ArrayKeys.{IsKeyed}
 use Rattle.opl_eval.specs.Evaluation.{Environment}
@@ -84,7 +84,7 @@ forms-came tree env vs goal cs e =
     grind rules
 
 -- the core of an accepted model is ready for its search
-pub subject-ready : SearchFindsAll → SearchBegins → ValuesMean → (tree : ModelTree) (files : List DataFile) (d : Data) (vs : List VariableItem) (goal : Option Goal) (cs : List Cons) → All (λ i. IsKeyed i.value) d.environment.items →
+pub subject-ready : SearchFindsAll → SearchBegins → ValuesMean → (tree : ModelTree) (files : List DataTree) (d : Data) (vs : List VariableItem) (goal : Option Goal) (cs : List Cons) → All (λ i. IsKeyed i.value) d.environment.items →
     bound (positions tree) tree.decls files [] ≡ Ok d → variables_in d.environment [] tree.decls ≡ Ok vs → is_clean_whole vs (names_of no_names tree.decls) tree.instr ≡ true →
     forms_of tree d.environment vs ≡ Ok (goal, cs) → IsReady (subject_of tree d vs goal cs)
 subject-ready search_finds_all search_begins values_mean tree files d vs goal cs keyed given made clean formed =

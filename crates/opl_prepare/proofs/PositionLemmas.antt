@@ -5,7 +5,7 @@ use Rattle.opl_given.specs.Faults as of_data
 use Rattle.opl_bind.specs.Readings.{data_of}
 use Rattle.opl_given.specs.declared.assigned.Override.{Override}
 use Rattle.opl_given.specs.declared.fault.BindFault.{BindFault}
-use Rattle.opl_data.specs.declared.tree.DataFile.{DataFile}
+use Rattle.opl_data.specs.declared.tree.DataTree.{DataTree}
 use Rattle.opl_fields.specs.Fields.{fields}
 use Rattle.opl_fields.specs.declared.place.FieldPlace.{FieldPlace}
 use Rattle.opl_tree.specs.declared.declaration.DeclTree.{DeclTree}
@@ -27,7 +27,7 @@ positions-begin tree kinds found n place typed is none =
     (λ i. position_or (none i) place (is i)) ∙ ap (λ ks. position_or 0 place (fields tree (kinds_or_none ks))) (sym typed)
 
 -- the data of a model came to an end
-pub data-ended : (tree : ModelTree) (files fs : List DataFile) (ds : List DeclTree) (os : List Override) (p : ℕ → ℕ) (fault : BindFault) (stop : Stop) →
+pub data-ended : (tree : ModelTree) (files fs : List DataTree) (ds : List DeclTree) (os : List Override) (p : ℕ → ℕ) (fault : BindFault) (stop : Stop) →
     ((place : ℕ) → p place ≡ positions tree place) → ds ≡ tree.decls → fs ≡ files → os ≡ [] → of_data.Gives data_of (bound p ds fs os) (Err fault) →
     stop ≡ stop_at (refusal_of_data fault) → Gives (HasData tree files) (Err stop)
 data-ended tree files fs ds os p fault stop same decls these none h told =

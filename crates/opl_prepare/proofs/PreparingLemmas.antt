@@ -2,7 +2,7 @@
 use Rattle.std.proofs.Common.{◌≡◌, refl, ◌∙◌, subst, List, Result, Ok, Err, inl, inr, All}
 use Rattle.opl_bind.specs.Bind.{Data}
 use Rattle.opl_complete.specs.Complete.{SearchBegins, SearchFindsAll, ValuesMean}
-use Rattle.opl_data.specs.declared.tree.DataFile.{DataFile}
+use Rattle.opl_data.specs.declared.tree.DataTree.{DataTree}
 use Rattle.opl_eval.specs.ArrayKeys.{IsKeyed}
 use Rattle.opl_expr.specs.declared.model.Core.{Core}
 use Rattle.opl_meaning.specs.declared.variable.VariableItem.{VariableItem}
@@ -35,20 +35,20 @@ then-unposed P Q WriteFault p = p
 then-unposed P Q OutOfMemory p = tt
 
 -- what does not run yet ended it
-pub runs-stopped : (tree : ModelTree) (files : List DataFile) (stop : Stop) → Gives (Runs tree) (Err stop) → GivesPosed (Prepared tree files) (Err stop)
+pub runs-stopped : (tree : ModelTree) (files : List DataTree) (stop : Stop) → Gives (Runs tree) (Err stop) → GivesPosed (Prepared tree files) (Err stop)
 runs-stopped tree files stop h = then-unposed (Runs tree) (λ u. Bound tree files) stop h
 
-module _ (tree : ModelTree) (files these : List DataFile) (same : these ≡ files) (ran : Runs tree (Ok tt)) where
+module _ (tree : ModelTree) (files these : List DataTree) (same : these ≡ files) (ran : Runs tree (Ok tt)) where
   -- the data came to an end
   pub data-stopped : (stop : Stop) → Gives (HasData tree these) (Err stop) → GivesPosed (Prepared tree files) (Err stop)
   data-stopped stop h =
       then-posed (Runs tree) (λ u. Bound tree files) tt (Err stop) ran (then-unposed (HasData tree files) (Declared tree) stop
-      (subst (λ (fs : List DataFile). Gives (HasData tree fs) (Err stop)) same h))
+      (subst (λ (fs : List DataTree). Gives (HasData tree fs) (Err stop)) same h))
 
   module _ (d : Data) (given : HasData tree these (Ok d)) where
     -- the data of these files
     of_files : HasData tree files (Ok d)
-    of_files = subst (λ (fs : List DataFile). HasData tree fs (Ok d)) same given
+    of_files = subst (λ (fs : List DataTree). HasData tree fs (Ok d)) same given
 
     behind_data : (r : Result Problem Stop) → GivesPosed (Declared tree d) r → GivesPosed (Prepared tree files) r
     behind_data r h = then-posed (Runs tree) (λ u. Bound tree files) tt r ran (then-posed (HasData tree files) (Declared tree) d r of_files h)

@@ -1,7 +1,7 @@
 -- Models and data files come to at most one outcome.
 use Rattle.std.proofs.Common.{◌≡◌, refl, sym, ap, ◌∙◌, true, false, List, Option, Some, None, Result, Ok, Err, inl}
 use Rattle.opl_bind.specs.Bind.{Data}
-use Rattle.opl_data.specs.declared.tree.DataFile.{DataFile}
+use Rattle.opl_data.specs.declared.tree.DataTree.{DataTree}
 use Rattle.opl_meaning.specs.declared.variable.VariableItem.{VariableItem}
 use Rattle.opl_tree.specs.declared.model.ModelTree.{ModelTree}
 use Rattle.opl_files.specs.declared.refusal.Fault.TheVariants.{NotYet}
@@ -43,5 +43,5 @@ tested_one tree d vs = then_one (IsClean tree vs) _ (clean_one tree vs) (λ u. g
 declared_one : (tree : ModelTree) (d : Data) → IsOne (Declared tree d)
 declared_one tree d = then_one _ _ (comes_one _ _) (tested_one tree d)
 
-pub prepared_one : (tree : ModelTree) (files : List DataFile) → IsOne (Prepared tree files)
+pub prepared_one : (tree : ModelTree) (files : List DataTree) → IsOne (Prepared tree files)
 prepared_one tree files = then_one (Runs tree) _ (runs_one tree) (λ u. then_one _ _ (comes_one _ _) (declared_one tree))

@@ -2,7 +2,7 @@
 use Rattle.std.proofs.Common.{◌≡◌, ◌≢◌, ◌<◌, ◌≤◌, refl, ap, ◌∙◌, ℕ, Bool, true, false, nat_lt, List, [], length, Option, Some, None, Result, Ok, Err, inl, inr, arith}
 use Rattle.opl_bind.specs.Bind.{Data, bound}
 use Rattle.opl_bind.proofs.NoMemoryBind.{never_memory as bound_never}
-use Rattle.opl_data.specs.declared.tree.DataFile.{DataFile}
+use Rattle.opl_data.specs.declared.tree.DataTree.{DataTree}
 use Rattle.opl_optimum.specs.Clean.{is_clean_whole}
 use Rattle.opl_eval.specs.declared.fault.EvalFault.{EvalFault}
 use Rattle.opl_eval.specs.declared.fault.EvalFault.TheVariants as evaluation
@@ -73,7 +73,7 @@ forms_told (large at) some = (At faults.TooLarge 0 at, refl)
 forms_told (deep at) some = (At faults.LimitDepth 0 at, refl)
 forms_told (many at) some = (At faults.LimitNodes 0 at, refl)
 
-data_comes : (tree : ModelTree) (files : List DataFile) → Comes (HasData tree files)
+data_comes : (tree : ModelTree) (files : List DataTree) → Comes (HasData tree files)
 data_comes tree files = made_comes refusal_of_data _ (bound (positions tree) tree.decls files []) refl (λ fault e.
     data_told fault (λ is. (bound_never (positions tree) tree.decls files []).0 (e ∙ ap Err is)) (λ is. (bound_never (positions tree) tree.decls files []).1 (e ∙ ap Err is)))
 
@@ -97,5 +97,5 @@ tested_comes never goals_never tree d vs = then_comes (IsClean tree vs) _ (clean
 declared_comes : FormsNeverMemory → GoalsNeverMemory → (tree : ModelTree) (d : Data) → Comes (Declared tree d)
 declared_comes never goals_never tree d = then_comes (HasVariables tree d) _ (variables_come tree d) (tested_comes never goals_never tree d)
 
-pub prepared_comes : FormsNeverMemory → GoalsNeverMemory → (tree : ModelTree) (files : List DataFile) → Comes (Prepared tree files)
+pub prepared_comes : FormsNeverMemory → GoalsNeverMemory → (tree : ModelTree) (files : List DataTree) → Comes (Prepared tree files)
 prepared_comes never goals_never tree files = then_comes (Runs tree) _ (runs_by tree (not_yet tree) refl) (λ u. then_comes (HasData tree files) _ (data_comes tree files) (declared_comes never goals_never tree))

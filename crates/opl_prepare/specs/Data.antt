@@ -4,7 +4,7 @@ use Rattle.opl_bind.specs.Bind.{Data, bound}
 use Rattle.opl_complete.specs.Complete.{problem_of}
 use Rattle.opl_given.specs.declared.fault.BindFault.{BindFault}
 use Rattle.opl_given.specs.declared.fault.BindFault.TheVariants as binding
-use Rattle.opl_data.specs.declared.tree.DataFile.{DataFile}
+use Rattle.opl_data.specs.declared.tree.DataTree.{DataTree}
 use Rattle.opl_eval.specs.declared.fault.EvalFault.{EvalFault}
 use Rattle.opl_eval.specs.declared.fault.EvalFault.TheVariants as evaluation
 use Rattle.opl_expr.specs.declared.forms.Cons.{Cons}
@@ -80,7 +80,7 @@ Comes {E = E} refusal made (Err e) = (fault : E) × (refusal fault ≡ Some e) �
 -- ---- the data and the variables
 
 -- the data of a model
-abbrev pub HasData : ModelTree → List DataFile → Stage Data
+abbrev pub HasData : ModelTree → List DataTree → Stage Data
 HasData tree files = Comes refusal_of_data (bound (positions tree) tree.decls files [])
 
 -- its decision variables
@@ -123,9 +123,9 @@ Tested tree d vs = Then (IsClean tree vs) (λ u. Grounded tree d vs)
 abbrev pub Declared : ModelTree → Data → Stage Subject
 Declared tree d = Then (HasVariables tree d) (Tested tree d)
 
-abbrev pub Bound : ModelTree → List DataFile → Stage Subject
+abbrev pub Bound : ModelTree → List DataTree → Stage Subject
 Bound tree files = Then (HasData tree files) (Declared tree)
 
 -- what a model with types and its data files come to: what does not run yet comes first, then the data, the variables, the objective and the constraints
-abbrev pub Prepared : ModelTree → List DataFile → Stage Subject
+abbrev pub Prepared : ModelTree → List DataTree → Stage Subject
 Prepared tree files = Then (Runs tree) (λ u. Bound tree files)

@@ -8,7 +8,7 @@ ghost use Rattle.opl_prepare.specs.Prepared.{read_as, stop_at};
 ghost use Rattle.opl_files.specs.Stage.{Gives};
 
 use opl_bind::{BindFault, DataValues, bind};
-use opl_data::DataFile;
+use opl_data::DataTree;
 use opl_eval::{EvalFault, Positions};
 use opl_fields::fields;
 use opl_files::{Fault, ItemFault, Refusal, Stop, refused};
@@ -70,7 +70,7 @@ fn positions(alloc: Global, typed: &Typed) -> Result<Positions, AllocError>
 pub fn data<'a>(
     alloc: Global,
     typed: &'a Typed,
-    files: &'a [DataFile],
+    files: &'a [DataTree],
 ) -> Result<DataValues<'a>, Stop>
     ensures { Gives (HasData typed.now.tree files.now) (read_as data_of result) }
 {

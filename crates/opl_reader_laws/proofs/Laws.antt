@@ -10,7 +10,7 @@ use Rattle.opl_grammar.specs.Input.{Input, syntax, too_deep, Outcome, Parser}
 use Rattle.opl_grammar.specs.Input.{Reads as GivenBy}
 use Rattle.opl_grammar.specs.Model as gm
 use Rattle.opl_tree.specs.Marks.{Marks}
-use Rattle.opl_tree.specs.Depth.{depth_of}
+use Rattle.opl_tree.specs.Depth.{depth_of, max_nesting}
 use Rattle.opl_tree.specs.Marks as mk
 use Rattle.opl_reader_laws.specs.Reading as rd
 use Rattle.opl_reader_laws.proofs.Levels.{fits_of, depth_fits}
@@ -107,32 +107,32 @@ module _ {T : Type 0} (marks : T → Marks) (begins : (Option Kind → Type 0) �
 
   -- ---- a tree, a stop or a level too many
 
-  by_outcome : (tokens : List Token) (end : ℕ) (o : Outcome T) → read 256 (start tokens end) ≡ o → ((t : T) × rd.IsTreeOf marks t tokens end × (depth_of (marks t) ≤ 256)) ⊎ (((at : ℕ) × rd.StopsAt marks tokens end at × rd.NoneOpens marks 256 tokens) ⊎ ((at : ℕ) × rd.OpensAt marks 256 tokens at))
-  by_outcome tokens end (Ok c) e = let t = whole_ok marks begins read G 256 tokens end c.0 c.1 e in inl (c.0, t.0, depth_fits 256 (marks c.0) t.1)
-  by_outcome tokens end (Err (syntax at)) e = let w = whole_stops marks begins read G 256 tokens end at e in inr (inl (at, w.0, w.1))
-  by_outcome tokens end (Err (too_deep at)) e = inr (inr (at, whole_opens marks begins read G 256 tokens end at e))
+  by_outcome : (tokens : List Token) (end : ℕ) (o : Outcome T) → read max_nesting (start tokens end) ≡ o → ((t : T) × rd.IsTreeOf marks t tokens end × (depth_of (marks t) ≤ max_nesting)) ⊎ (((at : ℕ) × rd.StopsAt marks tokens end at × rd.NoneOpens marks max_nesting tokens) ⊎ ((at : ℕ) × rd.OpensAt marks max_nesting tokens at))
+  by_outcome tokens end (Ok c) e = let t = whole_ok marks begins read G max_nesting tokens end c.0 c.1 e in inl (c.0, t.0, depth_fits max_nesting (marks c.0) t.1)
+  by_outcome tokens end (Err (syntax at)) e = let w = whole_stops marks begins read G max_nesting tokens end at e in inr (inl (at, w.0, w.1))
+  by_outcome tokens end (Err (too_deep at)) e = inr (inr (at, whole_opens marks begins read G max_nesting tokens end at e))
 
   pub parse_total : rd.ParseTotal marks
-  parse_total tokens end = by_outcome tokens end (read 256 (start tokens end)) refl
+  parse_total tokens end = by_outcome tokens end (read max_nesting (start tokens end)) refl
 
   -- ---- what the parser answers
 
-  pub parse_answers : (tokens : List Token) (end : ℕ) (r : Result T SyntaxFault) (new : Input) → GivenBy (read 256 (start tokens end)) r new → rd.ParseAnswers marks tokens end r
-  parse_answers tokens end (Ok t) new h = let w = whole_ok marks begins read G 256 tokens end t new h in (w.0, depth_fits 256 (marks t) w.1)
-  parse_answers tokens end (Err (Syntax at)) new h = whole_stops marks begins read G 256 tokens end at h
-  parse_answers tokens end (Err (TooDeep at)) new h = whole_opens marks begins read G 256 tokens end at h
+  pub parse_answers : (tokens : List Token) (end : ℕ) (r : Result T SyntaxFault) (new : Input) → GivenBy (read max_nesting (start tokens end)) r new → rd.ParseAnswers marks tokens end r
+  parse_answers tokens end (Ok t) new h = let w = whole_ok marks begins read G max_nesting tokens end t new h in (w.0, depth_fits max_nesting (marks t) w.1)
+  parse_answers tokens end (Err (Syntax at)) new h = whole_stops marks begins read G max_nesting tokens end at h
+  parse_answers tokens end (Err (TooDeep at)) new h = whole_opens marks begins read G max_nesting tokens end at h
   parse_answers tokens end (Err OutOfMemory) new h = tt
 
-  pub read_answers : (tokens : List Token) (end : ℕ) (r : Result T SyntaxFault) → gm.ReadsAll (read 256 (gm.start tokens end)) r → rd.ParseAnswers marks tokens end r
+  pub read_answers : (tokens : List Token) (end : ℕ) (r : Result T SyntaxFault) → gm.ReadsAll (read max_nesting (gm.start tokens end)) r → rd.ParseAnswers marks tokens end r
   read_answers tokens end r h = parse_answers tokens end r h.rest h.reads
 
   -- ---- both ways: what stands there decides what the parser answers
 
   -- tokens that open a level too many are never read, and never said to stop
-  pub opens_answers : (tokens : List Token) (end at : ℕ) (r : Result T SyntaxFault) → rd.OpensAt marks 256 tokens at → rd.ParseAnswers marks tokens end r → (r ≡ Err (TooDeep at)) ⊎ (r ≡ Err OutOfMemory)
-  opens_answers tokens end at (Ok t) o h = let d = deep_or_tree 256 tokens end t at h.0 o in let e = h.1 in absurd (omega arith)
+  pub opens_answers : (tokens : List Token) (end at : ℕ) (r : Result T SyntaxFault) → rd.OpensAt marks max_nesting tokens at → rd.ParseAnswers marks tokens end r → (r ≡ Err (TooDeep at)) ⊎ (r ≡ Err OutOfMemory)
+  opens_answers tokens end at (Ok t) o h = let d = deep_or_tree max_nesting tokens end t at h.0 o in let e = h.1 in absurd (omega arith)
   opens_answers tokens end at (Err (Syntax x)) o h = absurd (h.1 at o)
-  opens_answers tokens end at (Err (TooDeep x)) o h = inl (ap (λ y. Err (TooDeep y)) (one_opening 256 tokens x at h o))
+  opens_answers tokens end at (Err (TooDeep x)) o h = inl (ap (λ y. Err (TooDeep y)) (one_opening max_nesting tokens x at h o))
   opens_answers tokens end at (Err OutOfMemory) o h = inr refl
 
   -- no token that does not fit stands before the level too many: up to the token that opens it, the tokens begin some tree

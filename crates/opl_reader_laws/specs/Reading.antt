@@ -8,7 +8,7 @@ use Rattle.opl_tree.specs.declared.fault.SyntaxFault.TheVariants.{Syntax, TooDee
 use Rattle.opl_tree.specs.Reading.{kinds, place_of}
 use Rattle.opl_tree.specs.Marks.{place, token, unbraced, opens, Marks}
 use Rattle.opl_tree.specs.Spelling.{kinds_of, AllProper}
-use Rattle.opl_tree.specs.Depth.{depth_of}
+use Rattle.opl_tree.specs.Depth.{depth_of, max_nesting}
 
 -- each node's place is that of the token that comes next
 abbrev pub AtPlaces : Marks → List Token → ℕ → Type 0
@@ -81,12 +81,12 @@ module _ {T : Type 0} (marks : T → Marks) where
   abbrev pub NoneOpens : ℕ → List Token → Type 0
   NoneOpens levels tokens = (at : ℕ) → OpensAt levels tokens at → ⊥
 
-  -- The tree of the tokens, which nests at most 256 levels; or the place where they stop, where no token opens a level too many;
-  -- or the place of the first token that opens the 257th level. Want of memory may come at any time.
+  -- The tree of the tokens, which does not nest too deep; or the place where they stop, where no token opens a level too many;
+  -- or the place of the first token that opens one. Want of memory may come at any time.
   abbrev pub ParseAnswers : List Token → ℕ → Result T SyntaxFault → Type 0
-  ParseAnswers tokens end (Ok t) = IsTreeOf t tokens end × (depth_of (marks t) ≤ 256)
-  ParseAnswers tokens end (Err (Syntax at)) = StopsAt tokens end at × NoneOpens 256 tokens
-  ParseAnswers tokens end (Err (TooDeep at)) = OpensAt 256 tokens at
+  ParseAnswers tokens end (Ok t) = IsTreeOf t tokens end × (depth_of (marks t) ≤ max_nesting)
+  ParseAnswers tokens end (Err (Syntax at)) = StopsAt tokens end at × NoneOpens max_nesting tokens
+  ParseAnswers tokens end (Err (TooDeep at)) = OpensAt max_nesting tokens at
   ParseAnswers tokens end (Err OutOfMemory) = Unit {0}
 
   -- tokens have at most one tree
@@ -105,9 +105,9 @@ module _ {T : Type 0} (marks : T → Marks) where
   abbrev pub OneOpening : Type 0
   OneOpening = (levels : ℕ) (tokens : List Token) (at other : ℕ) → OpensAt levels tokens at → OpensAt levels tokens other → at ≡ other
 
-  -- tokens have a tree that nests at most 256 levels, or stop somewhere and open no level too many, or open one
+  -- tokens have a tree that does not nest too deep, or stop somewhere and open no level too many, or open one
   abbrev pub ParseTotal : Type 0
-  ParseTotal = (tokens : List Token) (end : ℕ) → ((t : T) × IsTreeOf t tokens end × (depth_of (marks t) ≤ 256)) ⊎ (((at : ℕ) × StopsAt tokens end at × NoneOpens 256 tokens) ⊎ ((at : ℕ) × OpensAt 256 tokens at))
+  ParseTotal = (tokens : List Token) (end : ℕ) → ((t : T) × IsTreeOf t tokens end × (depth_of (marks t) ≤ max_nesting)) ⊎ (((at : ℕ) × StopsAt tokens end at × NoneOpens max_nesting tokens) ⊎ ((at : ℕ) × OpensAt max_nesting tokens at))
 
   -- the tree of tokens that open a level too many nests deeper
   abbrev pub DeepOrTree : Type 0

@@ -27,7 +27,7 @@ use Rattle.opl_tree.specs.declared.expression.ParamsTree.{ParamsTree}
 use Rattle.opl_tree.specs.declared.expression.GroupStep.{GroupStep}
 use Rattle.opl_tree.specs.declared.expression.GroupTree.{GroupTree}
 use Rattle.opl_tree.specs.declared.expression.PatternTree.{PatternTree}
-use Rattle.opl_tree.specs.declared.declaration.DataTree.{DataTree}
+use Rattle.opl_tree.specs.declared.declaration.DataDeclTree.{DataDeclTree}
 use Rattle.opl_tree.specs.declared.declaration.TypeTree.{TypeTree}
 use Rattle.opl_tree.specs.declared.declaration.DimsTree.{DimsTree}
 use Rattle.opl_tree.specs.declared.declaration.DimTree.{DimTree}
@@ -334,7 +334,7 @@ pub marks_initial-Written : (value : AddTree) → marks_initial (initials.Writte
 unfolding marks_initial
 marks_initial-Written value = refl
 
-pub marks_data-is : (t : DataTree) → marks_data t ≡ place t.at ∷ (marks_type t.kind ++ (marks_name t.name ++ (written (option_map marks_dims t.dims) ++ token (sign signs.Equal) ∷ (marks_initial t.initial ++ token (sign signs.Semicolon) ∷ []))))
+pub marks_data-is : (t : DataDeclTree) → marks_data t ≡ place t.at ∷ (marks_type t.kind ++ (marks_name t.name ++ (written (option_map marks_dims t.dims) ++ token (sign signs.Equal) ∷ (marks_initial t.initial ++ token (sign signs.Semicolon) ∷ []))))
 unfolding marks_data
 marks_data-is t = refl
 
@@ -394,7 +394,7 @@ pub marks_schedule-is : (t : ScheduleTree) → marks_schedule t ≡ place t.at �
 unfolding marks_schedule
 marks_schedule-is t = refl
 
-pub marks_decl-Data : (inner : DataTree) → marks_decl (decls.Data inner) ≡ marks_data inner
+pub marks_decl-Data : (inner : DataDeclTree) → marks_decl (decls.Data inner) ≡ marks_data inner
 unfolding marks_decl
 marks_decl-Data inner = refl
 

@@ -52,7 +52,7 @@ use Rattle.opl_tree.specs.declared.expression.GroupStep.{GroupStep}
 use Rattle.opl_tree.specs.declared.expression.GroupTree.{GroupTree}
 use Rattle.opl_tree.specs.declared.expression.PatternTree.{PatternTree}
 use Rattle.opl_tree.specs.declared.declaration.DeclTree.{DeclTree}
-use Rattle.opl_tree.specs.declared.declaration.DataTree.{DataTree}
+use Rattle.opl_tree.specs.declared.declaration.DataDeclTree.{DataDeclTree}
 use Rattle.opl_tree.specs.declared.declaration.InitialTree.{InitialTree}
 use Rattle.opl_tree.specs.declared.declaration.TypeTree.{TypeTree}
 use Rattle.opl_tree.specs.declared.declaration.DimsTree.{DimsTree}
@@ -452,7 +452,7 @@ marks_initial (initials.External at) = place at ∷ token (sign signs.Ellipsis) 
 marks_initial (initials.Written value) = marks_add value
 
 -- `TYPE NAME [DIMS] = INITIAL;`
-unfoldable pub marks_data : DataTree → Marks
+unfoldable pub marks_data : DataDeclTree → Marks
 marks_data t = place t.at ∷ (marks_type t.kind ++ (marks_name t.name ++ (written (option_map marks_dims t.dims) ++ token (sign signs.Equal) ∷ (marks_initial t.initial ++ token (sign signs.Semicolon) ∷ []))))
 
 -- `range NAME ADD..ADD;`

@@ -5,7 +5,7 @@ use opl_list::{Boxed, Seq};
 /// A declaration.
 #[derive(Drop)]
 pub enum DeclTree {
-    Data(DataTree),
+    Data(DataDeclTree),
     Range(RangeTree),
     Enumeration(EnumTree),
     Structure(StructTree),
@@ -18,7 +18,7 @@ pub enum DeclTree {
 
 /// `TYPE NAME [DIMS] = INITIAL;`
 #[derive(Drop)]
-pub struct DataTree {
+pub struct DataDeclTree {
     pub at: u32,
     pub kind: TypeTree,
     pub name: NameTree,

@@ -11,9 +11,9 @@ mod model;
 mod search;
 
 pub use declaration::{
-    ActivityTree, BoundsTree, DataTree, DeclTree, DimTree, DimsTree, DiscreteTree, EnumNamesTree,
-    EnumTree, FieldTree, InitialTree, RangeTree, ScheduleEnd, ScheduleTree, StructTree, TypeTree,
-    UnaryTree, VariableTree, VariableTypeTree,
+    ActivityTree, BoundsTree, DataDeclTree, DeclTree, DimTree, DimsTree, DiscreteTree,
+    EnumNamesTree, EnumTree, FieldTree, InitialTree, RangeTree, ScheduleEnd, ScheduleTree,
+    StructTree, TypeTree, UnaryTree, VariableTree, VariableTypeTree,
 };
 pub use expression::{
     AddOp, AddStep, AddTree, AggregateOp, AndTree, CallOp, CompareTree, ExprTree, GroupSeparator,
@@ -24,7 +24,7 @@ pub use expression::{
 pub use fault::SyntaxFault;
 pub use instruction::{BlockTree, InstrTree, ItemTree, ItemsTree, Optimum, RequiresTree};
 pub use keyword::{KEYWORDS, Keyword, keyword_of};
-pub use model::ModelTree;
+pub use model::{MAX_NESTING, ModelTree};
 pub use opl_list::{Boxed, Seq};
 pub use opl_token::Name;
 pub use search::{

@@ -3,7 +3,7 @@ use crate::case::Case;
 use crate::fault::{push_bind_fault, push_scan_fault, push_syntax_fault, push_type_fault};
 use crate::text::push_values;
 use opl_bind::bind;
-use opl_data::{DataFile, parse_data};
+use opl_data::{DataTree, parse_data};
 use opl_eval::Positions;
 use opl_fields::fields;
 use opl_list::Seq;
@@ -32,7 +32,7 @@ fn push_bound(
     alloc: Global,
     text: &mut Vec<u8>,
     typed: &Typed,
-    files: &[DataFile],
+    files: &[DataTree],
     case: &Case,
 ) -> Result<(), AllocError> {
     let positions = positions_of(alloc, typed)?;
@@ -47,7 +47,7 @@ fn push_bound(
 fn read_file(
     alloc: Global,
     text: &mut Vec<u8>,
-    files: &mut Seq<DataFile>,
+    files: &mut Seq<DataTree>,
     bytes: &[u8],
 ) -> Result<bool, AllocError> {
     let file = u32::try_from(files.len())

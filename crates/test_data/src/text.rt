@@ -1,7 +1,7 @@
 //! The declared names with their values, as plain text.
 use itoa::Buffer;
 use opl_bind::{DataValues, index_space};
-use opl_tree::{DataTree, DeclTree, DimsTree, Name};
+use opl_tree::{DataDeclTree, DeclTree, DimsTree, Name};
 use opl_value::{Dimension, IndexSpace, Value};
 use std::alloc::{AllocError, Global};
 
@@ -200,7 +200,7 @@ fn push_data(
     alloc: Global,
     text: &mut Vec<u8>,
     data: &DataValues<'_>,
-    tree: &DataTree,
+    tree: &DataDeclTree,
 ) -> Result<(), AllocError> {
     let name = tree.name.text.as_slice();
     push_item(alloc, text, data, name)?;

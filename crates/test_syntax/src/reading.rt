@@ -3,7 +3,7 @@ use crate::same::are_same;
 use crate::spelt::text_of;
 use crate::stop::Stop;
 use crate::token::{end_of, tokens_of};
-use opl_data::{DataFile, depth_data, parse_data, spell_data};
+use opl_data::{DataTree, depth_data, parse_data, spell_data};
 use opl_depth::depth_model;
 use opl_parse::parse_model;
 use opl_spell::spell_model;
@@ -57,7 +57,7 @@ fn model(alloc: Global, tokens: &[Token], end: u32) -> Result<Told, Stop> {
     told_of_model(alloc, &tree, depth).map_err(Stop::from)
 }
 
-fn told_of_data(alloc: Global, tree: &DataFile, depth: u32) -> Result<Told, AllocError> {
+fn told_of_data(alloc: Global, tree: &DataTree, depth: u32) -> Result<Told, AllocError> {
     let kinds = spell_data(alloc, tree)?;
     Ok(Told {
         at: tree.at,
