@@ -26,7 +26,6 @@ use Rattle.opl_tree.specs.declared.declaration.UnaryTree.{UnaryTree}
 use Rattle.opl_tree.specs.declared.declaration.VariableTree.{VariableTree}
 use Rattle.opl_tree.specs.declared.declaration.VariableTypeTree.{VariableTypeTree}
 use Rattle.opl_tree.specs.declared.declaration.VariableTypeTree.TheVariants as types
-use Rattle.opl_tree.specs.declared.expression.AddTree.{AddTree}
 use Rattle.opl_tree.specs.declared.expression.NameTree.{NameTree}
 use Rattle.opl_type_rules.specs.declared.fault.TypeFault.TheVariants.{Unknown, Duplicate, Mismatch}
 use Rattle.opl_type_rules.specs.Types.{Sort, is_single, is_set, sorts_of}

@@ -5,7 +5,6 @@ use Rattle.opl_value.specs.declared.value.IndexSpace.{IndexSpace}
 use Rattle.opl_eval.specs.Evaluation.{Item}
 use Rattle.opl_meaning.specs.declared.variable.VariableItem.{VariableItem}
 use Rattle.opl_meaning.specs.Runs.{Names, Text}
-use Rattle.opl_draft.specs.Drafts.{Cells}
 use Rattle.opl_draft.specs.Numbers.{Numbered, arrays_of, entries}
 use Rattle.opl_declared.specs.declared.declared.Declared as code
 use Rattle.opl_declared.specs.declared.declared.Numbered as numbered

@@ -1,6 +1,6 @@
 -- What is settled of drafts without an assignment: the value of a part in which no variable is left, and the first fault that depends on
 -- no variable. Such a fault refuses a model, wherever it stands.
-use Rattle.std.specs.Prelude.{◌≡◌, ℕ, zero, suc, ℤ, pos, Bool, true, false, cond, not, ◌||◌, ◌&&◌, List, [], ◌∷◌, ◌++◌, map, Option, Some, None, Ok, Err}
+use Rattle.std.specs.Prelude.{◌≡◌, ℕ, zero, suc, pos, Bool, true, false, cond, not, ◌||◌, ◌&&◌, List, [], ◌∷◌, ◌++◌, map, Option, Some, None, Ok, Err}
 use Rattle.std.specs.List.{list_all, list_any}
 use Rattle.std.specs.Option.{is_some, option_map}
 use Rattle.std.specs.Ordering.{int_eq}
@@ -13,7 +13,7 @@ use Rattle.opl_eval.specs.Arithmetic.{then, run, negative, absolute}
 use Rattle.opl_eval.specs.Compare.{number, relates, all_different}
 use Rattle.opl_eval.specs.Evaluation as evaluation
 use Rattle.opl_eval.specs.Evaluation.{Found, at_place, found, integer, is_true}
-use Rattle.opl_draft.specs.Drafts.{Cells, Draft, Drafts, Leaves, Sign, Steps, array_at, draft_value, operation}
+use Rattle.opl_draft.specs.Drafts.{Cells, Draft, Drafts, Leaves, Sign, Steps, array_at, operation}
 use Rattle.opl_draft.specs.Drafts.Drafts.{no_drafts, more_drafts}
 use Rattle.opl_draft.specs.Drafts.Leaves.{listed, numbered}
 use Rattle.opl_draft.specs.Drafts.Sign.{plus, minus, quotient, remainder}
@@ -131,16 +131,6 @@ module _ (arrays : List Cells) where
     pub settled_steps : ℕ → Links → Steps → Found Links
     settled_steps at links no_steps = Ok links
     settled_steps at links (more_steps sign d ss) = then (settled d) (λ v. then (stepped at sign links v) (λ more. settled_steps at more ss))
-
--- whether a value is true, where there is one
-abbrev pub truth_of : Found Value → Option Bool
-truth_of (Ok v) = Some (is_true v)
-truth_of (Err fault) = None
-
--- what a condition comes to under an assignment: a fault that depends on no variable; or whether it is true, and nothing where a part that
--- depends on variables has no value
-abbrev pub comes_to : List Cells → List ℤ → Draft → Found (Option Bool)
-comes_to arrays ns d = then (settled arrays d) (λ v. Ok (truth_of (draft_value arrays ns d)))
 
 -- what is settled agrees with a value, if it is one
 abbrev pub Agrees : {A : Type 0} → Option A → A → Type 0

@@ -49,10 +49,6 @@ pub record SameBeside (old new : State) : Type 0 where
 abbrev pub members : State → List Fact
 members e = bound_fact (objective e.core) e.best ∷ e.posted
 
--- a family refutes a posted constraint, or the bound
-abbrev pub dead : State → Family → Bool
-dead e = is_dead (objective e.core) e.posted e.best
-
 -- the sets lie within the declared ones, and hold every stable family
 pub record HoldsAll (core : Core) (P : List Fact) (best : Option ℤ) (F : Family) : Type 0 where
   pub within : Below F (declared core)

@@ -20,11 +20,6 @@ found f a = then a (λ x. Ok (f x))
 abbrev pub provided : {A : Type 0} → Bool → BindFault → Bound A → Bound A
 provided holds fault next = cond holds next (Err fault)
 
--- all of these behind those found before, or the first fault
-abbrev pub each : {A : Type 0} → List A → List (Bound A) → Bound (List A)
-each before [] = Ok before
-each before (b ∷ bs) = then b (λ a. each (before ++ a ∷ []) bs)
-
 -- what a function answers that finds something, unless memory fails
 abbrev pub Gives : {A B : Type 0} → (B → A) → Bound A → Result B BindFault → Type 0
 Gives reading bound (Ok b) = bound ≡ Ok (reading b)

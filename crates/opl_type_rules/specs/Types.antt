@@ -94,10 +94,6 @@ is_single int = true
 is_single (enumeration k) = true
 is_single s = false
 
-abbrev pub is_array : Sort → Bool
-is_array (array indices element) = true
-is_array s = false
-
 -- what the parts of a record and the elements of a set may be
 abbrev pub is_storable : Sort → Bool
 is_storable int = true

@@ -16,7 +16,7 @@ use Rattle.opl_value.specs.declared.value.Value.TheVariants as values
 use Rattle.opl_eval.specs.Evaluation.{Environment, eval, parameter_or}
 use Rattle.opl_meaning.specs.declared.variable.VariableItem.{VariableItem}
 use Rattle.opl_meaning.specs.Runs.{Names}
-use Rattle.opl_draft.specs.Drafts.{Draft, DraftStep, drafts_of}
+use Rattle.opl_draft.specs.Drafts.{Draft, drafts_of}
 use Rattle.opl_draft.specs.Drafts.Sign.{plus, minus, times, quotient, remainder}
 use Rattle.opl_draft.specs.Forms.{array_in, bodies_in, cells_in, drafts_in, form_draft, place, step_in, steps_in}
 use Rattle.opl_draft.specs.Instances.{Instance, Instances}
