@@ -10,8 +10,8 @@ use std::collections::HashMap;
 
 /// What turns chose, the latest last.
 #[derive(Drop)]
-pub(crate) struct Turns<'t> {
-    pub(crate) chosen: Vec<Turn<'t>>,
+pub struct Turns<'t> {
+    pub chosen: Vec<Turn<'t>>,
     /// For each name a place from which on no turn has it.
     pub(crate) ends: HashMap<&'t [u8], usize>,
     pub(crate) ghost are_behind: { (name : List ℕ) → list_any (calls name) (drop (or_first (get_by (λ k. bytes_eq name k.now) ends)) chosen.items) ≡ false } by { Prim.hlevel props },

@@ -17,7 +17,7 @@ use std::mem;
 
 impl<'t> Turns<'t> {
     /// No turns. It takes no memory.
-    pub(crate) fn new(alloc: Global) -> Turns<'t>
+    pub fn new(alloc: Global) -> Turns<'t>
         ensures { result.chosen.items ≡ [] }
     {
         Turns {
@@ -27,7 +27,7 @@ impl<'t> Turns<'t> {
     }
 
     /// One more turn behind the others. Where memory is wanting none is left.
-    pub(crate) fn push(&mut self, alloc: Global, turn: Turn<'t>) -> Result<(), AllocError>
+    pub fn push(&mut self, alloc: Global, turn: Turn<'t>) -> Result<(), AllocError>
         ensures { OnOk result (self.new.chosen.items ≡ self.old.chosen.items ++ turn.entry ∷ []) }
     {
         let before = mem::replace(self, Turns::new(alloc));
@@ -36,7 +36,7 @@ impl<'t> Turns<'t> {
     }
 
     /// Takes the latest turn away, if there is one.
-    pub(crate) fn pop(&mut self) -> Option<Turn<'t>>
+    pub fn pop(&mut self) -> Option<Turn<'t>>
         ensures none { IfNone result (self.old.chosen.items ≡ []) }
         ensures some { IfSome result (λ turn. self.old.chosen.items ≡ self.new.chosen.items ++ turn ∷ []) }
     {

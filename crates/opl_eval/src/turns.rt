@@ -12,23 +12,23 @@ use std::alloc::{AllocError, Global};
 
 /// The elements that are left for a pattern.
 #[derive(Drop)]
-pub(crate) struct Course<'t> {
-    pub(crate) is_ordered: bool,
-    pub(crate) pattern: &'t Pattern,
+pub struct Course<'t> {
+    pub is_ordered: bool,
+    pub pattern: &'t Pattern,
     /// The patterns behind it, over the same set.
-    pub(crate) others: &'t [Pattern],
+    pub others: &'t [Pattern],
     /// All elements that the pattern goes over.
-    pub(crate) all: Elements,
-    pub(crate) rest: Elements,
+    pub all: Elements,
+    pub rest: Elements,
     /// The place of the next group.
-    pub(crate) later: usize,
+    pub later: usize,
 }
 
 /// The element that is chosen for a pattern, with those that are left.
 #[derive(Drop)]
-pub(crate) struct Turn<'t> {
-    pub(crate) element: Value,
-    pub(crate) course: Course<'t>,
+pub struct Turn<'t> {
+    pub element: Value,
+    pub course: Course<'t>,
 }
 
 /// Patterns that are to be given elements.
