@@ -24,8 +24,12 @@ Tells position fs = AllByRecursion (λ f. position f.place ≡ f.position) fs
 abbrev pub PositionsSuit : Type 0
 PositionsSuit = (position : ℕ → ℕ) (ds : List DeclTree) → length ds < 2 ^ 32 → Tells position (in_decls ds 0 ds empty_scope) → AllSuit position [] 0 empty_scope ds
 
--- so in a model that has types each value that binding gives has the form of its declared type
+-- each value that binding gives has the form of its declared type
+abbrev pub ValuesFit : (ℕ → ℕ) → ModelTree → List DataTree → Data → Type 0
+ValuesFit position t files final =
+    (given : Given) × (all_given t.decls files ≡ Ok given) × ((before after : List DeclTree) (item : DataDeclTree) → t.decls ≡ before ++ decls.Data item ∷ after → Stands position given [] before item final (HasItsForm item))
+
+-- so it is in a model that has types
 abbrev pub ModelValuesFit : Type 0
 ModelValuesFit =
-    (position : ℕ → ℕ) (t : ModelTree) (files : List DataTree) (final : Data) → length t.decls < 2 ^ 32 → IsModel t → Tells position (model_fields t) → bound position t.decls files [] ≡ Ok final →
-    (given : Given) × (all_given t.decls files ≡ Ok given) × ((before after : List DeclTree) (item : DataDeclTree) → t.decls ≡ before ++ decls.Data item ∷ after → Stands position given [] before item final (HasItsForm item))
+    (position : ℕ → ℕ) (t : ModelTree) (files : List DataTree) (final : Data) → length t.decls < 2 ^ 32 → IsModel t → Tells position (model_fields t) → bound position t.decls files [] ≡ Ok final → ValuesFit position t files final

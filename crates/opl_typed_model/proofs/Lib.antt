@@ -2,6 +2,6 @@ pub mod Decls
 mod FirstDecls
 mod FirstItems
 mod Items
-mod Lawful
+pub mod Lawful
 mod Places
 mod Resources

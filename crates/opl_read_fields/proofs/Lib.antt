@@ -1,0 +1,10 @@
+pub mod Declarations
+pub mod Expressions
+pub mod Items
+pub mod Layers
+pub mod Lists
+pub mod Names
+pub mod Parts
+pub mod Positions
+pub mod Read
+pub mod Texts
