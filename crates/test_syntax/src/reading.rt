@@ -3,12 +3,11 @@ use crate::same::are_same;
 use crate::spelt::text_of;
 use crate::stop::Stop;
 use crate::token::{end_of, tokens_of};
-use opl_data::{DataTree, depth_data, parse_data, spell_data};
-use opl_depth::depth_model;
+use opl_data::{DataTree, parse_data};
 use opl_parse::parse_model;
-use opl_spell::spell_model;
 use opl_token::{Kind, Seq, Token};
 use opl_tree::ModelTree;
+use opl_walk::{depth_data, depth_model, spell_data, spell_model};
 use std::alloc::{AllocError, Global};
 
 /// What a text is read as.

@@ -1,0 +1,10 @@
+use Rattle.std.proofs.Common.{◌≡◌, map, drop}
+use Rattle.opl_tree.specs.Marks.{joined}
+use Rattle.opl_data.specs.Marks.{marks_item, marks_file}
+use Rattle.opl_walk.specs.Told.{told}
+use Rattle.opl_walk.proofs.data.walk_data.Given as goal
+
+abbrev pub invariant-loop-item : goal.invariant-loop-item
+invariant-loop-item g l =
+    let tell = told g.V.Visitor.token g.V.Visitor.opens 0 in
+    tell (joined (map marks_item (drop l.item-index l.t.items))) l.visitor ≡ tell (marks_file l.fn.t) l.fn.visitor
