@@ -51,12 +51,18 @@ told-none f g level false s v = refl
 pub told-listed-end : {V A : Type 0} (f : Part → V → V) (g : ℕ → V → V) (level : ℕ) (is_first : Bool) (s : Sign) (m : A → Marks) (xs : List A) (i : ℕ) (v : V) → length xs ≤ i → told f g level (listed is_first s (map m (drop i xs))) v ≡ v
 told-listed-end f g level is_first s m xs i v h = ap (λ ys. told f g level (listed is_first s (map m ys)) v) (drop_all i xs h) ∙ told-none f g level is_first s v
 
+pub told-joined-end : {V A : Type 0} (f : Part → V → V) (g : ℕ → V → V) (level : ℕ) (m : A → Marks) (xs : List A) (i : ℕ) (v : V) → length xs ≤ i → told f g level (joined (map m (drop i xs))) v ≡ v
+told-joined-end f g level m xs i v h = ap (λ ys. told f g level (joined (map m ys)) v) (drop_all i xs h)
+
+pub told-behind-end : {V A : Type 0} (f : Part → V → V) (g : ℕ → V → V) (level : ℕ) (s : Sign) (m : A → Marks) (xs : List A) (i : ℕ) (v : V) → length xs ≤ i → told f g level (behind s (map m (drop i xs))) v ≡ v
+told-behind-end f g level s m xs i v h = ap (λ ys. told f g level (behind s (map m ys)) v) (drop_all i xs h)
+
 -- the parts of a list before one are told
 abbrev pub ToldTo : {V A : Type 0} → (Part → V → V) → (ℕ → V → V) → ℕ → (List A → Marks) → List A → ℕ → V → V → Type 0
 ToldTo f g level ms xs i before v = told f g level (ms (drop i xs)) v ≡ told f g level (ms xs) before
 
 pub ruleset telling = (told-append, told-raised, raised-append, capped-more)
 
-pub ruleset lists = (told-joined, told-behind)
+pub ruleset lists = (told-joined, told-joined-end, told-behind, told-behind-end)
 
 pub ruleset separated = (told-listed, told-listed-end)

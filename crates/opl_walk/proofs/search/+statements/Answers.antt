@@ -1,0 +1,34 @@
+use Rattle.std.proofs.Common.{arith}
+use Rattle.opl_tree.proofs.Marks.{search_block_marks, statement_marks, statements_marks}
+use Rattle.opl_walk.proofs.Telling.{lists, telling}
+use Rattle.opl_walk.proofs.search.+statements.Goals as goal
+
+pub walk_search_block-returns : goal.walk_search_block-returns
+walk_search_block-returns g t c = grind (arith, search_block_marks, telling)
+
+pub walk_statement-loop-alternative-init : goal.walk_statement-loop-alternative-init
+walk_statement-loop-alternative-init g t c = grind (arith, statement_marks, telling, lists)
+
+pub walk_statement-loop-alternative-preserved : goal.walk_statement-loop-alternative-preserved
+walk_statement-loop-alternative-preserved g t c = grind (arith, statement_marks, telling, lists)
+
+pub walk_statement-returns-in-Block : goal.walk_statement-returns-in-Block
+walk_statement-returns-in-Block g t c = grind (arith, statement_marks, telling, lists)
+
+pub walk_statement-returns-in_ok-inner-in-Once : goal.walk_statement-returns-in_ok-inner-in-Once
+walk_statement-returns-in_ok-inner-in-Once g t c = grind (arith, statement_marks, telling, lists)
+
+pub walk_statement-returns-in-Precedes : goal.walk_statement-returns-in-Precedes
+walk_statement-returns-in-Precedes g t c = grind (arith, statement_marks, telling, lists)
+
+pub walk_statement-returns-in-Constraint : goal.walk_statement-returns-in-Constraint
+walk_statement-returns-in-Constraint g t c = grind (arith, statement_marks, telling, lists)
+
+pub walk_statements-loop-statement-init : goal.walk_statements-loop-statement-init
+walk_statements-loop-statement-init g t c = grind (arith, statements_marks, telling, lists)
+
+pub walk_statements-loop-statement-preserved : goal.walk_statements-loop-statement-preserved
+walk_statements-loop-statement-preserved g t c = grind (arith, statements_marks, telling, lists)
+
+pub walk_statements-returns-in-Empty : goal.walk_statements-returns-in-Empty
+walk_statements-returns-in-Empty g t c = grind (arith, statements_marks, telling, lists)
