@@ -3,11 +3,12 @@ use Rattle.std.proofs.Common.{◌≡◌, ℕ, ◌+◌, Bool, Bor, cond, List, []
 use Rattle.opl_term.specs.declared.term.Pattern.{Pattern}
 use Rattle.opl_value.specs.declared.value.Value.{Value}
 use Rattle.opl_eval.specs.Evaluation.{Environment, bound, with_parameters}
-use Rattle.opl_groups.specs.declared.elements.Elements.{Elements}
+use Rattle.opl_eval.specs.declared.elements.Elements.{Elements}
 use Rattle.opl_groups.specs.declared.course.Ahead.TheVariants as ahead
-use Rattle.opl_groups.specs.declared.course.Course.{Course}
-use Rattle.opl_groups.specs.declared.course.Turn.{Turn}
-use Rattle.opl_groups.specs.Courses.{Inner, along, left, left_of, pending, still, turns, under}
+use Rattle.opl_eval.specs.declared.turns.Course.{Course}
+use Rattle.opl_eval.specs.declared.turns.Turn.{Turn}
+use Rattle.opl_eval.specs.Turns.{left, under}
+use Rattle.opl_groups.specs.Courses.{Inner, along, left_of, pending, still, turns}
 use Rattle.opl_groups.specs.Met.{Met}
 
 pub append-assoc : {A : Type 0} (xs ys zs : List A) → xs ++ (ys ++ zs) ≡ (xs ++ ys) ++ zs

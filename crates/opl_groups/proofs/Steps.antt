@@ -7,8 +7,9 @@ use Rattle.opl_groups.specs.declared.choices.Progress.{Progress}
 use Rattle.opl_groups.specs.declared.choices.Progress.TheVariants as progress
 use Rattle.opl_groups.specs.declared.course.Ahead.{Ahead}
 use Rattle.opl_groups.specs.declared.course.Ahead.TheVariants as ahead
-use Rattle.opl_groups.specs.declared.course.Turn.{Turn}
-use Rattle.opl_groups.specs.Courses.{Inner, pending, still, under}
+use Rattle.opl_eval.specs.declared.turns.Turn.{Turn}
+use Rattle.opl_eval.specs.Turns.{under}
+use Rattle.opl_groups.specs.Courses.{Inner, pending, still}
 use Rattle.opl_groups.specs.Met.{Met, first}
 use Rattle.opl_groups.specs.Met.Met.{stopped}
 use Rattle.opl_groups.specs.Visits.{Reaches, Steps}
@@ -24,11 +25,11 @@ reached inner env ts before (Ok progress.Ended) h = absurd h
 reached inner env ts before (Err e) h = λ n. first-append before (still inner env [] ts) (stopped e) (h n)
 
 -- a step from a group on
-pub steps-groups : (inner : Inner) (env : Environment) (ts us : List Turn) (a : Ahead) (place : ℕ) (r : Result Progress EvalFault) → a ≡ ahead.Groups place → us ≡ ts →
-    Reaches inner (under env us) (inner place (under env us)) r → Steps inner env (pending inner env a ts) ts r
-steps-groups inner env ts us a place r e s h =
+pub steps-groups : (inner : Inner) (env : Environment) (ts : List Turn) (a : Ahead) (place : ℕ) (r : Result Progress EvalFault) → a ≡ ahead.Groups place →
+    Reaches inner (under env ts) (inner place (under env ts)) r → Steps inner env (pending inner env a ts) ts r
+steps-groups inner env ts a place r e h =
     subst (λ b. Steps inner env (pending inner env b ts) ts r) (sym e)
-    (reached inner env ts (inner place (under env ts)) r (subst (λ vs. Reaches inner (under env vs) (inner place (under env vs)) r) s h))
+    (reached inner env ts (inner place (under env ts)) r h)
 
 -- a fault at a step is a fault of all steps
 pub fault-behind : (before now : List Met) (e : EvalFault) → before ≡ now → (e ≢ OutOfMemory → first now ≡ Some (stopped e)) → e ≢ OutOfMemory → first before ≡ Some (stopped e)

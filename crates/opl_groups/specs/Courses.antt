@@ -1,25 +1,14 @@
 -- What is met under choices that are made one after another, and what is still to be met.
-use Rattle.std.specs.Prelude.{◌≡◌, ◌≢◌, ◌-◌, ◌++◌, ℕ, zero, suc, Bool, cond, List, [], ◌∷◌, drop, Option, Some, None, Result, Ok, Err}
+use Rattle.std.specs.Prelude.{◌≡◌, ◌++◌, ℕ, Bool, cond, List, [], ◌∷◌}
 use Rattle.opl_term.specs.declared.term.Pattern.{Pattern}
 use Rattle.opl_value.specs.declared.value.Value.{Value}
-use Rattle.opl_value.specs.Places.{numbers_between}
-use Rattle.opl_eval.specs.declared.fault.EvalFault.{EvalFault}
-use Rattle.opl_eval.specs.declared.fault.EvalFault.TheVariants.{OutOfMemory}
 use Rattle.opl_eval.specs.Evaluation.{Environment, bound, with_parameters}
-use Rattle.opl_eval.specs.Visible.{names_on}
-use Rattle.opl_groups.specs.declared.elements.Elements.{Elements}
-use Rattle.opl_groups.specs.declared.elements.Elements.TheVariants as elements
-use Rattle.opl_groups.specs.declared.course.Course.{Course}
-use Rattle.opl_groups.specs.declared.course.Turn.{Turn}
+use Rattle.opl_eval.specs.Turns.{left, under}
+use Rattle.opl_eval.specs.declared.turns.Course.{Course}
+use Rattle.opl_eval.specs.declared.turns.Turn.{Turn}
 use Rattle.opl_groups.specs.declared.course.Ahead.{Ahead}
 use Rattle.opl_groups.specs.declared.course.Ahead.TheVariants as ahead
 use Rattle.opl_groups.specs.Met.{Met}
-
--- the elements that are left
-abbrev pub left : Elements → List Value
-left (elements.Listed vs place) = drop place vs.value
-left (elements.Between low high) = numbers_between low high
-left (elements.Named declaration p end) = names_on declaration p (end - p)
 
 -- what is met for each value, by what stands behind it
 abbrev pub turns : (List Value → Value → List Met) → List Value → List Met
@@ -34,11 +23,6 @@ along is_ordered (p ∷ ps) vs inner env = turns (λ later v. along is_ordered p
 -- what is met from the group at a place on
 abbrev pub Inner : Type 0
 Inner = ℕ → Environment → List Met
-
--- the environment with what turns chose, the first turn first
-abbrev pub under : Environment → List Turn → Environment
-under env [] = env
-under env (t ∷ ts) = under (with_parameters (bound t.course.pattern.now t.element) env) ts
 
 -- what is met by what is left for a pattern
 abbrev pub left_of : Inner → Course → Environment → List Met

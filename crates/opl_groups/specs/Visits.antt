@@ -14,9 +14,11 @@ use Rattle.opl_groups.specs.declared.choices.Progress.{Progress}
 use Rattle.opl_groups.specs.declared.choices.Progress.TheVariants as progress
 use Rattle.opl_groups.specs.declared.course.Ahead.{Ahead}
 use Rattle.opl_groups.specs.declared.course.Ahead.TheVariants as ahead
-use Rattle.opl_groups.specs.declared.course.Turn.{Turn}
+use Rattle.opl_eval.specs.declared.chosen.Turns.{Turns}
+use Rattle.opl_eval.specs.declared.turns.Turn.{Turn}
+use Rattle.opl_eval.specs.Turns.{under}
 use Rattle.opl_groups.specs.declared.scope.Scope.{Scope}
-use Rattle.opl_groups.specs.Courses.{Inner, ahead_in, along, pending, still, under}
+use Rattle.opl_groups.specs.Courses.{Inner, ahead_in, along, pending, still}
 use Rattle.opl_groups.specs.Met.{Met, first, met_under, or_stopped}
 use Rattle.opl_groups.specs.Met.Met.{chosen, stopped}
 
@@ -25,6 +27,10 @@ use Rattle.opl_groups.specs.Met.Met.{chosen, stopped}
 -- the visible names with their values
 abbrev pub sees : Scope → Environment
 sees s = within s.environment.now s.parameters.now
+
+-- the same with what turns chose
+abbrev pub sees_under : Scope → Turns → Environment
+sees_under s ts = under (sees s) ts.chosen.items
 
 -- ---- what is met
 
@@ -43,10 +49,10 @@ visit_of c = record { groups = c.groups; condition = c.condition }
 
 -- the names that are visible under the latest choice, and what is met behind it
 unfoldable pub latest : Choices → Environment → Environment
-latest c env = under env c.turns.items
+latest c env = under env c.turns.chosen.items
 
 unfoldable pub behind : Choices → Environment → List Met
-behind c env = pending (met_at (visit_of c)) env (start c.is_begun) c.turns.items
+behind c env = pending (met_at (visit_of c)) env (start c.is_begun) c.turns.chosen.items
 
 -- what is met under the choices for a group, and for its patterns over a set
 unfoldable pub group_met : GroupTerm → (Environment → List Met) → Environment → List Met

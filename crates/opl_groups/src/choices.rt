@@ -3,17 +3,17 @@ ghost use Rattle.std.specs.Prelude.{[], ◌≡◌, ◌+◌, IfOk, map};
 ghost use Rattle.std.specs.Option.{option_copied};
 ghost use Rattle.opl_eval.specs.Evaluation as evaluation;
 ghost use Rattle.opl_eval.specs.Evaluation.{group_meaning};
+ghost use Rattle.opl_eval.specs.Turns.{under};
 ghost use Rattle.opl_eval.specs.Visible.{within};
-ghost use Rattle.opl_groups.specs.Courses.{ahead_in, pending, still, under};
+ghost use Rattle.opl_groups.specs.Courses.{ahead_in, pending, still};
 ghost use Rattle.opl_groups.specs.Met.{met_under, where_true};
 ghost use Rattle.opl_groups.specs.Visits as spec;
-ghost use Rattle.opl_groups.specs.Visits.{sees};
+ghost use Rattle.opl_groups.specs.Visits.{sees, sees_under};
 
-use crate::course::{Ahead, Names, Turn, enter, go_back};
+use crate::course::{Ahead, Names, enter, go_back};
 use crate::elements::elements_of;
-use crate::parameters::all_parameters;
 use crate::scope::Scope;
-use opl_eval::{Environment, EvalFault, Parameter, eval, eval_set};
+use opl_eval::{EvalFault, Parameter, Turns, eval_set_under, eval_under, parameters_under};
 use opl_list::Boxed;
 use opl_term::{GroupTerm, Pattern, SetTerm, Term};
 use opl_value::Value;
@@ -42,7 +42,7 @@ pub(crate) enum Progress<'t> {
 pub struct Choices<'t> {
     pub(crate) groups: &'t [GroupTerm],
     pub(crate) condition: Option<&'t Term>,
-    pub(crate) turns: Vec<Turn<'t>>,
+    pub(crate) turns: Turns<'t>,
     pub(crate) is_begun: bool,
 }
 
@@ -59,7 +59,7 @@ impl<'t> Choices<'t> {
         Choices {
             groups,
             condition: term_of(condition),
-            turns: Vec::new(alloc),
+            turns: Turns::new(alloc),
             is_begun: false,
         }
     }
@@ -88,12 +88,7 @@ impl<'t> Choices<'t> {
     ) -> Result<Vec<Parameter<'a>>, AllocError>
         ensures { IfOk result (λ all. within scope.entry.environment.now all.items ≡ spec.latest self.now (sees scope.entry)) }
     {
-        all_parameters(
-            alloc,
-            scope.environment,
-            scope.parameters,
-            self.turns.as_slice(),
-        )
+        parameters_under(alloc, scope.environment, scope.parameters, &self.turns)
     }
 }
 
@@ -123,10 +118,10 @@ fn search<'t>(
     alloc: Global,
     scope: Scope<'_>,
     visit: Visit<'t>,
-    turns: &mut Vec<Turn<'t>>,
+    turns: &mut Turns<'t>,
     ahead: Ahead<'t>,
 ) -> Result<bool, EvalFault>
-    ensures { spec.Advances (pending (spec.met_at visit.entry) (sees scope.entry) ahead.entry turns.old.items) (under (sees scope.entry) turns.new.items) (still (spec.met_at visit.entry) (sees scope.entry) [] turns.new.items) result }
+    ensures { spec.Advances (pending (spec.met_at visit.entry) (sees scope.entry) ahead.entry turns.old.chosen.items) (under (sees scope.entry) turns.new.chosen.items) (still (spec.met_at visit.entry) (sees scope.entry) [] turns.new.chosen.items) result }
 {
     let mut ahead = ahead;
     for _ in 0..u64::MAX {
@@ -144,13 +139,13 @@ fn step<'t>(
     alloc: Global,
     scope: Scope<'_>,
     visit: Visit<'t>,
-    turns: &mut Vec<Turn<'t>>,
+    turns: &mut Turns<'t>,
     ahead: Ahead<'t>,
 ) -> Result<Progress<'t>, EvalFault>
-    ensures { spec.Steps (spec.met_at visit.entry) (sees scope.entry) (pending (spec.met_at visit.entry) (sees scope.entry) ahead.entry turns.old.items) turns.new.items result }
+    ensures { spec.Steps (spec.met_at visit.entry) (sees scope.entry) (pending (spec.met_at visit.entry) (sees scope.entry) ahead.entry turns.old.chosen.items) turns.new.chosen.items result }
 {
     match ahead {
-        Ahead::Groups(place) => reach(alloc, scope, visit, turns.as_slice(), place),
+        Ahead::Groups(place) => reach(alloc, scope, visit, &*turns, place),
         Ahead::Patterns(names) => Ok(Progress::On(enter(alloc, turns, names)?)),
         Ahead::Back => match go_back(alloc, turns)? {
             Some(next) => Ok(Progress::On(next)),
@@ -164,33 +159,16 @@ fn reach<'t>(
     alloc: Global,
     scope: Scope<'_>,
     visit: Visit<'t>,
-    turns: &[Turn<'t>],
+    turns: &Turns<'t>,
     place: usize,
 ) -> Result<Progress<'t>, EvalFault>
-    ensures { spec.Reaches (spec.met_at visit.entry) (under (sees scope.entry) turns.now) (spec.met_at visit.entry place (under (sees scope.entry) turns.now)) result }
-{
-    let known = all_parameters(alloc, scope.environment, scope.parameters, turns)?;
-    let inner = Scope {
-        environment: scope.environment,
-        parameters: known.as_slice(),
-    };
-    reach_in(alloc, inner, visit, place)
-}
-
-/// The same where what turns chose is visible.
-fn reach_in<'t>(
-    alloc: Global,
-    scope: Scope<'_>,
-    visit: Visit<'t>,
-    place: usize,
-) -> Result<Progress<'t>, EvalFault>
-    ensures { spec.Reaches (spec.met_at visit.entry) (sees scope.entry) (spec.met_at visit.entry place (sees scope.entry)) result }
+    ensures { spec.Reaches (spec.met_at visit.entry) (sees_under scope.entry turns.now) (spec.met_at visit.entry place (sees_under scope.entry turns.now)) result }
 {
     if place >= visit.groups.len() {
-        let is_met = holds(alloc, scope, visit.condition)?;
+        let is_met = holds(alloc, scope, turns, visit.condition)?;
         return Ok(met(is_met));
     }
-    let next = lead(alloc, scope, &visit.groups[place], place + 1)?;
+    let next = lead(alloc, scope, turns, &visit.groups[place], place + 1)?;
     Ok(Progress::On(next))
 }
 
@@ -206,13 +184,18 @@ fn met<'t>(is_met: bool) -> Progress<'t>
 }
 
 /// Whether a condition holds, if there is one.
-fn holds(alloc: Global, scope: Scope<'_>, condition: Option<&Term>) -> Result<bool, EvalFault>
-    ensures { spec.Decides (where_true (option_copied condition.entry) (sees scope.entry)) (sees scope.entry) result }
+fn holds(
+    alloc: Global,
+    scope: Scope<'_>,
+    turns: &Turns<'_>,
+    condition: Option<&Term>,
+) -> Result<bool, EvalFault>
+    ensures { spec.Decides (where_true (option_copied condition.entry) (sees_under scope.entry turns.now)) (sees_under scope.entry turns.now) result }
 {
     match condition {
         None => Ok(true),
         Some(condition) => {
-            let value = eval(alloc, scope.environment, scope.parameters, condition)?;
+            let value = eval_under(alloc, scope.environment, scope.parameters, turns, condition)?;
             Ok(is_true(&value))
         }
     }
@@ -239,17 +222,18 @@ fn is_true(value: &Value) -> bool
 fn lead<'t>(
     alloc: Global,
     scope: Scope<'_>,
+    turns: &Turns<'_>,
     group: &'t GroupTerm,
     later: usize,
 ) -> Result<Ahead<'t>, EvalFault>
-    ensures { spec.Leads (λ inner. spec.group_met group.now (inner later) (sees scope.entry)) (sees scope.entry) result }
+    ensures { spec.Leads (λ inner. spec.group_met group.now (inner later) (sees_under scope.entry turns.now)) (sees_under scope.entry turns.now) result }
 {
     match group {
         GroupTerm::Unordered(patterns, over) => {
-            lead_over(alloc, scope, false, patterns.as_slice(), over, later)
+            lead_over(alloc, scope, turns, false, patterns.as_slice(), over, later)
         }
         GroupTerm::Ordered(patterns, over) => {
-            lead_over(alloc, scope, true, patterns.as_slice(), over, later)
+            lead_over(alloc, scope, turns, true, patterns.as_slice(), over, later)
         }
     }
 }
@@ -258,14 +242,21 @@ fn lead<'t>(
 fn lead_over<'t>(
     alloc: Global,
     scope: Scope<'_>,
+    turns: &Turns<'_>,
     is_ordered: bool,
     patterns: &'t [Pattern],
     over: &SetTerm,
     later: usize,
 ) -> Result<Ahead<'t>, EvalFault>
-    ensures { spec.Leads (λ inner. spec.over_met is_ordered patterns.now over.now (inner later) (sees scope.entry)) (sees scope.entry) result }
+    ensures { spec.Leads (λ inner. spec.over_met is_ordered patterns.now over.now (inner later) (sees_under scope.entry turns.now)) (sees_under scope.entry turns.now) result }
 {
-    let (set, declaration) = eval_set(alloc, scope.environment, scope.parameters, over)?;
+    let (set, declaration) = eval_set_under(
+        alloc,
+        scope.environment,
+        scope.parameters,
+        turns,
+        over,
+    )?;
     let elements = elements_of(alloc, declaration, set)?;
     Ok(Ahead::Patterns(Names {
         is_ordered,

@@ -2,33 +2,12 @@
 //! in any number are gone through without recursion.
 ghost use Rattle.std.specs.Prelude.{◌≡◌, ◌++◌, ℕ, [], IfNone, IfOk, IfSome, cond};
 ghost use Rattle.opl_eval.specs.Evaluation.{Environment};
-ghost use Rattle.opl_groups.specs.Courses.{GoesOn, Inner, ahead_in, left, left_of, still, under};
+ghost use Rattle.opl_eval.specs.Turns.{left, under};
+ghost use Rattle.opl_groups.specs.Courses.{GoesOn, Inner, ahead_in, left_of, still};
 
-use crate::elements::Elements;
+use opl_eval::{Course, Elements, Turn, Turns};
 use opl_term::Pattern;
-use opl_value::Value;
 use std::alloc::{AllocError, Global};
-
-/// The elements that are left for a pattern.
-#[derive(Drop)]
-pub(crate) struct Course<'t> {
-    pub(crate) is_ordered: bool,
-    pub(crate) pattern: &'t Pattern,
-    /// The patterns behind it, over the same set.
-    pub(crate) others: &'t [Pattern],
-    /// All elements that the pattern goes over.
-    pub(crate) all: Elements,
-    pub(crate) rest: Elements,
-    /// The place of the next group.
-    pub(crate) later: usize,
-}
-
-/// The element that is chosen for a pattern, with those that are left.
-#[derive(Drop)]
-pub(crate) struct Turn<'t> {
-    pub(crate) element: Value,
-    pub(crate) course: Course<'t>,
-}
 
 /// Patterns that are to be given elements.
 #[derive(Drop)]
@@ -53,10 +32,10 @@ pub(crate) enum Ahead<'t> {
 /// Chooses the next element for a pattern, if there is one.
 fn take_turn<'t>(
     alloc: Global,
-    turns: &mut Vec<Turn<'t>>,
+    turns: &mut Turns<'t>,
     course: Course<'t>,
 ) -> Result<Ahead<'t>, AllocError>
-    ensures { IfOk result (λ next. (inner : Inner) (env : Environment) → left_of inner course.entry (under env turns.old.items) ++ still inner env [] turns.old.items ≡ ahead_in inner next (under env turns.new.items) ++ still inner env [] turns.new.items) }
+    ensures { IfOk result (λ next. (inner : Inner) (env : Environment) → left_of inner course.entry (under env turns.old.chosen.items) ++ still inner env [] turns.old.chosen.items ≡ ahead_in inner next (under env turns.new.chosen.items) ++ still inner env [] turns.new.chosen.items) }
 {
     let Course {
         is_ordered,
@@ -78,7 +57,7 @@ fn take_turn<'t>(
                 rest: behind,
                 later,
             };
-            turns.push(Turn { element, course })?;
+            turns.push(alloc, Turn { element, course })?;
             Ok(Ahead::Patterns(Names {
                 is_ordered,
                 patterns: others,
@@ -103,10 +82,10 @@ fn next_of(is_ordered: bool, behind: &Elements, all: &Elements) -> Result<Elemen
 /// Goes on with the first of patterns, or behind them where there are none.
 pub(crate) fn enter<'t>(
     alloc: Global,
-    turns: &mut Vec<Turn<'t>>,
+    turns: &mut Turns<'t>,
     names: Names<'t>,
 ) -> Result<Ahead<'t>, AllocError>
-    ensures { IfOk result (λ next. GoesOn (Ahead.Patterns names.entry) turns.old.items next turns.new.items) }
+    ensures { IfOk result (λ next. GoesOn (Ahead.Patterns names.entry) turns.old.chosen.items next turns.new.chosen.items) }
 {
     let Names {
         is_ordered,
@@ -134,10 +113,10 @@ pub(crate) fn enter<'t>(
 /// Goes back to the latest turn; None where there is none.
 pub(crate) fn go_back<'t>(
     alloc: Global,
-    turns: &mut Vec<Turn<'t>>,
+    turns: &mut Turns<'t>,
 ) -> Result<Option<Ahead<'t>>, AllocError>
-    ensures none { IfOk result (λ r. IfNone r (turns.old.items ≡ [])) }
-    ensures some { IfOk result (λ r. IfSome r (λ next. GoesOn Ahead.Back turns.old.items next turns.new.items)) }
+    ensures none { IfOk result (λ r. IfNone r (turns.old.chosen.items ≡ [])) }
+    ensures some { IfOk result (λ r. IfSome r (λ next. GoesOn Ahead.Back turns.old.chosen.items next turns.new.chosen.items)) }
 {
     match turns.pop() {
         None => Ok(None),

@@ -4,7 +4,6 @@
 mod choices;
 mod course;
 mod elements;
-mod parameters;
 mod scope;
 
 pub use choices::Choices;
