@@ -1,14 +1,11 @@
 -- The list of parts, as the loop that makes it adds to it.
-use Rattle.std.proofs.Common.{◌≡◌, ◌≢◌, ◌∙◌, ◌⊎◌, ℕ, ◌<◌, Bool, true, false, cond, ◌||◌, refl, List, [], ◌∷◌, ◌++◌, ℤ, pos, ◌+ℤ◌, neg_ℤ, ap, sym, subst, arith, inl, inr}
-use Rattle.std.specs.Prelude.{nat_eq, unsigned_abs, Some, None}
+use Rattle.std.proofs.Common.{◌≡◌, ◌≢◌, ◌∙◌, ◌⊎◌, ℕ, ◌<◌, true, false, cond, ◌||◌, refl, List, [], ◌∷◌, ◌++◌, ℤ, pos, ◌+ℤ◌, neg_ℤ, ap, sym, arith, inl, inr}
+use Rattle.std.specs.Prelude.{nat_eq, unsigned_abs}
 use Rattle.std.proofs.lemmas.Int.{ints}
-use Rattle.std.proofs.lemmas.Bool.{cases_lt, cases_eq}
 use Rattle.std.proofs.lemmas.Bool.Decides.{Decides-eqb}
 use Rattle.opl_expr.specs.Sound.{IsSmall}
-use Rattle.opl_range.specs.Between.{IsLastFactor}
 use Rattle.opl_linear.specs.Linear.{factor_in, names, NamesOnce, AreAmong, AreFactors, opposite}
-use Rattle.opl_linear.proofs.Sums.{unnamed}
-use Rattle.opl_linear_filter.specs.Parts.{AreFalling, ArePartsOf, ArePartsFrom}
+use Rattle.opl_linear_filter.specs.Parts.{AreFalling}
 
 pub not_same : (x y : ℕ) → x ≢ y → nat_eq x y ≡ false
 not_same x y n = elim (nat_eq x y) as (λ b. nat_eq x y ≡ b → b ≡ false) [
@@ -19,7 +16,7 @@ not_same x y n = elim (nat_eq x y) as (λ b. nat_eq x y ≡ b → b ≡ false) [
 pub same_number : (x y : ℕ) → x ≡ y → nat_eq x y ≡ true
 same_number x y e = (Decides-eqb x y).1 e
 
-factor_added : (ps : List (ℕ × ℤ)) (p : ℕ × ℤ) (y : ℕ) → factor_in (ps ++ p ∷ []) y ≡ factor_in ps y +ℤ cond (nat_eq y p.0) p.1 (pos 0)
+pub factor_added : (ps : List (ℕ × ℤ)) (p : ℕ × ℤ) (y : ℕ) → factor_in (ps ++ p ∷ []) y ≡ factor_in ps y +ℤ cond (nat_eq y p.0) p.1 (pos 0)
 factor_added [] p y = omega (arith, ints)
 factor_added (q ∷ ps) p y = let i = factor_added ps p y in omega (arith, ints, i)
 
@@ -36,7 +33,7 @@ first_named q ps x h = elim (nat_eq x q.0) as (λ b. nat_eq x q.0 ≡ b → (b |
   | false ↦ λ e k. (λ s. let t = same_number x q.0 s in cc, k)
 ] refl h
 
-named_by : (ps : List (ℕ × ℤ)) (p : ℕ × ℤ) (x : ℕ) → names (ps ++ p ∷ []) x ≡ true → (names ps x ≡ true) ⊎ (x ≡ p.0)
+pub named_by : (ps : List (ℕ × ℤ)) (p : ℕ × ℤ) (x : ℕ) → names (ps ++ p ∷ []) x ≡ true → (names ps x ≡ true) ⊎ (x ≡ p.0)
 named_by [] p x m = elim (nat_eq x p.0) as (λ b. nat_eq x p.0 ≡ b → (b || false) ≡ true → (false ≡ true) ⊎ (x ≡ p.0)) [
   | true ↦ λ e k. inr ((Decides-eqb x p.0).0 e)
   | false ↦ λ e k. cc
@@ -46,13 +43,13 @@ named_by (q ∷ ps) p x m = elim (nat_eq x q.0) as (λ b. (b || names (ps ++ p �
   | false ↦ λ k. named_by ps p x k
 ] m
 
-first_here : (q : ℕ × ℤ) (ps : List (ℕ × ℤ)) → (nat_eq q.0 q.0 || names ps q.0) ≡ true
+pub first_here : (q : ℕ × ℤ) (ps : List (ℕ × ℤ)) → (nat_eq q.0 q.0 || names ps q.0) ≡ true
 first_here q ps = rw (same_number q.0 q.0 refl) refl
 
-named_later : (q : ℕ × ℤ) (ps : List (ℕ × ℤ)) (x : ℕ) → names ps x ≡ true → (nat_eq x q.0 || names ps x) ≡ true
+pub named_later : (q : ℕ × ℤ) (ps : List (ℕ × ℤ)) (x : ℕ) → names ps x ≡ true → (nat_eq x q.0 || names ps x) ≡ true
 named_later q ps x m = elim (nat_eq x q.0) as (λ b. (b || names ps x) ≡ true) [ true ↦ refl | false ↦ m ]
 
-once_added : (ps : List (ℕ × ℤ)) (p : ℕ × ℤ) → NamesOnce ps → names ps p.0 ≡ false → NamesOnce (ps ++ p ∷ [])
+pub once_added : (ps : List (ℕ × ℤ)) (p : ℕ × ℤ) → NamesOnce ps → names ps p.0 ≡ false → NamesOnce (ps ++ p ∷ [])
 once_added [] p o h = (refl, tt)
 once_added (q ∷ ps) p o h =
     let s = first_named q ps p.0 h in
@@ -62,12 +59,12 @@ among_added : (n : ℕ) (ps : List (ℕ × ℤ)) (p : ℕ × ℤ) → AreAmong n
 among_added n [] p a h = (h, tt)
 among_added n (q ∷ ps) p a h = (a.0, among_added n ps p a.1 h)
 
-factors_added : (ps : List (ℕ × ℤ)) (p : ℕ × ℤ) → AreFactors ps → p.1 ≢ pos 0 → IsSmall (unsigned_abs p.1) → AreFactors (ps ++ p ∷ [])
+pub factors_added : (ps : List (ℕ × ℤ)) (p : ℕ × ℤ) → AreFactors ps → p.1 ≢ pos 0 → IsSmall (unsigned_abs p.1) → AreFactors (ps ++ p ∷ [])
 factors_added [] p a h s = (h, s, tt)
 factors_added (q ∷ ps) p a h s = (a.0, a.1, factors_added ps p a.2 h s)
 
 -- a part whose variable is less than all others
-falling_added : (ps : List (ℕ × ℤ)) (p : ℕ × ℤ) → AreFalling ps → ((x : ℕ) → names ps x ≡ true → p.0 < x) → AreFalling (ps ++ p ∷ [])
+pub falling_added : (ps : List (ℕ × ℤ)) (p : ℕ × ℤ) → AreFalling ps → ((x : ℕ) → names ps x ≡ true → p.0 < x) → AreFalling (ps ++ p ∷ [])
 falling_added [] p f h = (λ x m. cc, tt)
 falling_added (q ∷ ps) p f h = (
   λ x m. elim (named_by ps p x m) [ inl l ↦ f.0 x l | inr e ↦ let l = h q.0 (first_here q ps) in omega (arith, l, e) ],
@@ -80,62 +77,3 @@ opposite_added (q ∷ ps) x k = ap (λ qs. (q.0, neg_ℤ q.1) ∷ qs) (opposite_
 
 pub opposites_added : (ps qs us vs : List (ℕ × ℤ)) (x : ℕ) (k : ℤ) → qs ≡ opposite ps → us ≡ ps ++ (x, k) ∷ [] → vs ≡ qs ++ (x, neg_ℤ k) ∷ [] → vs ≡ opposite us
 opposites_added ps qs us vs x k e f g = g ∙ ap (λ rs. rs ++ (x, neg_ℤ k) ∷ []) e ∙ sym (opposite_added ps x k) ∙ ap opposite (sym f)
-
--- ---- the loop
-
-pub parts_start : (c : ℕ → ℤ) (n m : ℕ) (ps : List (ℕ × ℤ)) → m ≡ n → ps ≡ [] → ArePartsFrom c n m ps
-parts_start c n m ps e f = subst (ArePartsFrom c n m) (sym f) (record {
-  least = omega (arith, e);
-  once = tt;
-  falling = tt;
-  among = tt;
-  factors = tt;
-  same = λ x l h. absurd (omega (arith, l, h, e));
-  others = λ x l. refl;
-})
-
-none_else : (ps : List (ℕ × ℤ)) (x y : ℕ) (k : ℤ) → y ≢ x → factor_in (ps ++ (x, k) ∷ []) y ≡ factor_in ps y
-none_else ps x y k n = let a = factor_added ps (x, k) y in let b = ap (λ (t : Bool). cond t k (pos 0)) (not_same y x n) in omega (arith, ints, a, b)
-
--- no variable of the list is before e, so none is at or before x
-least_named : (ps : List (ℕ × ℤ)) (x e : ℕ) → x < e → ((y : ℕ) → y < e → names ps y ≡ false) → (y : ℕ) → names ps y ≡ true → x < y
-least_named ps x e l h y m = elim (cases_lt y e) [
-  | inl d ↦ let n = h y d in cc
-  | inr d ↦ omega (arith, l, d)
-]
-
-pub parts_more : (c : ℕ → ℤ) (n e : ℕ) (ps us : List (ℕ × ℤ)) (x : ℕ) (k : ℤ) → us ≡ ps ++ (x, k) ∷ [] → IsSmall (unsigned_abs k) → ArePartsFrom c n e ps → IsLastFactor c e (Some (x, k)) → ArePartsFrom c n x us
-parts_more c n e ps us x k i s a l = subst (ArePartsFrom c n x) (sym i) (record {
-  least = omega (arith, l.0.below, a.least);
-  once = once_added ps (x, k) a.once (a.others x l.0.below);
-  falling = falling_added ps (x, k) a.falling (λ y m. least_named ps x e (omega (arith, l.0.below)) a.others y m);
-  among = among_added n ps (x, k) a.among (omega (arith, l.0.below, a.least));
-  factors = factors_added ps (x, k) a.factors (λ z. l.0.nonzero (sym l.1 ∙ z)) s;
-  same = λ y h m. elim (cases_eq y x) [
-    | inl j ↦
-        let f = factor_added ps (x, k) y in
-        let b = ap (λ (t : Bool). cond t k (pos 0)) (same_number y x j) in
-        let u = unnamed ps x (a.others x l.0.below) in
-        let v = ap (factor_in ps) j in
-        let w = ap c j in
-        let z = l.1 in
-        omega (arith, ints, f, b, u, v, w, z)
-    | inr j ↦ elim (cases_lt y e) [
-      | inl d ↦ none_else ps x y k j ∙ unnamed ps y (a.others y d) ∙ sym (l.0.behind y (omega (arith, h, j)) d)
-      | inr d ↦ none_else ps x y k j ∙ a.same y d m
-    ]
-  ];
-  others = λ y h. names_added ps (x, k) y (a.others y (omega (arith, h, l.0.below))) (λ z. omega (arith, h, z));
-})
-
-pub parts_end : (c : ℕ → ℤ) (n e : ℕ) (ps : List (ℕ × ℤ)) → ArePartsFrom c n e ps → IsLastFactor c e None → ArePartsOf c n ps
-parts_end c n e ps a l = record {
-  once = a.once;
-  falling = a.falling;
-  among = a.among;
-  factors = a.factors;
-  same = λ y h. elim (cases_lt y e) [
-    | inl d ↦ unnamed ps y (a.others y d) ∙ sym (l y d)
-    | inr d ↦ a.same y d h
-  ];
-}

@@ -1,6 +1,8 @@
 mod Plain
 mod Constants
 mod Building
+mod Adding
+mod Listing
 pub mod Weights
 mod Counts
 mod Equations

@@ -13,8 +13,7 @@ use Rattle.opl_expr.specs.Range.{coef, coefs, pure}
 use Rattle.opl_expr.specs.Solutions.{declared}
 use Rattle.opl_expr.specs.Sound.{IsSmall, var_magnitude, term_magnitude, IsSoundTerm, AreSoundTerms}
 use Rattle.opl_expr.proofs.Narrower.{fixed_part, pure_is}
-use Rattle.opl_range.specs.Between.{term_of, between, CanCompare}
-use Rattle.opl_range.proofs.Parts.{coef_small}
+use Rattle.opl_range.specs.Between.{term_of, between}
 use Rattle.opl_range.proofs.Tables.{length_map}
 use Rattle.opl_range.specs.Magnitudes.{weight}
 use Rattle.opl_range.proofs.Weights.{HullsSmall, hulls_small, weight_minus, ranges_are_small}
@@ -126,13 +125,6 @@ all_factors core a b ps s t m h x = elim (cases_lt x (length core.sets)) [
       let w = coef_there core.sets b x t l in
       omega (arith, ints, u, v, w)
 ]
-
-pub factor_small : (core : Core) (a b : Expr) (x : ℕ) (k : ℤ) → CanCompare core a b → k ≡ between core a b x → IsSmall (unsigned_abs k)
-unfolding between
-factor_small core a b x k s e =
-    let u = coef_small core.sets (term_of core a) x in
-    let v = coef_small core.sets (term_of core b) x in
-    omega (arith, ints, s.0, ap unsigned_abs e, abs_less (coef (term_of core a) x) (coef (term_of core b) x), u, v)
 
 pub between_is : (core : Core) (a b : Expr) (x : ℕ) → between core a b x ≡ factors_of (term_of core a) (term_of core b) x
 unfolding between

@@ -3,3 +3,4 @@ pub mod ShortForms
 pub mod LinearForms
 pub mod NormalForms
 pub mod Ends
+pub mod Factors

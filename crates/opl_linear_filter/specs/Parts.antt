@@ -1,5 +1,5 @@
 -- The parts of a linear form: its variables with their factors.
-use Rattle.std.specs.Prelude.{◌≡◌, ℕ, ◌+◌, ◌*◌, ◌<◌, ◌≤◌, Bool, true, false, List, [], ◌∷◌, ℤ, unsigned_abs}
+use Rattle.std.specs.Prelude.{◌≡◌, ℕ, ◌+◌, ◌*◌, ◌<◌, Bool, true, false, List, [], ◌∷◌, ℤ, unsigned_abs}
 use Rattle.opl_expr.specs.Sound.{var_magnitude}
 use Rattle.opl_range.specs.Between.{are_opposite_units}
 use Rattle.opl_linear.specs.Linear.{factor_in, names, NamesOnce, AreAmong, AreFactors, opposite}
@@ -21,16 +21,6 @@ pub record ArePartsOf (c : ℕ → ℤ) (n : ℕ) (ps : List (ℕ × ℤ)) : Typ
   pub among : AreAmong n ps
   pub factors : AreFactors ps
   pub same : (x : ℕ) → x < n → factor_in ps x ≡ c x
-
--- the same of the variables from another one on, and the list names no other
-pub record ArePartsFrom (c : ℕ → ℤ) (n first : ℕ) (ps : List (ℕ × ℤ)) : Type 0 where
-  pub least : first ≤ n
-  pub once : NamesOnce ps
-  pub falling : AreFalling ps
-  pub among : AreAmong n ps
-  pub factors : AreFactors ps
-  pub same : (x : ℕ) → first ≤ x → x < n → factor_in ps x ≡ c x
-  pub others : (x : ℕ) → x < first → names ps x ≡ false
 
 -- two lists are the parts, and the same with the opposite factors
 abbrev pub ArePartsBoth : (ℕ → ℤ) → ℕ → List (ℕ × ℤ) × List (ℕ × ℤ) → Type 0

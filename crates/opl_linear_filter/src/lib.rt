@@ -3,6 +3,7 @@
 
 mod as_filter;
 mod constant;
+mod factors;
 pub mod laws;
 mod linear_filter;
 mod narrowing;

@@ -1,16 +1,18 @@
 //! The parts of the linear form of a difference.
-ghost use Rattle.std.specs.Prelude.{◌≡◌, ◌≢◌, ◌++◌, ◌∷◌, [], pos, unsigned_abs, neg_ℤ, length, IfOk, OnOk};
+ghost use Rattle.std.specs.Prelude.{◌≡◌, ℕ, ◌≢◌, ◌++◌, ◌∷◌, [], pos, unsigned_abs, neg_ℤ, length, IfOk, OnOk};
 ghost use Rattle.opl_expr.specs.Sound.{IsSmall};
 ghost use Rattle.opl_range.specs.Between.{between, CanCompare, are_opposite_units};
 ghost use Rattle.opl_linear.specs.Linear.{opposite};
+ghost use Rattle.opl_linear_filter.specs.Factors.{factor_at, AreBelow};
 ghost use Rattle.opl_linear_filter.specs.Parts.{ArePartsBoth, is_short};
 
+use crate::factors::add_form;
 use crate::numbers::negated;
 use opl_domain::OutOfMemory;
 use opl_expr::{Core, Expr};
 use opl_list::Seq;
-use opl_range::last_factor;
 use std::alloc::Global;
+use std::collections::BTreeMap;
 
 /// Adds a variable with its factor, and the same with the opposite factor.
 fn add(
@@ -28,6 +30,25 @@ fn add(
     Ok(())
 }
 
+/// The variables of a map with their factors other than 0, the last one first, and the same with the opposite factors.
+fn listed(
+    alloc: Global,
+    factors: BTreeMap<u32, i128>,
+) -> Result<(Seq<(u32, i128)>, Seq<(u32, i128)>), OutOfMemory>
+    requires { (x : ℕ) → IsSmall (unsigned_abs (factor_at factors x)) }
+    ensures { IfOk result (λ both. (n : ℕ) → AreBelow n factors → ArePartsBoth (factor_at factors) n both) }
+{
+    let mut left = factors;
+    let mut parts = Seq::new(alloc);
+    let mut opposites = Seq::new(alloc);
+    while let Some((x, factor)) = left.pop_last() {
+        if factor != 0 {
+            add(&mut parts, &mut opposites, x, factor)?;
+        }
+    }
+    Ok((parts, opposites))
+}
+
 /// The variables of `a` less `b` with their factors, the last one first, and the same with the opposite factors.
 pub fn parts_between(
     alloc: Global,
@@ -38,21 +59,10 @@ pub fn parts_between(
     requires { CanCompare core.now a.now b.now }
     ensures { IfOk result (ArePartsBoth (between core.now a.now b.now) (length core.now.sets)) }
 {
-    if core.sets.len() > u32::MAX as usize {
-        return Err(OutOfMemory);
-    }
-    let mut parts = Seq::new(alloc);
-    let mut opposites = Seq::new(alloc);
-    let mut end = core.sets.len() as u32;
-    'named: loop {
-        match last_factor(core, a, b, end) {
-            None => return Ok((parts, opposites)),
-            Some((x, factor)) => {
-                add(&mut parts, &mut opposites, x, factor)?;
-                end = x;
-            }
-        }
-    }
+    let mut factors = BTreeMap::new(alloc);
+    add_form(core, a, 1, &mut factors)?;
+    add_form(core, b, -1, &mut factors)?;
+    listed(alloc, factors)
 }
 
 /// Whether two numbers are 1 and -1, in any order.

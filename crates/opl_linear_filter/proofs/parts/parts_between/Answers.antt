@@ -1,28 +1,26 @@
-use Rattle.std.proofs.Common.{rules, length}
-use Rattle.std.specs.Prelude.{FitsSigned}
-use mir.Syntax.{w128}
-use Rattle.std.proofs.lemmas.Int.{to_z-of_z}
+use Rattle.std.proofs.Common.{length}
+use Rattle.std.proofs.lemmas.Result.{IfOk-weaker}
 use Rattle.opl_range.specs.Between.{between}
-use Rattle.opl_linear_filter.proofs.Building.{parts_more, parts_end, opposites_added}
-use Rattle.opl_linear_filter.proofs.Weights.{factor_small}
+use Rattle.opl_linear_filter.specs.Factors.{factor_at}
+use Rattle.opl_linear_filter.proofs.Adding.{first_can, second_can, both_are, both_small, none_below}
+use Rattle.opl_linear_filter.proofs.Listing.{parts_same}
 use Rattle.opl_linear_filter.proofs.parts.parts_between.Goals as goal
 
-pub returns-in-None : goal.returns-in-None
-returns-in-None c =
-    (parts_end (between c.args.core.now c.args.a.now c.args.b.now) (length c.args.core.now.sets) c.named.end c.named.parts c.named.invariant.0 c.in-None.ensures, c.named.invariant.1)
+pub add_form-requires-clause-fits : goal.add_form-requires-clause-fits
+add_form-requires-clause-fits c = first_can c.args.core.now c.args.a.now c.args.b.now c.new-factors.result c.new-factors.result c.new-factors.result c.requires c.new-factors.ensures.empty
 
-pub add-requires : goal.add-requires
-add-requires c =
-    let fits : FitsSigned w128 c.in-Some.factor = search rules in
-    simp to_z-of_z (factor_small c.args.core.now c.args.a.now c.args.b.now c.in-Some.x c.in-Some.factor c.requires c.in-Some.ensures.1)
+pub add_form-requires-clause-below : goal.add_form-requires-clause-below
+add_form-requires-clause-below c = none_below _ c.new-factors.result c.new-factors.ensures.empty
 
-pub named-preserved : goal.named-preserved
-named-preserved c =
-    let fits : FitsSigned w128 c.in-Some.factor = search rules in
+pub add_form-requires-2-clause-fits : goal.add_form-requires-2-clause-fits
+add_form-requires-2-clause-fits c = second_can c.args.core.now c.args.a.now c.args.b.now c.new-factors.result c.add_form.new.factors c.add_form.new.factors c.requires c.new-factors.ensures.empty c.in_ok-add_form.ensures.factors
+
+pub listed-requires : goal.listed-requires
+listed-requires c = both_small c.args.core.now c.args.a.now c.args.b.now c.new-factors.result c.add_form.new.factors c.add_form-2.new.factors c.requires c.new-factors.ensures.empty c.in_ok-add_form.ensures.factors c.in_ok-add_form-2.ensures.factors
+
+pub returns : goal.returns
+returns c =
+    let same = both_are c.args.core.now c.args.a.now c.args.b.now c.new-factors.result c.add_form.new.factors c.add_form-2.new.factors c.requires c.new-factors.ensures.empty c.in_ok-add_form.ensures.factors c.in_ok-add_form-2.ensures.factors in
+    let n = length c.args.core.now.sets in
     let form = between c.args.core.now c.args.a.now c.args.b.now in
-    let e = simp to_z-of_z at c.in_ok-add-in-Some.ensures.parts in
-    let o = simp to_z-of_z at c.in_ok-add-in-Some.ensures.opposites in
-    let s = factor_small c.args.core.now c.args.a.now c.args.b.now c.in-Some.x c.in-Some.factor c.requires c.in-Some.ensures.1 in (
-      parts_more form (length c.args.core.now.sets) c.named.end c.named.parts c.add.new.parts c.in-Some.x c.in-Some.factor e s c.named.invariant.0 c.in-Some.ensures,
-      opposites_added c.named.parts c.named.opposites c.add.new.parts c.add.new.opposites c.in-Some.x c.in-Some.factor c.named.invariant.1 e o,
-    )
+    IfOk-weaker c.listed.result _ _ (λ both h. let p = h n c.in_ok-add_form-2.ensures.below in (parts_same (factor_at c.add_form-2.new.factors) form n both.0 same p.0, p.1)) c.listed.ensures
