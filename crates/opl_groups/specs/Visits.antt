@@ -1,5 +1,5 @@
 -- What the program's values stand for in the definitions, and what its functions answer.
-use Rattle.std.specs.Prelude.{◌≡◌, ◌≢◌, ◌++◌, ℕ, Bool, true, false, cond, List, [], ◌∷◌, drop, map, Option, Some, None, Result, Ok, Err}
+use Rattle.std.specs.Prelude.{◌≡◌, ◌≢◌, Bool, true, false, List, [], ◌∷◌, drop, map, Some, Result, Ok, Err}
 use Rattle.std.specs.Option.{option_copied}
 use Rattle.opl_term.specs.declared.term.Pattern.{Pattern}
 use Rattle.opl_term.specs.declared.term.SetTerm.{SetTerm}

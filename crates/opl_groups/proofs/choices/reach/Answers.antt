@@ -1,5 +1,4 @@
-use Rattle.std.proofs.Common.{◌+◌, ap, rules, sym, ◌∙◌}
-use Rattle.opl_groups.specs.Met.{first}
+use Rattle.std.proofs.Common.{◌+◌, ap, rules, ◌∙◌}
 use Rattle.opl_groups.specs.Visits.{group_met, met_at, sees_under}
 use Rattle.opl_groups.proofs.Leads.{leads-fault, visits-more}
 use Rattle.opl_groups.proofs.choices.reach.Goals as goal
