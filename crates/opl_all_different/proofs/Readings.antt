@@ -1,11 +1,14 @@
 -- Expressions that are read as parts.
 use Rattle.std.proofs.Common.{◌≡◌, ◌≢◌, ◌∙◌, ◌⊎◌, ℕ, zero, suc, ◌+◌, ◌<◌, ◌≤◌, Bool, true, false, refl, List, [], ◌∷◌, ◌++◌, map, length, take, ℤ, pos, ◌+ℤ◌, neg_ℤ, get_or, ap, sym, subst, arith, inl, inr}
-use Rattle.std.specs.Prelude.{Option, Some, None, slice_get}
+use Rattle.std.specs.Prelude.{Option, Some, None, slice_get, nat_eq, cond, not}
+use Rattle.std.specs.HashSet.{HashSet, Updates, contains}
+use Rattle.std.specs.List.{list_any}
 use Rattle.std.proofs.Math.Path.{fun_ext}
 use Rattle.std.proofs.Math.ListN.{get_or-append}
 use Rattle.std.proofs.Math.Seq.{get_or-append_seam}
 use Rattle.std.proofs.lemmas.Int.{ints}
 use Rattle.std.proofs.lemmas.Bool.{cases_eq, cases_lt}
+use Rattle.std.proofs.lemmas.Bool.Decides.{Decides-eqb}
 use Rattle.std.proofs.lemmas.List.{take_more, length-append}
 use Rattle.std.proofs.lemmas.Option.{slice_get_within, get_or_from_slice_get, slice_get_read}
 use Rattle.opl_expr.specs.declared.model.Core.{Core}
@@ -21,7 +24,7 @@ use Rattle.opl_linear.specs.Forms.{constant_part}
 use Rattle.opl_linear_filter.proofs.Weights.{coef_there}
 use Rattle.opl_all_different.specs.declared.part.Part.{Part}
 use Rattle.opl_all_different.specs.Parts.{nothing, part_at, factor_of, IsThere, AreApart, AreSeparate, IsPartOf, ArePartsOf}
-use Rattle.opl_all_different.specs.Reading.{AreSingleVariables, IsReadAs, HasVariable, Shares, HaveParts}
+use Rattle.opl_all_different.specs.Reading.{AreSingleVariables, IsReadAs, HasVariable, AreSeen, Shares, HaveParts}
 use Rattle.opl_all_different.proofs.Meetings.{zero_or_not}
 use Rattle.opl_all_different.proofs.Sums.{factor_here, factor_there, factor_none}
 
@@ -174,6 +177,68 @@ module _ (n : ℕ) (ps : List Part) (p : Part) where
       ]
     ];
   }
+
+-- ---- the variables that are seen
+
+no_key : (keys : List ℕ) (x : ℕ) → keys ≡ [] → list_any (nat_eq x) keys ≡ false
+no_key keys x e = ap (list_any (nat_eq x)) e
+
+pub none_seen : {S : Type 0} (seen : HashSet ℕ S) (ps : List Part) → seen.keys ≡ [] → ps ≡ [] → AreSeen seen ps
+none_seen seen ps e f = subst (AreSeen seen) (sym f) (λ x. subst (HasVariable [] x) (sym (no_key seen.keys x e)) (λ i h. absurd (omega (arith, h))))
+
+module _ (ps : List Part) (p : Part) (x : ℕ) where
+  still_has : HasVariable ps x true → HasVariable (ps ++ p ∷ []) x true
+  still_has h = (
+    h.0,
+    record {
+      place = omega (arith, h.1.place, longer 0 ps p);
+      factor = λ z. h.1.factor (ap (λ q. q.factor) (sym (at_before 0 ps p h.0 h.1.place)) ∙ z);
+      is = ap (λ q. q.variable) (at_before 0 ps p h.0 h.1.place) ∙ h.1.is;
+    },
+  )
+
+  still_not : (p.factor ≢ pos 0 → p.variable ≢ x) → HasVariable ps x false → HasVariable (ps ++ p ∷ []) x false
+  still_not n h i l m = elim (place_cases 0 ps p i l) [
+    | inl e ↦ λ z. n (λ y. m (ap (λ q. q.factor) (at_end 0 ps p i e) ∙ y)) (ap (λ q. q.variable) (sym (at_end 0 ps p i e)) ∙ z)
+    | inr k ↦ λ z. h i k (λ y. m (ap (λ q. q.factor) (at_before 0 ps p i k) ∙ y)) (ap (λ q. q.variable) (sym (at_before 0 ps p i k)) ∙ z)
+  ]
+
+  has_last : p.factor ≢ pos 0 → p.variable ≡ x → HasVariable (ps ++ p ∷ []) x true
+  has_last n e = (
+    length ps,
+    record {
+      place = omega (arith, longer 0 ps p);
+      factor = λ z. n (ap (λ q. q.factor) (sym (at_end 0 ps p (length ps) refl)) ∙ z);
+      is = ap (λ q. q.variable) (at_end 0 ps p (length ps) refl) ∙ e;
+    },
+  )
+
+  still : (b : Bool) → (p.factor ≢ pos 0 → p.variable ≢ x) → HasVariable ps x b → HasVariable (ps ++ p ∷ []) x b
+  still true n h = still_has h
+  still false n h = still_not n h
+
+-- a constant adds no variable
+pub seen_same : {S : Type 0} (seen : HashSet ℕ S) (ps : List Part) (p : Part) → p.factor ≡ pos 0 → AreSeen seen ps → AreSeen seen (ps ++ p ∷ [])
+seen_same seen ps p z s x = still ps p x (contains nat_eq seen x) (λ n. absurd (n z)) (s x)
+
+-- a part with a variable adds it
+pub seen_more : {S : Type 0} (old new : HashSet ℕ S) (ps : List Part) (p : Part) → p.factor ≢ pos 0 → Updates nat_eq old new p.variable true → AreSeen old ps → AreSeen new (ps ++ p ∷ [])
+seen_more old new ps p n u s x = elim (nat_eq p.variable x) as (λ b. nat_eq p.variable x ≡ b → HasVariable (ps ++ p ∷ []) x (contains nat_eq new x)) [
+  | true ↦ λ e. subst (HasVariable (ps ++ p ∷ []) x) (sym (u.0 x ∙ ap (λ b. cond b true (contains nat_eq old x)) e)) (has_last ps p x n ((Decides-eqb p.variable x).0 e))
+  | false ↦ λ e.
+      subst (HasVariable (ps ++ p ∷ []) x) (sym (u.0 x ∙ ap (λ b. cond b true (contains nat_eq old x)) e))
+      (still ps p x (contains nat_eq old x) (λ m y. let t = (Decides-eqb p.variable x).1 y in cc) (s x))
+] refl
+
+double_not : (a b : Bool) → a ≡ not b → not a ≡ b
+double_not true true e = cc
+double_not true false e = refl
+double_not false true e = refl
+double_not false false e = cc
+
+-- it is shared where it was seen
+pub seen_shares : {S : Type 0} (seen : HashSet ℕ S) (ps : List Part) (p : Part) (added : Bool) → p.factor ≢ pos 0 → added ≡ not (contains nat_eq seen p.variable) → AreSeen seen ps → Shares ps p (not added)
+seen_shares seen ps p added n e s = shares_by ps p (not added) n (subst (HasVariable ps p.variable) (sym (double_not added (contains nat_eq seen p.variable) e)) (s p.variable))
 
 pub parts_next : (core : Core) (es : List Expr) (ps : List Part) (i : ℕ) (e : Expr) (p : Part) → i < length es → e ≡ get_or es i e → HaveParts core (take i es) ps → IsReadAs core (term_of core e) (Some p) → Shares ps p false → HaveParts core (take (i + 1) es) (ps ++ p ∷ [])
 parts_next core es ps i e p h g k r s =

@@ -1,5 +1,6 @@
 -- Expressions that are parts: linear, of at most one variable.
-use Rattle.std.specs.Prelude.{◌≡◌, ◌≢◌, ℕ, ◌<◌, Bool, true, false, List, length, map, pos, slice_get, Option, Some, None}
+use Rattle.std.specs.Prelude.{◌≡◌, ◌≢◌, ℕ, ◌<◌, Bool, true, false, List, length, map, pos, nat_eq, slice_get, Option, Some, None}
+use Rattle.std.specs.HashSet.{HashSet, contains}
 use Rattle.opl_expr.specs.declared.model.Core.{Core}
 use Rattle.opl_expr.specs.declared.forms.Expr.{Expr}
 use Rattle.opl_expr.specs.Forms.{Term, terms_of}
@@ -37,6 +38,10 @@ pub record HasVariableAt (ps : List Part) (x i : ℕ) : Type 0 where
 abbrev pub HasVariable : List Part → ℕ → Bool → Type 0
 HasVariable ps x true = (i : ℕ) × HasVariableAt ps x i
 HasVariable ps x false = (i : ℕ) → i < length ps → (part_at ps i).factor ≢ pos 0 → (part_at ps i).variable ≢ x
+
+-- a set has the variables of the parts, and no others
+abbrev pub AreSeen : {S : Type 0} → HashSet ℕ S → List Part → Type 0
+AreSeen seen ps = (x : ℕ) → HasVariable ps x (contains nat_eq seen x)
 
 -- a part of the list has the variable of another one
 pub record SharesAt (ps : List Part) (p : Part) (i : ℕ) : Type 0 where

@@ -11,6 +11,7 @@ use opl_domain::OutOfMemory;
 use opl_expr::{Core, Expr};
 use opl_list::Seq;
 use std::alloc::Global;
+use std::collections::HashSet;
 
 /// The parts of expressions, if each is linear with at most one variable, and no two have the same.
 pub fn parts_of(alloc: Global, core: &Core, es: &[Expr]) -> Result<Option<Seq<Part>>, OutOfMemory>
@@ -19,11 +20,13 @@ pub fn parts_of(alloc: Global, core: &Core, es: &[Expr]) -> Result<Option<Seq<Pa
     ensures { IfOk result (AreReadAs core.now es.now) }
 {
     let mut parts = Seq::new(alloc);
+    let mut seen = HashSet::new(alloc);
     for e in es {
         match part_of(core, e) {
             None => return Ok(None),
             Some(part) => {
-                if shares(parts.as_slice(), &part) {
+                let is_shared = shares(&mut seen, &part)?;
+                if is_shared {
                     return Ok(None);
                 }
                 parts.push(part)?;

@@ -1,14 +1,17 @@
 //! The parts of `alldifferent`, as its expressions have them.
-ghost use Rattle.std.specs.Prelude.{◌≡◌, ◌<◌, ◌^◌, length};
+ghost use Rattle.std.specs.Prelude.{◌≡◌, ◌<◌, ◌^◌, ◌++◌, ◌∷◌, [], List, length, IfOk, OnOk};
 ghost use Rattle.opl_expr.specs.Range.{coef};
 ghost use Rattle.opl_expr.specs.Sound.{IsSoundTerm};
 ghost use Rattle.opl_range.specs.Between.{term_of, IsLastFactor};
-ghost use Rattle.opl_all_different.specs.Reading.{IsReadAs, HasVariable, Shares};
+ghost use Rattle.opl_all_different.specs.Reading.{IsReadAs, AreSeen, Shares};
+ghost use Rattle.opl_all_different.specs.declared.part.Part.{Part};
 
 use crate::part::Part;
+use opl_domain::OutOfMemory;
 use opl_expr::{Core, Expr};
 use opl_linear_filter::constant_part;
 use opl_range::{is_linear, last_factor};
+use std::collections::HashSet;
 
 /// The last variable below `end` whose factor in an expression isn't 0, with that factor.
 fn last_of(core: &Core, e: &Expr, end: u32) -> Option<(u32, i128)>
@@ -46,24 +49,13 @@ pub fn part_of(core: &Core, e: &Expr) -> Option<Part>
     }
 }
 
-/// Whether one of the parts has variable `x`.
-fn has_variable(parts: &[Part], x: u32) -> bool
-    ensures { HasVariable parts.now x result }
-{
-    for part in parts {
-        if part.factor != 0 && part.variable == x {
-            return true;
-        }
-    }
-    false
-}
-
-/// Whether one of the parts has the variable of another one.
-pub fn shares(parts: &[Part], part: &Part) -> bool
-    ensures { Shares parts.now part.now result }
+/// Whether the variable of a part is one of those seen, to which it is added.
+pub fn shares(seen: &mut HashSet<u32>, part: &Part) -> Result<bool, OutOfMemory>
+    ensures shares { IfOk result (λ shared. (ps : List Part) → AreSeen seen.old ps → Shares ps part.now shared) }
+    ensures seen { OnOk result ((ps : List Part) → AreSeen seen.old ps → AreSeen seen.new (ps ++ part.now ∷ [])) }
 {
     if part.factor == 0 {
-        return false;
+        return Ok(false);
     }
-    has_variable(parts, part.variable)
+    Ok(!seen.insert(part.variable)?)
 }
