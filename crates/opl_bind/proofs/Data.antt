@@ -1,11 +1,20 @@
 -- What one more declaration adds, as the program keeps it.
-use Rattle.std.proofs.Common.{◌≡◌, ℕ, ℤ, Bool, List, []}
+use Rattle.std.proofs.Common.{◌≡◌, ◌⊎◌, inl, inr, ℕ, ℤ, Bool, List, [], Ok, ap}
+use Rattle.opl_tree.specs.declared.declaration.ActivityTree.{ActivityTree}
+use Rattle.opl_tree.specs.declared.declaration.DeclTree.{DeclTree}
+use Rattle.opl_tree.specs.declared.declaration.DeclTree.TheVariants as decls
+use Rattle.opl_tree.specs.declared.declaration.DiscreteTree.{DiscreteTree}
 use Rattle.opl_tree.specs.declared.declaration.EnumNamesTree.TheVariants as names
+use Rattle.opl_tree.specs.declared.declaration.ScheduleTree.{ScheduleTree}
+use Rattle.opl_tree.specs.declared.declaration.UnaryTree.{UnaryTree}
+use Rattle.opl_tree.specs.declared.declaration.VariableTree.{VariableTree}
 use Rattle.opl_tree.specs.declared.expression.NameTree.{NameTree}
 use Rattle.opl_value.specs.declared.value.Value.{Value}
 use Rattle.opl_value.specs.declared.value.Value.TheVariants as values
 use Rattle.opl_eval.specs.Evaluation.{Environment, declared}
-use Rattle.opl_bind.specs.Bind.{Data, with_ends, with_known, with_listed, with_names, with_value, with_values}
+use Rattle.opl_given.specs.declared.assigned.Override.{Override}
+use Rattle.opl_given.specs.Given.{Given}
+use Rattle.opl_bind.specs.Bind.{Data, with_decl, with_ends, with_known, with_listed, with_names, with_value, with_values}
 use Rattle.opl_given.specs.Forms.{Known, number_of, with_declaration, with_enumeration, with_range}
 use Rattle.opl_given.specs.Names.{Text}
 
@@ -41,3 +50,14 @@ unfolding with_listed
 unlisted-kept k d at is_written ns = λ i. both k d
 
 pub ruleset kept = (value-kept, ends-kept, names-kept, known-kept, listed-kept, unlisted-kept)
+
+-- a declaration that is no data
+abbrev IsNoData : DeclTree → Type 0
+IsNoData u = ((t : VariableTree) × (u ≡ decls.Variable t)) ⊎ (((t : ActivityTree) × (u ≡ decls.Activity t)) ⊎ (((t : UnaryTree) × (u ≡ decls.Unary t)) ⊎ (((t : DiscreteTree) × (u ≡ decls.Discrete t)) ⊎ ((t : ScheduleTree) × (u ≡ decls.Schedule t)))))
+
+pub decl-none : (given : Given) (os : List Override) (u : DeclTree) (d : Data) → IsNoData u → with_decl given os u d ≡ Ok (with_known (with_declaration [] [] d.known) d)
+decl-none given os u d (inl h) = ap (λ t. with_decl given os t d) h.1
+decl-none given os u d (inr (inl h)) = ap (λ t. with_decl given os t d) h.1
+decl-none given os u d (inr (inr (inl h))) = ap (λ t. with_decl given os t d) h.1
+decl-none given os u d (inr (inr (inr (inl h)))) = ap (λ t. with_decl given os t d) h.1
+decl-none given os u d (inr (inr (inr (inr h)))) = ap (λ t. with_decl given os t d) h.1

@@ -1,5 +1,5 @@
 -- The elements of another array, by their keys.
-use Rattle.std.proofs.Common.{◌≡◌, ℕ, ℤ, ◌+◌, ◌*◌, Bool, true, cond, List, [], ◌∷◌, length, map, nat_eq, Result, Ok, Err, sym, ap, subst, ◌∙◌}
+use Rattle.std.proofs.Common.{◌≡◌, ◌⊎◌, inl, inr, ℕ, ℤ, ◌+◌, ◌*◌, Bool, true, cond, List, [], ◌∷◌, length, map, nat_eq, Result, Ok, Err, sym, ap, subst, ◌∙◌}
 use Rattle.std.specs.List.{flat_map}
 use Rattle.opl_value.specs.declared.value.Value.{Value}
 use Rattle.opl_value.specs.declared.value.Value.TheVariants as values
@@ -55,6 +55,20 @@ taken-Names known at form axes ns = ap (taken_layer known at form axes) (values.
 
 pub taken-Array : (known : Known) (at : ℕ) (form : Form) (axes : List Axis) (space : IndexSpace) (vs : List Value) → taken_layer known at form axes (out-Value (values.Array space vs)) ≡ then (places_among (Shape 0 at) (0 ∷ []) (map values_of axes) (lists space)) (λ places. tested known at form (map (value_at vs) places))
 taken-Array known at form axes space vs = ap (taken_layer known at form axes) (values.outs-Array space vs)
+
+-- a value of any other form than an array
+abbrev IsNoArray : Value → Type 0
+IsNoArray v = ((n : ℤ) × (v ≡ values.Int n)) ⊎ (((b : Bool) × (v ≡ values.Bool b)) ⊎ (((d : ℕ) × (p : ℕ) × (v ≡ values.Enum d p)) ⊎ (((vs : List Value) × (v ≡ values.Record vs)) ⊎ (((vs : List Value) × (v ≡ values.Set vs)) ⊎ (((l : ℤ) × (h : ℤ) × (v ≡ values.Range l h)) ⊎ (((ns : List (List ℕ)) × (v ≡ values.Names ns))))))))
+
+-- it is refused
+pub taken-none : (known : Known) (at : ℕ) (form : Form) (axes : List Axis) (v : Value) → IsNoArray v → taken_layer known at form axes (out-Value v) ≡ Err (Shape 0 at)
+taken-none known at form axes v (inl h) = ap (λ w. taken_layer known at form axes (out-Value w)) h.1 ∙ taken-Int known at form axes h.0
+taken-none known at form axes v (inr (inl h)) = ap (λ w. taken_layer known at form axes (out-Value w)) h.1 ∙ taken-Bool known at form axes h.0
+taken-none known at form axes v (inr (inr (inl h))) = ap (λ w. taken_layer known at form axes (out-Value w)) h.2 ∙ taken-Enum known at form axes h.0 h.1
+taken-none known at form axes v (inr (inr (inr (inl h)))) = ap (λ w. taken_layer known at form axes (out-Value w)) h.1 ∙ taken-Record known at form axes h.0
+taken-none known at form axes v (inr (inr (inr (inr (inl h))))) = ap (λ w. taken_layer known at form axes (out-Value w)) h.1 ∙ taken-Set known at form axes h.0
+taken-none known at form axes v (inr (inr (inr (inr (inr (inl h)))))) = ap (λ w. taken_layer known at form axes (out-Value w)) h.2 ∙ taken-Range known at form axes h.0 h.1
+taken-none known at form axes v (inr (inr (inr (inr (inr (inr h)))))) = ap (λ w. taken_layer known at form axes (out-Value w)) h.1 ∙ taken-Names known at form axes h.0
 
 pub ruleset arrays_taken = (taken-Int, taken-Bool, taken-Enum, taken-Record, taken-Set, taken-Range, taken-Names, taken-Array)
 

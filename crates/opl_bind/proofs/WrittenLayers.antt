@@ -685,6 +685,30 @@ fit-whole known t form env (inr (inr (inr (inr (inr (inr (inr (inr (inr (inr (in
 abbrev IsNoArray : Term → Type 0
 IsNoArray e = ((at : ℕ) × (n : ℤ) × (e ≡ terms.Number at n)) ⊎ (((at : ℕ) × (name : List ℕ) × (e ≡ terms.Named at name)) ⊎ (((at : ℕ) × (t : Term) × (e ≡ terms.Bracket at t)) ⊎ (((at : ℕ) × (t : Term) × (e ≡ terms.Negative at t)) ⊎ (((at : ℕ) × (t : Term) × (ss : List Step) × (e ≡ terms.Chain at t ss)) ⊎ (((at : ℕ) × (t : Term) × (r : Relation) × (u : Term) × (e ≡ terms.Related at t r u)) ⊎ (((at : ℕ) × (t : Term) × (s : SetTerm) × (e ≡ terms.Member at t s)) ⊎ (((at : ℕ) × (ts : List Term) × (e ≡ terms.Equivalent at ts)) ⊎ (((at : ℕ) × (t : Term) × (u : Term) × (e ≡ terms.Implied at t u)) ⊎ (((at : ℕ) × (ts : List Term) × (e ≡ terms.Or at ts)) ⊎ (((at : ℕ) × (ts : List Term) × (e ≡ terms.And at ts)) ⊎ (((at : ℕ) × (t : Term) × (e ≡ terms.Not at t)) ⊎ (((at : ℕ) × (op : AggregateOp) × (gs : List GroupTerm) × (c : Option Term) × (t : Term) × (e ≡ terms.Aggregate at op gs c t)) ⊎ (((at : ℕ) × (op : CallOp) × (t : Term) × (e ≡ terms.Call at op t)) ⊎ (((at : ℕ) × (t : Term) × (e ≡ terms.AllDifferent at t)) ⊎ (((at : ℕ) × (op : QuestionOp) × (t : Term) × (e ≡ terms.Question at op t)) ⊎ (((at : ℕ) × (t : Term) × (ts : List Term) × (e ≡ terms.Element at t ts)) ⊎ (((at : ℕ) × (t : Term) × (fs : List FieldName) × (e ≡ terms.Fields at t fs)) ⊎ (((at : ℕ) × (ts : List Term) × (e ≡ terms.Record at ts)) ⊎ (((at : ℕ) × (ts : List Term) × (e ≡ terms.Listed at ts)) ⊎ (((at : ℕ) × (t : Term) × (gs : List GroupTerm) × (c : Option Term) × (e ≡ terms.Described at t gs c))))))))))))))))))))))
 
+-- an expression of any other form has none
+pub has_cells-none : (t : Term) → IsNoArray t → has_cells t ≡ false
+has_cells-none t (inl h) = ap has_cells h.2 ∙ has_cells-Number h.0 h.1
+has_cells-none t (inr (inl h)) = ap has_cells h.2 ∙ has_cells-Named h.0 h.1
+has_cells-none t (inr (inr (inl h))) = ap has_cells h.2 ∙ has_cells-Bracket h.0 h.1
+has_cells-none t (inr (inr (inr (inl h)))) = ap has_cells h.2 ∙ has_cells-Negative h.0 h.1
+has_cells-none t (inr (inr (inr (inr (inl h))))) = ap has_cells h.3 ∙ has_cells-Chain h.0 h.1 h.2
+has_cells-none t (inr (inr (inr (inr (inr (inl h)))))) = ap has_cells h.4 ∙ has_cells-Related h.0 h.1 h.2 h.3
+has_cells-none t (inr (inr (inr (inr (inr (inr (inl h))))))) = ap has_cells h.3 ∙ has_cells-Member h.0 h.1 h.2
+has_cells-none t (inr (inr (inr (inr (inr (inr (inr (inl h)))))))) = ap has_cells h.2 ∙ has_cells-Equivalent h.0 h.1
+has_cells-none t (inr (inr (inr (inr (inr (inr (inr (inr (inl h))))))))) = ap has_cells h.3 ∙ has_cells-Implied h.0 h.1 h.2
+has_cells-none t (inr (inr (inr (inr (inr (inr (inr (inr (inr (inl h)))))))))) = ap has_cells h.2 ∙ has_cells-Or h.0 h.1
+has_cells-none t (inr (inr (inr (inr (inr (inr (inr (inr (inr (inr (inl h))))))))))) = ap has_cells h.2 ∙ has_cells-And h.0 h.1
+has_cells-none t (inr (inr (inr (inr (inr (inr (inr (inr (inr (inr (inr (inl h)))))))))))) = ap has_cells h.2 ∙ has_cells-Not h.0 h.1
+has_cells-none t (inr (inr (inr (inr (inr (inr (inr (inr (inr (inr (inr (inr (inl h))))))))))))) = ap has_cells h.5 ∙ has_cells-Aggregate h.0 h.1 h.2 h.3 h.4
+has_cells-none t (inr (inr (inr (inr (inr (inr (inr (inr (inr (inr (inr (inr (inr (inl h)))))))))))))) = ap has_cells h.3 ∙ has_cells-Call h.0 h.1 h.2
+has_cells-none t (inr (inr (inr (inr (inr (inr (inr (inr (inr (inr (inr (inr (inr (inr (inl h))))))))))))))) = ap has_cells h.2 ∙ has_cells-AllDifferent h.0 h.1
+has_cells-none t (inr (inr (inr (inr (inr (inr (inr (inr (inr (inr (inr (inr (inr (inr (inr (inl h)))))))))))))))) = ap has_cells h.3 ∙ has_cells-Question h.0 h.1 h.2
+has_cells-none t (inr (inr (inr (inr (inr (inr (inr (inr (inr (inr (inr (inr (inr (inr (inr (inr (inl h))))))))))))))))) = ap has_cells h.3 ∙ has_cells-Element h.0 h.1 h.2
+has_cells-none t (inr (inr (inr (inr (inr (inr (inr (inr (inr (inr (inr (inr (inr (inr (inr (inr (inr (inl h)))))))))))))))))) = ap has_cells h.3 ∙ has_cells-Fields h.0 h.1 h.2
+has_cells-none t (inr (inr (inr (inr (inr (inr (inr (inr (inr (inr (inr (inr (inr (inr (inr (inr (inr (inr (inl h))))))))))))))))))) = ap has_cells h.2 ∙ has_cells-Record h.0 h.1
+has_cells-none t (inr (inr (inr (inr (inr (inr (inr (inr (inr (inr (inr (inr (inr (inr (inr (inr (inr (inr (inr (inl h)))))))))))))))))))) = ap has_cells h.2 ∙ has_cells-Listed h.0 h.1
+has_cells-none t (inr (inr (inr (inr (inr (inr (inr (inr (inr (inr (inr (inr (inr (inr (inr (inr (inr (inr (inr (inr h)))))))))))))))))))) = ap has_cells h.4 ∙ has_cells-Described h.0 h.1 h.2 h.3
+
 bare : (known : Known) (t u : Term) (wrong : BindFault) (axis : Axis) (axes : List Axis) (env : Environment) → t ≡ u → (written known u).cells wrong (axis ∷ axes) env ≡ Err wrong → (written known t).cells wrong (axis ∷ axes) env ≡ Err wrong
 bare known t u wrong axis axes env e h = subst (λ v. (written known v).cells wrong (axis ∷ axes) env ≡ Err wrong) (sym e) h
 

@@ -1,12 +1,13 @@
 //! The data values of a model: what files give is looked at first, then the declarations in order.
-ghost use Rattle.std.specs.Prelude.{◌≡◌, [], IfOk, None, Some, map};
+ghost use Rattle.std.specs.Prelude.{◌≡◌, [], IfOk, None, Ok, Some, map};
 ghost use Rattle.std.specs.Option.{option_map};
 ghost use Rattle.opl_eval.specs.ArrayKeys.{IsKeyed};
+ghost use Rattle.opl_eval.specs.Evaluation.{declared};
 ghost use Rattle.opl_eval.specs.Visible.{position_in, seen};
 ghost use Rattle.opl_bind.specs.Bind as spec;
 ghost use Rattle.opl_bind.specs.Dimensions.{axes_in, dims_of};
-ghost use Rattle.opl_given.specs.Faults.{Binds, Does, Gives};
-ghost use Rattle.opl_given.specs.Forms.{names_of, number_of, with_declaration, with_struct};
+ghost use Rattle.opl_given.specs.Faults.{Binds, Does, Gives, then};
+ghost use Rattle.opl_given.specs.Forms.{names_of, number_of, with_declaration, with_enumeration, with_range, with_struct};
 ghost use Rattle.opl_given.specs.Items.{array_value};
 ghost use Rattle.opl_term.specs.Terms.{add_term};
 ghost use Rattle.opl_bind.specs.Written.{written_cells};
@@ -31,6 +32,7 @@ use opl_tree::{
 };
 use opl_value::Value;
 use std::alloc::{AllocError, Global};
+use std::mem;
 
 /// What the declarations of a model come to: the declared names with their values, and the names of enumerations.
 #[derive(Drop)]
@@ -248,179 +250,271 @@ impl<'a> DataValues<'a> {
         Ok(all)
     }
 
-    /// The same, and these names of an enumeration that comes next, each with its value.
-    #[tactic(auto, using(opl_eval::proofs::Keys::keyed_values))]
-    fn with_values(self, alloc: Global, names: &[&'a [u8]]) -> Result<DataValues<'a>, BindFault>
-        ensures { Does (λ r. (known_of r.types ≡ known_of self.entry.types) × (seen r.environment ≡ spec.with_values (number_of (known_of self.entry.types)) 0 (map (λ name. name.now) names.now) (seen self.entry.environment))) result }
+    /// Adds the names of an enumeration that comes next, each with its value.
+    fn add_values(&mut self, alloc: Global, names: &[&'a [u8]]) -> Result<(), BindFault>
+        ensures { Does (λ _. (known_of self.new.types ≡ known_of self.old.types) × (seen self.new.environment ≡ spec.with_values (number_of (known_of self.old.types)) 0 (map (λ name. name.now) names.now) (seen self.old.environment))) result }
     {
         let declaration = self.types.number();
-        let DataValues {
-            mut environment,
-            types,
-        } = self;
-        for (place, name) in names.iter().enumerate() {
-            let value = Value::Enum(declaration, position_of(place)?);
-            environment.declare(alloc, name, value, 0)?;
-        }
-        Ok(DataValues { environment, types })
+        add_each(alloc, declaration, names, &mut self.environment)?;
+        Ok(())
     }
 
-    /// The same, and the names of the enumeration that comes next, where the model lists them.
+    /// Adds the names of the enumeration that comes next, where the model lists them.
     #[tactic(auto, using(crate::proofs::Data::kept))]
-    fn with_listed(
-        self,
+    fn add_listed(
+        &mut self,
         alloc: Global,
         written: &EnumNamesTree,
         names: &[&'a [u8]],
-    ) -> Result<DataValues<'a>, BindFault>
-        ensures { Does (λ r. data_of r ≡ spec.with_listed written.now (map (λ name. name.now) names.now) (data_of self.entry)) result }
+    ) -> Result<(), BindFault>
+        ensures { Does (λ _. data_of self.new ≡ spec.with_listed written.now (map (λ name. name.now) names.now) (data_of self.old)) result }
     {
         match written {
-            EnumNamesTree::Listed(..) => self.with_values(alloc, names),
-            EnumNamesTree::External(..) => Ok(self),
+            EnumNamesTree::Listed(..) => self.add_values(alloc, names),
+            EnumNamesTree::External(..) => Ok(()),
         }
     }
 
-    /// The same, and the name of an item with its value.
+    /// Adds the name of an item with its value.
     #[tactic(auto, using(crate::proofs::Data::kept))]
-    fn with_value(
-        self,
-        alloc: Global,
-        name: &'a [u8],
-        value: Value,
-    ) -> Result<DataValues<'a>, BindFault>
+    fn add_value(&mut self, alloc: Global, name: &'a [u8], value: Value) -> Result<(), BindFault>
         requires { IsKeyed value }
-        ensures { Does (λ r. data_of r ≡ spec.with_value name.now value (data_of self.entry)) result }
+        ensures { Does (λ _. data_of self.new ≡ spec.with_value name.now value (data_of self.old)) result }
     {
-        let DataValues {
-            mut environment,
-            types,
-        } = self;
-        environment.declare(alloc, name, value, 0)?;
-        let types = types.with_none(alloc)?;
-        Ok(DataValues { environment, types })
+        self.environment.declare(alloc, name, value, 0)?;
+        no_type(alloc, &mut self.types)?;
+        Ok(())
     }
 
-    /// The same, and the name of a range with its ends.
+    /// Adds the name of a range with its ends.
     #[tactic(auto, using(crate::proofs::Data::kept))]
-    fn with_ends(
-        self,
+    fn add_ends(
+        &mut self,
         alloc: Global,
         name: &'a [u8],
         low: &i128,
         high: &i128,
-    ) -> Result<DataValues<'a>, BindFault>
-        ensures { Does (λ r. data_of r ≡ spec.with_ends name.now low.now high.now (data_of self.entry)) result }
+    ) -> Result<(), BindFault>
+        ensures { Does (λ _. data_of self.new ≡ spec.with_ends name.now low.now high.now (data_of self.old)) result }
     {
-        let DataValues {
-            mut environment,
-            types,
-        } = self;
-        environment.declare(alloc, name, range_value(low, high), 0)?;
-        let types = types.with_range(alloc, name, low, high)?;
-        Ok(DataValues { environment, types })
+        self.environment
+            .declare(alloc, name, range_value(low, high), 0)?;
+        range_type(alloc, &mut self.types, name, low, high)?;
+        Ok(())
     }
 
-    /// The same, and the name of an enumeration with its names.
+    /// Adds the name of an enumeration with its names.
     #[tactic(auto, using(crate::proofs::Data::kept))]
-    fn with_names(
-        self,
+    fn add_names(
+        &mut self,
         alloc: Global,
         name: &'a [u8],
         names: Names<'a>,
-    ) -> Result<DataValues<'a>, BindFault>
-        ensures { Does (λ r. data_of r ≡ spec.with_names name.now (texts_of names.entry) (data_of self.entry)) result }
+    ) -> Result<(), BindFault>
+        ensures { Does (λ _. data_of self.new ≡ spec.with_names name.now (texts_of names.entry) (data_of self.old)) result }
     {
-        let DataValues {
-            mut environment,
-            types,
-        } = self;
-        let value = Value::Names(copied_names(alloc, &names)?);
-        environment.declare(alloc, name, value, types.number())?;
-        let types = types.with_enumeration(alloc, name, names)?;
-        Ok(DataValues { environment, types })
+        let declaration = self.types.number();
+        add_texts(alloc, &mut self.environment, name, &names, declaration)?;
+        enumeration_type(alloc, &mut self.types, name, names)?;
+        Ok(())
     }
 
-    /// The same, and a struct.
+    /// Adds a struct.
     #[tactic(auto, using(crate::proofs::Data::kept))]
-    fn with_struct(self, alloc: Global, t: &'a StructTree) -> Result<DataValues<'a>, BindFault>
-        ensures { Does (λ r. data_of r ≡ spec.with_known (with_struct t.now (data_of self.entry).known) (data_of self.entry)) result }
+    fn add_struct(&mut self, alloc: Global, t: &'a StructTree) -> Result<(), BindFault>
+        ensures { Does (λ _. data_of self.new ≡ spec.with_known (with_struct t.now (data_of self.old).known) (data_of self.old)) result }
     {
-        let DataValues { environment, types } = self;
-        let types = types.with_struct(alloc, t)?;
-        Ok(DataValues { environment, types })
+        struct_type(alloc, &mut self.types, t)?;
+        Ok(())
     }
 
-    /// The same, and a declaration that is no data.
+    /// Adds a declaration that is no data.
     #[tactic(auto, using(crate::proofs::Data::kept))]
-    fn with_none(self, alloc: Global) -> Result<DataValues<'a>, BindFault>
-        ensures { Does (λ r. data_of r ≡ spec.with_known (with_declaration [] [] (data_of self.entry).known) (data_of self.entry)) result }
+    fn add_none(&mut self, alloc: Global) -> Result<(), BindFault>
+        ensures { Does (λ _. data_of self.new ≡ spec.with_known (with_declaration [] [] (data_of self.old).known) (data_of self.old)) result }
     {
-        let DataValues { environment, types } = self;
-        let types = types.with_none(alloc)?;
-        Ok(DataValues { environment, types })
+        no_type(alloc, &mut self.types)?;
+        Ok(())
     }
 }
 
-/// What a range comes to.
-fn with_range<'a>(
+/// Adds these names of an enumeration, each with its value.
+fn add_each<'a>(
+    alloc: Global,
+    declaration: u32,
+    names: &[&'a [u8]],
+    environment: &mut Environment<'a>,
+) -> Result<(), BindFault>
+    ensures { Does (λ _. seen environment.new ≡ spec.with_values declaration 0 (map (λ name. name.now) names.now) (seen environment.old)) result }
+{
+    for (place, name) in names.iter().enumerate() {
+        let value = enumeration_value(declaration, position_of(place)?);
+        environment.declare(alloc, name, value, 0)?;
+    }
+    Ok(())
+}
+
+/// A name of an enumeration as a value.
+#[tactic(auto, using(opl_eval::proofs::Keys::keyed_values))]
+fn enumeration_value(declaration: u32, position: u32) -> Value
+    ensures value { result ≡ Value.Enum declaration position }
+    ensures keyed { IsKeyed result }
+{
+    Value::Enum(declaration, position)
+}
+
+/// The names of an enumeration as the value of its name.
+#[tactic(auto, using(opl_eval::proofs::Keys::keyed_values))]
+fn texts_value(alloc: Global, names: &Names<'_>) -> Result<Value, BindFault>
+    ensures value { Does (λ value. value ≡ Value.Names (texts_of names.now)) result }
+    ensures keyed { IfOk result IsKeyed }
+{
+    Ok(Value::Names(copied_names(alloc, names)?))
+}
+
+/// Adds the name of an enumeration with its names as its value.
+fn add_texts<'a>(
+    alloc: Global,
+    environment: &mut Environment<'a>,
+    name: &'a [u8],
+    names: &Names<'_>,
+    declaration: u32,
+) -> Result<(), BindFault>
+    ensures { Does (λ _. seen environment.new ≡ declared name.now (Value.Names (texts_of names.now)) declaration (seen environment.old)) result }
+{
+    let value = texts_value(alloc, names)?;
+    environment.declare(alloc, name, value, declaration)?;
+    Ok(())
+}
+
+/// The next declaration says nothing of types.
+fn no_type(alloc: Global, types: &mut Types<'_>) -> Result<(), BindFault>
+    ensures { Does (λ _. known_of types.new ≡ with_declaration [] [] (known_of types.old)) result }
+{
+    let before = mem::replace(types, Types::new(alloc));
+    *types = before.with_none(alloc)?;
+    Ok(())
+}
+
+/// The next declaration is a range.
+fn range_type<'a>(
+    alloc: Global,
+    types: &mut Types<'a>,
+    name: &'a [u8],
+    low: &i128,
+    high: &i128,
+) -> Result<(), BindFault>
+    ensures { Does (λ _. known_of types.new ≡ with_range name.now low.now high.now (known_of types.old)) result }
+{
+    let before = mem::replace(types, Types::new(alloc));
+    *types = before.with_range(alloc, name, low, high)?;
+    Ok(())
+}
+
+/// The next declaration is an enumeration.
+fn enumeration_type<'a>(
+    alloc: Global,
+    types: &mut Types<'a>,
+    name: &'a [u8],
+    names: Names<'a>,
+) -> Result<(), BindFault>
+    ensures { Does (λ _. known_of types.new ≡ with_enumeration name.now (texts_of names.entry) (known_of types.old)) result }
+{
+    let before = mem::replace(types, Types::new(alloc));
+    *types = before.with_enumeration(alloc, name, names)?;
+    Ok(())
+}
+
+/// The next declaration is a struct.
+fn struct_type<'a>(alloc: Global, types: &mut Types<'a>, t: &'a StructTree) -> Result<(), BindFault>
+    ensures { Does (λ _. known_of types.new ≡ with_struct t.now (known_of types.old)) result }
+{
+    let before = mem::replace(types, Types::new(alloc));
+    *types = before.with_struct(alloc, t)?;
+    Ok(())
+}
+
+/// Adds what a range comes to.
+fn add_range<'a>(
     alloc: Global,
     t: &'a RangeTree,
-    before: DataValues<'a>,
-) -> Result<DataValues<'a>, BindFault>
-    ensures { Gives data_of (spec.range_declared t.now (data_of before.entry)) result }
+    before: &mut DataValues<'a>,
+) -> Result<(), BindFault>
+    ensures { Gives (λ _. data_of before.new) (spec.range_declared t.now (data_of before.old)) result }
 {
     let low = number_in(alloc, &before.environment, &t.low)?;
     let high = number_in(alloc, &before.environment, &t.high)?;
-    before.with_ends(alloc, t.name.text.as_slice(), &low, &high)
+    before.add_ends(alloc, t.name.text.as_slice(), &low, &high)?;
+    Ok(())
 }
 
-/// What one more declaration comes to.
-fn with_decl<'a>(
+/// Adds what an item comes to.
+fn add_item<'a>(
+    alloc: Global,
+    given: &Given<'_>,
+    overrides: &[Override],
+    t: &'a DataDeclTree,
+    before: &mut DataValues<'a>,
+) -> Result<(), BindFault>
+    ensures { Gives (λ _. data_of before.new) (then (spec.item_value (given_of given.now) overrides.now t.now (data_of before.old)) (λ v. Ok (spec.with_value t.now.name.text v (data_of before.old)))) result }
+{
+    let value = item_value(alloc, given, overrides, before, t)?;
+    before.add_value(alloc, t.name.text.as_slice(), value)?;
+    Ok(())
+}
+
+/// Adds what an enumeration comes to.
+fn add_enumeration<'a>(
+    alloc: Global,
+    given: &Given<'a>,
+    t: &'a EnumTree,
+    before: &mut DataValues<'a>,
+) -> Result<(), BindFault>
+    ensures { Gives (λ _. data_of before.new) (then (spec.enumeration_names (given_of given.now) t.now.name.text t.now.names) (λ ns. Ok (spec.with_names t.now.name.text ns (spec.with_listed t.now.names ns (data_of before.old))))) result }
+{
+    let names = enumeration_names(alloc, given, t)?;
+    before.add_listed(alloc, &t.names, names.texts.as_slice())?;
+    before.add_names(alloc, t.name.text.as_slice(), names)?;
+    Ok(())
+}
+
+/// Adds what one more declaration comes to.
+fn add_decl<'a>(
     alloc: Global,
     given: &Given<'a>,
     overrides: &[Override],
     t: &'a DeclTree,
-    before: DataValues<'a>,
-) -> Result<DataValues<'a>, BindFault>
-    ensures { Gives data_of (spec.with_decl (given_of given.now) overrides.now t.now (data_of before.entry)) result }
+    before: &mut DataValues<'a>,
+) -> Result<(), BindFault>
+    ensures { Gives (λ _. data_of before.new) (spec.with_decl (given_of given.now) overrides.now t.now (data_of before.old)) result }
 {
     match t {
-        DeclTree::Data(t) => {
-            let value = item_value(alloc, given, overrides, &before, t)?;
-            before.with_value(alloc, t.name.text.as_slice(), value)
-        }
-        DeclTree::Range(t) => with_range(alloc, t, before),
-        DeclTree::Enumeration(t) => {
-            let names = enumeration_names(alloc, given, t)?;
-            before
-                .with_listed(alloc, &t.names, names.texts.as_slice())?
-                .with_names(alloc, t.name.text.as_slice(), names)
-        }
-        DeclTree::Structure(t) => before.with_struct(alloc, t),
+        DeclTree::Data(t) => add_item(alloc, given, overrides, t, before),
+        DeclTree::Range(t) => add_range(alloc, t, before),
+        DeclTree::Enumeration(t) => add_enumeration(alloc, given, t, before),
+        DeclTree::Structure(t) => before.add_struct(alloc, t),
         DeclTree::Variable(_)
         | DeclTree::Activity(_)
         | DeclTree::Unary(_)
         | DeclTree::Discrete(_)
-        | DeclTree::Schedule(_) => before.with_none(alloc),
+        | DeclTree::Schedule(_) => before.add_none(alloc),
     }
 }
 
-/// What all declarations come to.
-fn with_decls<'a>(
+/// Adds what all declarations come to.
+fn add_decls<'a>(
     alloc: Global,
     given: &Given<'a>,
     overrides: &[Override],
     ts: &'a [DeclTree],
-    before: DataValues<'a>,
-) -> Result<DataValues<'a>, BindFault>
-    ensures { Gives data_of (spec.with_decls (given_of given.now) overrides.now ts.now (data_of before.entry)) result }
+    before: &mut DataValues<'a>,
+) -> Result<(), BindFault>
+    ensures { Gives (λ _. data_of before.new) (spec.with_decls (given_of given.now) overrides.now ts.now (data_of before.old)) result }
 {
-    let mut found = before;
     for t in ts {
-        found = with_decl(alloc, given, overrides, t, found)?;
+        add_decl(alloc, given, overrides, t, before)?;
     }
-    Ok(found)
+    Ok(())
 }
 
 /// Before any declaration. It takes no memory.
@@ -450,6 +544,7 @@ pub fn bind<'a>(
     ensures { Gives data_of (spec.bound (position_in positions) decls.now files.now overrides.now) result }
 {
     let given = all_given(alloc, decls, files)?;
-    let start = no_data(alloc, positions);
-    with_decls(alloc, &given, overrides, decls, start)
+    let mut found = no_data(alloc, positions);
+    add_decls(alloc, &given, overrides, decls, &mut found)?;
+    Ok(found)
 }

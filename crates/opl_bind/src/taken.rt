@@ -2,7 +2,8 @@
 ghost use Rattle.std.specs.Prelude.{◌≡◌, ◌+◌, ◌*◌, ◌<◌, ◌∷◌, ◌^◌, [], IfOk, IfSome, is_some, length, map, nat_eq};
 ghost use Rattle.std.specs.List.{flat_map, list_all};
 ghost use Rattle.opl_value.specs.declared.value.Dimension.TheViews.{out-Value};
-ghost use Rattle.opl_value.specs.Places.{dimension_values, value_at};
+ghost use Rattle.opl_value.specs.Places.{dimension_values, place_in, value_at};
+ghost use Rattle.opl_given.specs.Elements.{element, left};
 ghost use Rattle.opl_given.specs.Arrays.{values_of};
 ghost use Rattle.opl_given.specs.Faults.{Binds, Does, Gives, then};
 ghost use Rattle.opl_given.specs.Inside as inside;
@@ -13,7 +14,7 @@ ghost use Rattle.opl_bind.specs.Written as spec;
 use crate::fitted::first_token;
 use crate::lookup::Lookup;
 use crate::scope::{Scope, evaluated};
-use opl_given::{Axis, BindFault, Form, Types, elements_of, is_inside};
+use opl_given::{Axis, BindFault, Element, Elements, Form, Types, elements_of, is_inside};
 use opl_list::Seq;
 use opl_term::Term;
 use opl_value::{Dimension, Value};
@@ -31,22 +32,41 @@ fn common_size(dimension: &Dimension, other: &Dimension) -> Result<Option<u64>, 
     }
 }
 
-/// The places of the elements of an index set among those of another one.
-fn matched(alloc: Global, at: u32, axis: &Axis, other: &Dimension) -> Result<Vec<u64>, BindFault>
-    requires { length (dimension_values other.now) < 2 ^ 64 }
-    ensures { Gives (λ ps. ps.items) (spec.matched (BindFault.Shape 0 at) (dimension_values other.now) [] (values_of (axis_of axis.now))) result }
+/// The place of an element in an index set, if it is there.
+fn place_of(lookup: &Lookup<'_>, wanted: Element<'_>) -> Option<u64>
+    ensures { result ≡ place_in (element wanted.entry) (dimension_values lookup.now.dimension.now) }
 {
-    let lookup = Lookup::new(alloc, other)?;
+    lookup.place(wanted.get())
+}
+
+/// The places of these elements in an index set, behind those before.
+fn places_in(
+    alloc: Global,
+    at: u32,
+    elements: Elements<'_>,
+    lookup: &Lookup<'_>,
+) -> Result<Vec<u64>, BindFault>
+    ensures { Gives (λ ps. ps.items) (spec.matched (BindFault.Shape 0 at) (dimension_values lookup.now.dimension.now) [] (left elements.entry)) result }
+{
     let mut places = Vec::new(alloc);
-    let mut rest = elements_of(&axis.dimension);
+    let mut rest = elements;
     while let Some((element, behind)) = rest.split_first() {
-        let Some(place) = lookup.place(element.get()) else {
+        let Some(place) = place_of(lookup, element) else {
             return Err(BindFault::Shape(0, at));
         };
         places.push(place)?;
         rest = behind;
     }
     Ok(places)
+}
+
+/// The places of the elements of an index set among those of another one.
+fn matched(alloc: Global, at: u32, axis: &Axis, other: &Dimension) -> Result<Vec<u64>, BindFault>
+    requires { length (dimension_values other.now) < 2 ^ 64 }
+    ensures { Gives (λ ps. ps.items) (spec.matched (BindFault.Shape 0 at) (dimension_values other.now) [] (values_of (axis_of axis.now))) result }
+{
+    let lookup = Lookup::new(alloc, other)?;
+    places_in(alloc, at, elements_of(&axis.dimension), &lookup)
 }
 
 /// The place behind so many groups; where there is no such number memory is wanting.
