@@ -5,7 +5,7 @@ ghost use Rattle.opl_given.specs.Elements.{left};
 ghost use Rattle.opl_given.specs.Faults.{Binds};
 ghost use Rattle.opl_given.specs.Readings.{axis_of, known_of};
 ghost use Rattle.opl_bind.specs.EachKey as keys;
-ghost use Rattle.opl_bind.specs.Keys.{chosen};
+ghost use Rattle.opl_bind.specs.Keys.{chosen, to_come};
 ghost use Rattle.opl_bind.specs.Scopes.{names_in};
 ghost use Rattle.opl_bind.specs.Written as spec;
 
@@ -64,6 +64,27 @@ fn value_at(
     fitted(alloc, types, inner, form, term)
 }
 
+/// The values of the keys to which a walk still comes, in index order.
+fn values_walked(
+    alloc: Global,
+    types: &Types<'_>,
+    scope: Scope<'_>,
+    form: &Form,
+    term: &Term,
+    first: &DimTree,
+    rest: &[DimTree],
+    walk: &mut Walk<'_, '_>,
+) -> Result<Seq<Value>, BindFault>
+    ensures { Binds (keys.over_keys (keys.cell_at (spec.written (known_of types.now) term.now).fit form.now (first.now ∷ rest.now) (names_in scope.entry)) [] (to_come walk.old)) result }
+{
+    let mut cells = Seq::new(alloc);
+    while walk.advance()? {
+        let value = value_at(alloc, types, scope, form, term, first, rest, walk.key())?;
+        cells.push(value)?;
+    }
+    Ok(cells)
+}
+
 /// The expression for each key of an array, in index order.
 pub(crate) fn each_key(
     alloc: Global,
@@ -79,10 +100,5 @@ pub(crate) fn each_key(
 {
     let sets = sets_of(alloc, first_of(axes, rest.len() + 1))?;
     let mut walk = Walk::new(alloc, sets.as_slice());
-    let mut cells = Seq::new(alloc);
-    while walk.advance()? {
-        let value = value_at(alloc, types, scope, form, term, first, rest, walk.key())?;
-        cells.push(value)?;
-    }
-    Ok(cells)
+    values_walked(alloc, types, scope, form, term, first, rest, &mut walk)
 }
