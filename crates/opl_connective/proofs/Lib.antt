@@ -1,0 +1,4 @@
+pub mod Truths
+pub mod Refuted
+pub mod Places
+pub mod Going
