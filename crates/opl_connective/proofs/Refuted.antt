@@ -181,6 +181,15 @@ module _ (core : Core) (F : Family) (full : Full F) where
   second_open false false false false false e h = refl
 
   module _ (o : Bool) (s t : Tree) (i : IsTree core s) (j : IsTree core t) where
+    pub iff_told : iff_refuted core o s t F ≡ ((is_refuted core true s F && is_refuted core o t F) || (is_refuted core false s F && is_refuted core (not o) t F))
+    iff_told =
+        let w = tree_truth s i in
+        let u = tree_truth t j in
+        iff_by o s t w u
+        ∙ two (λ x y. x || y) (w.surely && cond o u.surely u.never) (w.never && cond o u.never u.surely) (is_refuted core true s F && is_refuted core o t F) (is_refuted core false s F && is_refuted core (not o) t F)
+          (two (λ x y. x && y) w.surely (cond o u.surely u.never) (is_refuted core true s F) (is_refuted core o t F) (sym (surely (holds core s) w)) (sym (told_by o t u)))
+          (two (λ x y. x && y) w.never (cond o u.never u.surely) (is_refuted core false s F) (is_refuted core (not o) t F) (sym (never (holds core s) w)) (sym (opposite_by o t u)))
+
     pub iff_first_sure : is_refuted core true s F ≡ true → iff_refuted core o s t F ≡ is_refuted core o t F
     iff_first_sure h =
         let w = tree_truth s i in

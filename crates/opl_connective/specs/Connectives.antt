@@ -30,6 +30,11 @@ abbrev pub AreNodesIfAny : Core → List Fact → Option (List Node) → Type 0
 AreNodesIfAny core cs None = Unit {0}
 AreNodesIfAny core cs (Some ns) = AreNodesOf core cs ns
 
+-- so it is of two nodes
+abbrev pub ArePairIfAny : Core → Fact → Fact → Option (Node × Node) → Type 0
+ArePairIfAny core c d None = Unit {0}
+ArePairIfAny core c d (Some p) = IsNodeOf core c p.0 × IsNodeOf core d p.1
+
 -- the filter was made with a core
 abbrev pub IsMadeOfNodes : Core → ConnectiveFilter → Type 0
 IsMadeOfNodes core f = IsTree core (tree f.node)

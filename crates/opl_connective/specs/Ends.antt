@@ -1,5 +1,5 @@
 -- Connectives of which a family refutes what the ends of its sets tell.
-use Rattle.std.specs.Prelude.{◌≡◌, Bool, true, false, ◌&&◌, not, length}
+use Rattle.std.specs.Prelude.{◌≡◌, Bool, true, false, cond, ◌&&◌, not, length}
 use Rattle.opl_expr.specs.declared.model.Core.{Core}
 use Rattle.opl_expr.specs.Forms.{Fact}
 use Rattle.opl_linear_filter.specs.Ends.{SeesEnds}
@@ -13,12 +13,11 @@ use Rattle.opl_connective.specs.Connectives.{IsConnectiveFor}
 abbrev mutual
   -- whether the ends of the sets alone decide a tree, or its opposite
   pub tree_sees_ends : Bool → Tree → Bool
-  tree_sees_ends false (literal p q) = part_sees_ends p
-  tree_sees_ends true (literal p q) = part_sees_ends q
+  tree_sees_ends o (literal p q) = cond o (part_sees_ends q) (part_sees_ends p)
   tree_sees_ends o (Tree.not t) = tree_sees_ends (not o) t
   tree_sees_ends o (and xs ts) = trees_see_ends o ts
   tree_sees_ends o (or xs ts) = trees_see_ends o ts
-  tree_sees_ends o (iff xs s t) = (tree_sees_ends false s && tree_sees_ends true s) && (tree_sees_ends false t && tree_sees_ends true t)
+  tree_sees_ends o (iff xs s t) = tree_sees_ends false s && (tree_sees_ends true s && (tree_sees_ends false t && tree_sees_ends true t))
 
   pub trees_see_ends : Bool → Trees → Bool
   trees_see_ends o no_trees = true

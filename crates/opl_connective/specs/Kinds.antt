@@ -4,6 +4,7 @@ use Rattle.opl_expr.specs.declared.model.Core.{Core}
 use Rattle.opl_expr.specs.declared.forms.Cons.{Cons}
 use Rattle.opl_expr.specs.declared.forms.Cons.TheVariants as constraint
 use Rattle.opl_linear_filter.specs.LinearForms.{ComparesLinear}
+use Rattle.opl_reify.specs.Literals.{IsLiteral}
 
 -- a comparison of linear sides, or an opposite, a conjunction, a disjunction, an implication or an equivalence of such
 pub data Connects (core : Core) : Cons → Type 0 where
@@ -22,6 +23,16 @@ AllConnect core cs = (i : ℕ) (c : Cons) → slice_get cs i ≡ Some c → Conn
 abbrev pub IsThereFor : {A : Type 0} → Core → Cons → Option A → Type 0
 IsThereFor core c None = Connects core c → ⊥
 IsThereFor core c (Some a) = Connects core c
+
+-- the same of two constraints
+abbrev pub IsPairThereFor : {A : Type 0} → Core → Cons → Cons → Option A → Type 0
+IsPairThereFor core c d None = Connects core c → Connects core d → ⊥
+IsPairThereFor core c d (Some a) = Connects core c × Connects core d
+
+-- a result is there for a comparison of linear sides, or an opposite of one, and for nothing else
+abbrev pub IsLiteralThere : {A : Type 0} → Core → Cons → Option A → Type 0
+IsLiteralThere core c None = (n : ℕ) → IsLiteral core n c → ⊥
+IsLiteralThere core c (Some a) = (n : ℕ) × IsLiteral core n c
 
 -- the same of constraints
 abbrev pub AreThereFor : {A : Type 0} → Core → List Cons → Option A → Type 0
