@@ -1,5 +1,5 @@
 -- What a family refutes of trees that are decided by the ends of its sets.
-use Rattle.std.proofs.Common.{◌≡◌, ◌∙◌, ℕ, ◌<◌, Bool, true, false, not, ◌&&◌, ◌||◌, cond, refl, List, [], ◌∷◌, length, ap, sym, subst}
+use Rattle.std.proofs.Common.{◌≡◌, ◌∙◌, ℕ, ◌<◌, Bool, true, false, ◌&&◌, cond, refl, List, [], ◌∷◌, length, ap, sym, subst}
 use Rattle.opl_domain.specs.Family.{Family, Full, hull}
 use Rattle.opl_expr.specs.declared.model.Core.{Core}
 use Rattle.opl_expr.specs.Forms.{Fact}
@@ -7,8 +7,7 @@ use Rattle.opl_expr.specs.Range.{is_possible}
 use Rattle.opl_filter.specs.Filtering.{refutes}
 use Rattle.opl_linear_filter.proofs.Ends as linear
 use Rattle.opl_reify.specs.Parts.{fact_in}
-use Rattle.opl_reify.specs.Ends.{part_sees_ends}
-use Rattle.opl_connective.specs.Trees.{Tree, Trees, trees_of, tree, holds, all_hold, is_refuted, some_refuted, all_refuted, iff_refuted}
+use Rattle.opl_connective.specs.Trees.{Tree, Trees, trees_of, tree, all_hold, is_refuted, some_refuted, all_refuted, iff_refuted}
 use Rattle.opl_connective.specs.Trees.Trees.{no_trees, more_trees}
 use Rattle.opl_connective.specs.Nodes.{IsTree, AreTrees}
 use Rattle.opl_connective.specs.Ends.{tree_sees_ends, trees_see_ends, EndsDecide}
@@ -56,6 +55,7 @@ module _ (core : Core) (F G : Family) (f : Full F) (g : Full G) (a : length F �
 
   mutual
     unfolding list_of
+
     tree_alike : (o : Bool) (t : Tree) → IsTree core t → tree_sees_ends o t ≡ true → is_refuted core o t F ≡ is_refuted core o t G
     tree_alike false (Tree.literal p q) i e = linear.ends_decide core (fact_in core p) p.filter i.0.filter e F G f g a b h
     tree_alike true (Tree.literal p q) i e = at_function (refutes (fact_in core q)) (is_refuted core true (Tree.literal p q)) (opposite_same core p q i) (linear.ends_decide core (fact_in core q) q.filter i.1.part.filter e F G f g a b h)

@@ -1,17 +1,15 @@
 -- What is known after a round over a node, by what is known of the rounds over its parts.
-use Rattle.std.proofs.Common.{◌≡◌, ◌∙◌, ◌≢◌, ◌⊎◌, ℕ, zero, suc, ◌+◌, ◌<◌, ◌≤◌, Bool, true, false, cond, not, ◌||◌, refl, List, [], ◌∷◌, length, ℤ, ap, sym, subst, arith, inl, inr}
-use Rattle.std.specs.Prelude.{Option, Some, None, slice_get}
+use Rattle.std.proofs.Common.{◌≡◌, ◌∙◌, ◌≢◌, ◌⊎◌, ℕ, zero, suc, ◌+◌, ◌<◌, ◌≤◌, Bool, true, false, cond, not, refl, List, [], ◌∷◌, length, ℤ, ap, sym, subst, arith, inl, inr}
+use Rattle.std.specs.Prelude.{Some, None, slice_get}
 use Rattle.std.proofs.lemmas.Bool.{cases_eq}
 use Rattle.std.proofs.Math.Path.{fun_ext}
 use Rattle.opl_domain.specs.Family.{Family, IsFamily, Below, Full, only, cut_of}
 use Rattle.opl_expr.specs.declared.model.Core.{Core}
-use Rattle.opl_expr.specs.Forms.{Fact}
 use Rattle.opl_expr.specs.Range.{is_possible}
-use Rattle.opl_trace.specs.Stable.{IsMonotone, IsStable, HasFailed}
+use Rattle.opl_trace.specs.Stable.{IsMonotone, IsStable}
 use Rattle.opl_trace.specs.Sweeps.{size}
 use Rattle.opl_trace.proofs.Families.{below_self, only_full}
 use Rattle.opl_trace.proofs.Removals.{cut_smaller}
-use Rattle.opl_filter.specs.declared.outcome.Outcome.{Outcome}
 use Rattle.opl_filter.specs.declared.outcome.Outcome.TheVariants as outcome
 use Rattle.opl_filter.specs.Mentions.{lists}
 use Rattle.opl_filter.specs.Filtering.{refutes, without, EachCanGo, IsLeftOf, IsBetween, Filters}
@@ -23,12 +21,12 @@ use Rattle.opl_reify.specs.Rounds.{TriesShared, Looks}
 use Rattle.opl_reify.proofs.Carrying.{SaysTheSameWithin, between_carried, outcome_carried}
 use Rattle.opl_reify.proofs.Looking.{left_between, nothing_between, dead_has_failed, stuck_has_failed}
 use Rattle.opl_reify.proofs.Negation.{signed_not}
-use Rattle.opl_connective.specs.Trees.{Tree, trees_of, holds, all_hold, names, is_refuted, some_refuted, all_refuted, iff_refuted}
+use Rattle.opl_connective.specs.Trees.{Tree, trees_of, holds, names, is_refuted, some_refuted, all_refuted, iff_refuted}
 use Rattle.opl_connective.specs.Nodes.{IsTree, AreTrees, TellsAt}
 use Rattle.opl_connective.specs.Rounds.{Goes, SparesOthers}
 use Rattle.opl_connective.specs.Noticing.{Notices}
 use Rattle.opl_connective.proofs.Refuted.{and_refuted, and_certain, or_refuted, or_certain, iff_first_sure, iff_first_never, iff_first_open, iff_second_sure, iff_second_never, iff_second_open}
-use Rattle.opl_connective.proofs.Places.{each_refuted, one_open, one_left, one_refuted, all_falls, some_falls, tells_below, unnamed_same}
+use Rattle.opl_connective.proofs.Places.{one_open, one_left, one_refuted, some_falls, tells_below, unnamed_same}
 
 -- ---- by another test that says the same
 

@@ -1,5 +1,5 @@
 -- The nodes that are made for constraints.
-use Rattle.std.proofs.Common.{◌≡◌, ◌∙◌, ℕ, zero, suc, ◌+◌, ◌<◌, ◌≤◌, Bool, true, false, cond, refl, List, [], ◌∷◌, ◌++◌, map, length, get_or, take, ap, sym, subst, arith}
+use Rattle.std.proofs.Common.{◌≡◌, ◌∙◌, ℕ, zero, suc, ◌+◌, ◌<◌, ◌≤◌, true, false, cond, refl, List, [], ◌∷◌, ◌++◌, map, length, get_or, take, ap, sym, subst, arith}
 use Rattle.std.specs.Prelude.{Option, Some, None, slice_get}
 use Rattle.std.proofs.Math.Path.{fun_ext}
 use Rattle.opl_domain.specs.Arithmetic.{span_min, span_max}
@@ -18,14 +18,13 @@ use Rattle.opl_filter.specs.Filtering.{refutes}
 use Rattle.opl_filter.specs.Mentions.{AreVariables}
 use Rattle.opl_reify.specs.declared.part.Part.{Part}
 use Rattle.opl_reify.specs.Parts.{IsPartOf, IsPartIfAny}
-use Rattle.opl_reify.specs.Literals.{IsLiteral}
 use Rattle.opl_connective.specs.declared.connective_filter.ConnectiveFilter.{ConnectiveFilter}
 use Rattle.opl_connective.specs.declared.node.Node.{Node}
 use Rattle.opl_connective.specs.declared.node.Node.TheVariants as N
 use Rattle.opl_connective.specs.Trees.{Tree, trees_of, tree, holds, all_hold, is_refuted}
 use Rattle.opl_connective.specs.Nodes.{IsTree, AreTrees}
-use Rattle.opl_connective.specs.Connectives.{IsNodeOf, IsNodeIfAny, AreNodesOf, AreNodesIfAny, ArePairIfAny, IsConnectiveFor}
-use Rattle.opl_connective.specs.Kinds.{Connects, AllConnect, IsThereFor, AreThereFor, IsPairThereFor, IsLiteralThere}
+use Rattle.opl_connective.specs.Connectives.{IsNodeOf, IsNodeIfAny, AreNodesOf, AreNodesIfAny, IsConnectiveFor}
+use Rattle.opl_connective.specs.Kinds.{Connects, AllConnect, IsThereFor, AreThereFor, IsLiteralThere}
 use Rattle.opl_connective.proofs.Plain.{tree_Literal, tree_Not, tree_And, tree_Or, tree_Iff}
 use Rattle.opl_connective.proofs.Places.{named_of, named_as}
 use Rattle.opl_connective.proofs.Shapes.{only_comparison, only_opposite, only_conjunction, only_disjunction, only_implication, only_equivalence, literal_connects}
@@ -136,21 +135,19 @@ module _ (core : Core) (c : Cons) (s : IsSoundFact core.sets (fact core.tables c
         let fs = map (fact core.tables core.resources) cs in
         made_as (Fact.or (facts_of fs)) (N.Or xs ns) (or_is core c ds cs e i) (λ t w. or_node core fs xs ns t w (subst (AreNodesIfAny core fs) j a)) k
 
-    pub imp_made : (a b p q : Cons) (l r : Node) (x : Option (Node × Node)) → c ≡ C.Imp a b → p ≡ a → q ≡ b → ArePairIfAny core (fact core.tables core.resources p) (fact core.tables core.resources q) x → x ≡ Some (l, r)
+    pub imp_made : (a b p q : Cons) (l r : Node) (x y : Option Node) → c ≡ C.Imp a b → p ≡ a → q ≡ b → IsNodeIfAny core (fact core.tables core.resources p) x → x ≡ Some l → IsNodeIfAny core (fact core.tables core.resources q) y → y ≡ Some r
         → n ≡ N.Or xs (N.Not l ∷ r ∷ []) → IsNodeOf core (fact core.tables core.resources c) n
-    imp_made a b p q l r x e i j h y k =
+    imp_made a b p q l r x y e i j h u w v k =
         let f = fact core.tables core.resources p in
         let g = fact core.tables core.resources q in
-        let o = subst (ArePairIfAny core f g) y h in
-        made_as (Fact.or (facts_of (Fact.not f ∷ g ∷ []))) (N.Or xs (N.Not l ∷ r ∷ [])) (imp_is core c a b p q e i j) (λ t w. imp_node core f g xs l r t w o.0 o.1) k
+        made_as (Fact.or (facts_of (Fact.not f ∷ g ∷ []))) (N.Or xs (N.Not l ∷ r ∷ [])) (imp_is core c a b p q e i j) (λ t s. imp_node core f g xs l r t s (subst (IsNodeIfAny core f) u h) (subst (IsNodeIfAny core g) v w)) k
 
-    pub iff_made : (a b p q : Cons) (l r : Node) (x : Option (Node × Node)) → c ≡ C.Iff a b → p ≡ a → q ≡ b → ArePairIfAny core (fact core.tables core.resources p) (fact core.tables core.resources q) x → x ≡ Some (l, r)
+    pub iff_made : (a b p q : Cons) (l r : Node) (x y : Option Node) → c ≡ C.Iff a b → p ≡ a → q ≡ b → IsNodeIfAny core (fact core.tables core.resources p) x → x ≡ Some l → IsNodeIfAny core (fact core.tables core.resources q) y → y ≡ Some r
         → n ≡ N.Iff xs l r → IsNodeOf core (fact core.tables core.resources c) n
-    iff_made a b p q l r x e i j h y k =
+    iff_made a b p q l r x y e i j h u w v k =
         let f = fact core.tables core.resources p in
         let g = fact core.tables core.resources q in
-        let o = subst (ArePairIfAny core f g) y h in
-        made_as (Fact.iff f g) (N.Iff xs l r) (iff_is core c a b p q e i j) (λ t w. iff_node core f g xs l r t w o.0 o.1) k
+        made_as (Fact.iff f g) (N.Iff xs l r) (iff_is core c a b p q e i j) (λ t s. iff_node core f g xs l r t s (subst (IsNodeIfAny core f) u h) (subst (IsNodeIfAny core g) v w)) k
 
   pub not_made : (a p : Cons) (m : Node) (x : Option Node) → c ≡ C.Not a → p ≡ a → IsNodeIfAny core (fact core.tables core.resources p) x → x ≡ Some m → n ≡ N.Not m → IsNodeOf core (fact core.tables core.resources c) n
   not_made a p m x e i h j k =
@@ -180,35 +177,23 @@ or_there core c ds cs e i x h j k = let g : AreThereFor {A = List Node} core cs 
 pub or_connects : (core : Core) (c : Cons) (ds cs : List Cons) → c ≡ C.Or ds → cs ≡ ds → (x : Option (List Node)) (ns : List Node) → AreThereFor core cs x → x ≡ Some ns → Connects core c
 or_connects core c ds cs e i x ns h j = Connects.disjunction c cs (e ∙ ap C.Or (sym i)) (subst (AreThereFor core cs) j h)
 
-pub imp_there : (core : Core) (c a b p q : Cons) → c ≡ C.Imp a b → p ≡ a → q ≡ b → (x : Option (Node × Node)) → IsPairThereFor core p q x → x ≡ None → Connects core c → ⊥
-imp_there core c a b p q e i j x h y k =
-    let g : IsPairThereFor {A = Node × Node} core p q None = subst (IsPairThereFor core p q) y h in
-    let m = only_implication core c a b e k in
-    g (subst (Connects core) (sym i) m.0) (subst (Connects core) (sym j) m.1)
+pub imp_none_first : (core : Core) (c a b p : Cons) → c ≡ C.Imp a b → p ≡ a → (x : Option Node) → IsThereFor core p x → x ≡ None → Connects core c → ⊥
+imp_none_first core c a b p e i x h j k = let g : IsThereFor {A = Node} core p None = subst (IsThereFor core p) j h in g (subst (Connects core) (sym i) (only_implication core c a b e k).0)
 
-pub imp_connects : (core : Core) (c a b p q : Cons) → c ≡ C.Imp a b → p ≡ a → q ≡ b → (x : Option (Node × Node)) (l r : Node) → IsPairThereFor core p q x → x ≡ Some (l, r) → Connects core c
-imp_connects core c a b p q e i j x l r h y = let m = subst (IsPairThereFor core p q) y h in Connects.implication c p q (e ∙ ap (λ z. C.Imp z b) (sym i) ∙ ap (C.Imp p) (sym j)) m.0 m.1
+pub imp_none_second : (core : Core) (c a b q : Cons) → c ≡ C.Imp a b → q ≡ b → (x : Option Node) → IsThereFor core q x → x ≡ None → Connects core c → ⊥
+imp_none_second core c a b q e i x h j k = let g : IsThereFor {A = Node} core q None = subst (IsThereFor core q) j h in g (subst (Connects core) (sym i) (only_implication core c a b e k).1)
 
-pub iff_there : (core : Core) (c a b p q : Cons) → c ≡ C.Iff a b → p ≡ a → q ≡ b → (x : Option (Node × Node)) → IsPairThereFor core p q x → x ≡ None → Connects core c → ⊥
-iff_there core c a b p q e i j x h y k =
-    let g : IsPairThereFor {A = Node × Node} core p q None = subst (IsPairThereFor core p q) y h in
-    let m = only_equivalence core c a b e k in
-    g (subst (Connects core) (sym i) m.0) (subst (Connects core) (sym j) m.1)
+pub imp_connects : (core : Core) (c a b p q : Cons) → c ≡ C.Imp a b → p ≡ a → q ≡ b → (x y : Option Node) (l r : Node) → IsThereFor core p x → x ≡ Some l → IsThereFor core q y → y ≡ Some r → Connects core c
+imp_connects core c a b p q e i j x y l r h u w v = Connects.implication c p q (e ∙ ap (λ z. C.Imp z b) (sym i) ∙ ap (C.Imp p) (sym j)) (subst (IsThereFor core p) u h) (subst (IsThereFor core q) v w)
 
-pub iff_connects : (core : Core) (c a b p q : Cons) → c ≡ C.Iff a b → p ≡ a → q ≡ b → (x : Option (Node × Node)) (l r : Node) → IsPairThereFor core p q x → x ≡ Some (l, r) → Connects core c
-iff_connects core c a b p q e i j x l r h y = let m = subst (IsPairThereFor core p q) y h in Connects.equivalence c p q (e ∙ ap (λ z. C.Iff z b) (sym i) ∙ ap (C.Iff p) (sym j)) m.0 m.1
+pub iff_none_first : (core : Core) (c a b p : Cons) → c ≡ C.Iff a b → p ≡ a → (x : Option Node) → IsThereFor core p x → x ≡ None → Connects core c → ⊥
+iff_none_first core c a b p e i x h j k = let g : IsThereFor {A = Node} core p None = subst (IsThereFor core p) j h in g (subst (Connects core) (sym i) (only_equivalence core c a b e k).0)
 
--- ---- two, one after another
+pub iff_none_second : (core : Core) (c a b q : Cons) → c ≡ C.Iff a b → q ≡ b → (x : Option Node) → IsThereFor core q x → x ≡ None → Connects core c → ⊥
+iff_none_second core c a b q e i x h j k = let g : IsThereFor {A = Node} core q None = subst (IsThereFor core q) j h in g (subst (Connects core) (sym i) (only_equivalence core c a b e k).1)
 
-pub pair_made : (core : Core) (a b : Cons) (l r : Node) (x y : Option Node) → IsNodeIfAny core (fact core.tables core.resources a) x → x ≡ Some l → IsNodeIfAny core (fact core.tables core.resources b) y → y ≡ Some r
-    → ArePairIfAny core (fact core.tables core.resources a) (fact core.tables core.resources b) (Some (l, r))
-pair_made core a b l r x y h e k f = (subst (IsNodeIfAny core (fact core.tables core.resources a)) e h, subst (IsNodeIfAny core (fact core.tables core.resources b)) f k)
-
-pub pair_there : (core : Core) (a b : Cons) (l r : Node) (x y : Option Node) → IsThereFor core a x → x ≡ Some l → IsThereFor core b y → y ≡ Some r → Connects core a × Connects core b
-pair_there core a b l r x y h e k f = (subst (IsThereFor core a) e h, subst (IsThereFor core b) f k)
-
-pub none_there : (core : Core) (a : Cons) (x : Option Node) → IsThereFor core a x → x ≡ None → Connects core a → ⊥
-none_there core a x h e = subst (IsThereFor core a) e h
+pub iff_connects : (core : Core) (c a b p q : Cons) → c ≡ C.Iff a b → p ≡ a → q ≡ b → (x y : Option Node) (l r : Node) → IsThereFor core p x → x ≡ Some l → IsThereFor core q y → y ≡ Some r → Connects core c
+iff_connects core c a b p q e i j x y l r h u w v = Connects.equivalence c p q (e ∙ ap (λ z. C.Iff z b) (sym i) ∙ ap (C.Iff p) (sym j)) (subst (IsThereFor core p) u h) (subst (IsThereFor core q) v w)
 
 -- ---- one after another
 

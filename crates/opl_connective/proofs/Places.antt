@@ -1,5 +1,5 @@
 -- Trees by their places, and their variables.
-use Rattle.std.proofs.Common.{◌≡◌, ◌∙◌, ◌≢◌, ◌⊎◌, ℕ, zero, suc, Bool, true, false, cond, ◌&&◌, ◌||◌, refl, List, [], ◌∷◌, length, ℤ, ap, sym, subst, arith, inl, inr}
+use Rattle.std.proofs.Common.{◌≡◌, ◌∙◌, ◌≢◌, ℕ, zero, suc, Bool, true, false, cond, ◌&&◌, ◌||◌, refl, List, [], ◌∷◌, ℤ, ap, sym, subst, arith, inl, inr}
 use Rattle.std.specs.Prelude.{slice_get, Some}
 use Rattle.std.proofs.lemmas.Bool.{or_cases}
 use Rattle.opl_domain.specs.Family.{Family, Below, Full, only}
@@ -11,7 +11,6 @@ use Rattle.opl_expr.specs.Solutions.{declared}
 use Rattle.opl_expr.specs.Sound.{IsSoundFact}
 use Rattle.opl_trace.specs.Stable.{IsMonotone}
 use Rattle.opl_trace.proofs.Families.{below_self}
-use Rattle.opl_filter.specs.Filtering.{refutes}
 use Rattle.opl_filter.specs.Mentions.{AreVariables, lists}
 use Rattle.opl_filter.specs.Rounds.{AreThere}
 use Rattle.opl_filter.proofs.Mentioned.{variables_there}
@@ -20,7 +19,7 @@ use Rattle.opl_filter.proofs.Unmentioned.{others_dont_matter, differ_only}
 use Rattle.opl_linear_filter.proofs.Weights.{below_length}
 use Rattle.opl_reify.specs.Parts.{signed, fact_in}
 use Rattle.opl_reify.proofs.Parts.{the_one}
-use Rattle.opl_connective.specs.Trees.{Tree, trees_of, holds, names, is_refuted, some_refuted, all_refuted, iff_refuted}
+use Rattle.opl_connective.specs.Trees.{Tree, trees_of, holds, names, is_refuted, some_refuted, all_refuted}
 use Rattle.opl_connective.specs.Nodes.{AreNamed, IsTree, AreTrees, TellsAt}
 
 -- ---- by places

@@ -14,7 +14,7 @@ use Rattle.opl_reify.specs.Parts.{fact_in, IsPart, IsPartOf}
 use Rattle.opl_connective.specs.declared.node.Node.{Node}
 use Rattle.opl_connective.specs.declared.node.Node.TheVariants as N
 use Rattle.opl_connective.specs.Trees.{Tree, trees_of, tree, names, is_refuted, some_refuted, all_refuted, iff_refuted}
-use Rattle.opl_connective.specs.Nodes.{IsTree, AreTrees, AreNodes, TellsAt, IsFirst, First, IsOpen, IsOpenAt}
+use Rattle.opl_connective.specs.Nodes.{IsTree, AreNodes, TellsAt, First, IsOpenAt}
 use Rattle.opl_connective.specs.Rounds.{SparesOthers}
 use Rattle.opl_connective.proofs.Plain.{tree_Literal, tree_Not, tree_And, tree_Or, tree_Iff}
 use Rattle.opl_connective.proofs.Refuted.{and_refuted, and_certain, or_refuted, or_certain, iff_first_sure, iff_first_never, iff_first_open}

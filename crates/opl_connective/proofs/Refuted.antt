@@ -1,5 +1,5 @@
 -- What a family refutes of trees, where none of its sets is empty.
-use Rattle.std.proofs.Common.{◌≡◌, ◌∙◌, ℕ, ◌<◌, Bool, true, false, ◌&&◌, ◌||◌, cond, not, refl, List, [], ◌∷◌, length, ap, sym, arith}
+use Rattle.std.proofs.Common.{◌≡◌, ◌∙◌, Bool, true, false, ◌&&◌, ◌||◌, cond, not, refl, List, [], ◌∷◌, length, ap, sym}
 use Rattle.std.specs.Prelude.{Some}
 use Rattle.opl_domain.specs.Span.{Span, point}
 use Rattle.opl_domain.specs.Family.{Family, Full}
@@ -17,7 +17,7 @@ use Rattle.opl_reify.specs.Parts.{fact_in, IsPart}
 use Rattle.opl_connective.specs.Trees.{Tree, Trees, trees_of, holds, all_hold, is_refuted, some_refuted, all_refuted, iff_refuted}
 use Rattle.opl_connective.specs.Trees.Trees.{no_trees, more_trees}
 use Rattle.opl_connective.specs.Nodes.{IsTree, AreTrees}
-use Rattle.opl_connective.proofs.Truths.{HasTruth, Truth, truth_of, never_is, surely_is, not_truth, true_truth, false_truth, and_truth, or_truth, iff_truth}
+use Rattle.opl_connective.proofs.Truths.{Truth, truth_of, never_is, surely_is, not_truth, true_truth, false_truth, and_truth, or_truth, iff_truth}
 
 -- ---- a tree is never undefined
 
@@ -187,8 +187,8 @@ module _ (core : Core) (F : Family) (full : Full F) where
         let u = tree_truth t j in
         iff_by o s t w u
         ∙ two (λ x y. x || y) (w.surely && cond o u.surely u.never) (w.never && cond o u.never u.surely) (is_refuted core true s F && is_refuted core o t F) (is_refuted core false s F && is_refuted core (not o) t F)
-          (two (λ x y. x && y) w.surely (cond o u.surely u.never) (is_refuted core true s F) (is_refuted core o t F) (sym (surely (holds core s) w)) (sym (told_by o t u)))
-          (two (λ x y. x && y) w.never (cond o u.never u.surely) (is_refuted core false s F) (is_refuted core (not o) t F) (sym (never (holds core s) w)) (sym (opposite_by o t u)))
+        (two (λ x y. x && y) w.surely (cond o u.surely u.never) (is_refuted core true s F) (is_refuted core o t F) (sym (surely (holds core s) w)) (sym (told_by o t u)))
+        (two (λ x y. x && y) w.never (cond o u.never u.surely) (is_refuted core false s F) (is_refuted core (not o) t F) (sym (never (holds core s) w)) (sym (opposite_by o t u)))
 
     pub iff_first_sure : is_refuted core true s F ≡ true → iff_refuted core o s t F ≡ is_refuted core o t F
     iff_first_sure h =

@@ -1,10 +1,10 @@
 -- Whether ends decide a node, as it is read form by form.
-use Rattle.std.proofs.Common.{◌≡◌, ◌∙◌, ℕ, zero, suc, ◌+◌, ◌-◌, ◌<◌, ◌≤◌, Bool, true, false, cond, not, ◌&&◌, refl, List, [], ◌∷◌, length, get_or, map, ap, sym, arith}
+use Rattle.std.proofs.Common.{◌≡◌, ◌∙◌, ℕ, zero, suc, ◌-◌, ◌<◌, ◌≤◌, Bool, true, false, cond, not, ◌&&◌, refl, List, [], ◌∷◌, length, get_or, map, ap, sym, arith}
 use Rattle.opl_reify.specs.declared.part.Part.{Part}
 use Rattle.opl_reify.specs.Ends.{part_sees_ends}
 use Rattle.opl_connective.specs.declared.node.Node.{Node}
 use Rattle.opl_connective.specs.declared.node.Node.TheVariants as N
-use Rattle.opl_connective.specs.Trees.{Tree, trees_of, tree}
+use Rattle.opl_connective.specs.Trees.{trees_of, tree}
 use Rattle.opl_connective.specs.Ends.{tree_sees_ends, trees_see_ends}
 use Rattle.opl_connective.proofs.Plain.{tree_Literal, tree_Not, tree_And, tree_Or, tree_Iff}
 

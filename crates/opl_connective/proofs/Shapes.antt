@@ -1,6 +1,5 @@
 -- Which constraints connectives build, as the code sees them.
 use Rattle.std.proofs.Common.{◌≡◌, ◌∙◌, ℕ, zero, suc, Bool, List, ℤ, ap, sym, subst}
-use Rattle.std.specs.Prelude.{slice_get, Some}
 use Rattle.opl_expr.specs.declared.model.Core.{Core}
 use Rattle.opl_expr.specs.declared.forms.Op.{Op}
 use Rattle.opl_expr.specs.declared.forms.Expr.{Expr}

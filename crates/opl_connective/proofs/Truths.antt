@@ -1,5 +1,5 @@
 -- The truths of connectives whose parts are never undefined, where no set is empty.
-use Rattle.std.proofs.Common.{◌≡◌, ◌∙◌, ◌⊎◌, Bool, true, false, ◌&&◌, ◌||◌, cond, refl, ℤ, pos, ◌≤ℤ◌, ap, sym, subst, arith, inl, inr}
+use Rattle.std.proofs.Common.{◌≡◌, ◌∙◌, ◌⊎◌, Bool, true, false, ◌&&◌, ◌||◌, cond, refl, ℤ, pos, ◌≤ℤ◌, ap, subst, arith, inl, inr}
 use Rattle.std.specs.Prelude.{Option, Some, None}
 use Rattle.std.proofs.lemmas.Int.{ints}
 use Rattle.opl_domain.specs.Span.{Span, smaller, larger, IsInside}
@@ -9,7 +9,6 @@ use Rattle.opl_expr.specs.Forms.{Fact, Facts}
 use Rattle.opl_expr.specs.Options.{lift, lift1}
 use Rattle.opl_expr.specs.Range.{verdict, flip, same_truth, is_possible, fact_range}
 use Rattle.opl_expr.proofs.Narrower.{monotony}
-use Rattle.opl_range.specs.Magnitudes.{IsTruth}
 use Rattle.opl_range.proofs.Weights.{fact_truth}
 use Rattle.opl_trace.proofs.Families.{below_self}
 use Rattle.opl_filter.specs.Filtering.{refutes}

@@ -1,8 +1,7 @@
 -- What a round over a node tells, as the node is read form by form.
-use Rattle.std.proofs.Common.{◌≡◌, ◌∙◌, ◌≢◌, ℕ, zero, suc, ◌+◌, ◌<◌, ◌≤◌, Bool, true, false, not, refl, List, [], ◌∷◌, length, map, ap, sym, subst, arith, inl, inr}
-use Rattle.std.specs.Prelude.{None, Some}
+use Rattle.std.proofs.Common.{◌≡◌, ◌∙◌, ◌≢◌, ℕ, ◌+◌, ◌≤◌, Bool, true, false, not, List, map, ap, sym, subst, arith, inl, inr}
 use Rattle.std.proofs.lemmas.Bool.Decides.{leb_tells}
-use Rattle.opl_domain.specs.Family.{Family, IsFamily, Full, Below}
+use Rattle.opl_domain.specs.Family.{Family, IsFamily}
 use Rattle.opl_expr.specs.declared.model.Core.{Core}
 use Rattle.opl_filter.specs.Filtering.{refutes}
 use Rattle.opl_reify.specs.declared.part.Part.{Part}
@@ -11,7 +10,7 @@ use Rattle.opl_reify.proofs.Carrying.{SaysTheSameWithin}
 use Rattle.opl_connective.specs.declared.node.Node.{Node}
 use Rattle.opl_connective.specs.declared.node.Node.TheVariants as N
 use Rattle.opl_connective.specs.Trees.{Tree, trees_of, tree, is_refuted, some_refuted, all_refuted, iff_refuted}
-use Rattle.opl_connective.specs.Nodes.{IsTree, AreNodes, TellsAt, IsFirst}
+use Rattle.opl_connective.specs.Nodes.{IsTree, TellsAt, IsFirst}
 use Rattle.opl_connective.specs.Rounds.{Goes}
 use Rattle.opl_connective.proofs.Plain.{tree_Literal, tree_Not, tree_And, tree_Or, tree_Iff}
 use Rattle.opl_connective.proofs.Going.{goes_carried, not_same, opposite_same, and_within, and_opposite_within, or_within, or_opposite_within}

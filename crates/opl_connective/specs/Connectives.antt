@@ -1,5 +1,5 @@
 -- What a filter of connectives has of the constraint that it is made for.
-use Rattle.std.specs.Prelude.{◌≡◌, List, [], ◌∷◌, map, Option, Some, None}
+use Rattle.std.specs.Prelude.{◌≡◌, List, [], ◌∷◌, Option, Some, None}
 use Rattle.opl_domain.specs.Family.{Family}
 use Rattle.opl_expr.specs.declared.model.Core.{Core}
 use Rattle.opl_expr.specs.Forms.{Fact}
@@ -29,11 +29,6 @@ AreNodesOf core (c ∷ cs) (n ∷ ns) = IsNodeOf core c n × AreNodesOf core cs 
 abbrev pub AreNodesIfAny : Core → List Fact → Option (List Node) → Type 0
 AreNodesIfAny core cs None = Unit {0}
 AreNodesIfAny core cs (Some ns) = AreNodesOf core cs ns
-
--- so it is of two nodes
-abbrev pub ArePairIfAny : Core → Fact → Fact → Option (Node × Node) → Type 0
-ArePairIfAny core c d None = Unit {0}
-ArePairIfAny core c d (Some p) = IsNodeOf core c p.0 × IsNodeOf core d p.1
 
 -- the filter was made with a core
 abbrev pub IsMadeOfNodes : Core → ConnectiveFilter → Type 0

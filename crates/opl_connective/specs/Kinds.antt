@@ -24,11 +24,6 @@ abbrev pub IsThereFor : {A : Type 0} → Core → Cons → Option A → Type 0
 IsThereFor core c None = Connects core c → ⊥
 IsThereFor core c (Some a) = Connects core c
 
--- the same of two constraints
-abbrev pub IsPairThereFor : {A : Type 0} → Core → Cons → Cons → Option A → Type 0
-IsPairThereFor core c d None = Connects core c → Connects core d → ⊥
-IsPairThereFor core c d (Some a) = Connects core c × Connects core d
-
 -- a result is there for a comparison of linear sides, or an opposite of one, and for nothing else
 abbrev pub IsLiteralThere : {A : Type 0} → Core → Cons → Option A → Type 0
 IsLiteralThere core c None = (n : ℕ) → IsLiteral core n c → ⊥

@@ -5,8 +5,8 @@ ghost use Rattle.opl_expr.specs.Sound.{IsSoundFact, AreSoundFacts};
 ghost use Rattle.opl_reify.specs.Parts.{IsPartOf};
 ghost use Rattle.opl_reify.specs.Literals.{IsLiteral};
 ghost use Rattle.opl_connective.specs.declared.node.Node.TheVariants as variants;
-ghost use Rattle.opl_connective.specs.Connectives.{IsNodeIfAny, AreNodesIfAny, ArePairIfAny};
-ghost use Rattle.opl_connective.specs.Kinds.{IsThereFor, AreThereFor, IsPairThereFor, IsLiteralThere};
+ghost use Rattle.opl_connective.specs.Connectives.{IsNodeIfAny, AreNodesIfAny};
+ghost use Rattle.opl_connective.specs.Kinds.{IsThereFor, AreThereFor, IsLiteralThere};
 
 use crate::node::Node;
 use opl_domain::OutOfMemory;
@@ -87,20 +87,26 @@ pub fn node_of(alloc: Global, core: &Core, c: &Cons) -> Result<Option<Boxed<Node
         }
         Cons::Imp(a, b) => {
             let variables = variables_of(alloc, core, c)?;
-            match pair_of(alloc, core, a.get(), b.get())? {
+            let b = b.get();
+            match node_of(alloc, core, a.get())? {
                 None => Ok(None),
-                Some((first, second)) => {
-                    Ok(Some(implication(alloc, variables, first, second)?))
-                }
+                Some(first) => match node_of(alloc, core, b)? {
+                    None => Ok(None),
+                    Some(second) => Ok(Some(implication(alloc, variables, first, second)?)),
+                },
             }
         }
         Cons::Iff(a, b) => {
             let variables = variables_of(alloc, core, c)?;
-            match pair_of(alloc, core, a.get(), b.get())? {
+            let b = b.get();
+            match node_of(alloc, core, a.get())? {
                 None => Ok(None),
-                Some((first, second)) => {
-                    Ok(Some(Boxed::new(alloc, Node::Iff(variables, first, second))?))
-                }
+                Some(first) => match node_of(alloc, core, b)? {
+                    None => Ok(None),
+                    Some(second) => {
+                        Ok(Some(Boxed::new(alloc, Node::Iff(variables, first, second))?))
+                    }
+                },
             }
         }
         Cons::Not(a) => match node_of(alloc, core, a.get())? {
@@ -128,26 +134,4 @@ fn nodes_of(alloc: Global, core: &Core, cs: &[Cons]) -> Result<Option<Seq<Node>>
         }
     }
     Ok(Some(found))
-}
-
-/// The nodes of two constraints, if each has one.
-#[cycle(making)]
-fn pair_of(
-    alloc: Global,
-    core: &Core,
-    a: &Cons,
-    b: &Cons,
-) -> Result<Option<(Boxed<Node>, Boxed<Node>)>, OutOfMemory>
-    requires first { IsSoundFact core.now.sets (fact core.now.tables core.now.resources a.now) }
-    requires second { IsSoundFact core.now.sets (fact core.now.tables core.now.resources b.now) }
-    ensures nodes { IfOk result (ArePairIfAny core.now (fact core.now.tables core.now.resources a.now) (fact core.now.tables core.now.resources b.now)) }
-    ensures kind { IfOk result (IsPairThereFor core.now a.now b.now) }
-{
-    match node_of(alloc, core, a)? {
-        None => Ok(None),
-        Some(first) => match node_of(alloc, core, b)? {
-            None => Ok(None),
-            Some(second) => Ok(Some((first, second))),
-        },
-    }
 }

@@ -12,8 +12,8 @@ ghost use Rattle.opl_connective.specs.Nodes.{IsTree, AreNodes, IsOpenAt, IsOpen}
 ghost use Rattle.opl_connective.specs.Rounds.{Goes, SparesOthers};
 
 use crate::node::Node;
-use crate::refuting::{Side, first_told, side_left};
 use crate::open::{NoneOpen, Unlike};
+use crate::refuting::{Side, first_told, side_left};
 use opl_domain::{Narrow, View};
 use opl_expr::Core;
 use opl_filter::Outcome;

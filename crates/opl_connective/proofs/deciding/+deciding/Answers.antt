@@ -1,4 +1,3 @@
-use Rattle.std.proofs.Common.{arith}
 use Rattle.opl_connective.proofs.Seeing.{opposite_sees, part_sees, not_sees, and_sees, or_sees, first_unseen, second_unseen, third_unseen, last_seen, one_unseen}
 use Rattle.opl_connective.proofs.deciding.+deciding.Goals as goal
 

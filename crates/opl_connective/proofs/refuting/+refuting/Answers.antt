@@ -1,4 +1,4 @@
-use Rattle.std.proofs.Common.{◌≡◌, rules, arith, not, false, true}
+use Rattle.std.proofs.Common.{rules, arith, not}
 use Rattle.opl_connective.specs.declared.node.Node.TheFolds.{the_lemmas}
 use Rattle.opl_connective.proofs.Reading.{literal_parts, not_part, and_parts, or_parts, iff_first, iff_second, node_at, tree_there, told_at, told_next, told_none, same_told, other_told, opposite_told, part_told, not_told, and_none, and_some, or_none, or_some, iff_told_sure, iff_told_never, iff_told_open}
 use Rattle.opl_connective.proofs.refuting.+refuting.Goals as goal

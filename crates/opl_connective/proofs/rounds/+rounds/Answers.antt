@@ -1,4 +1,4 @@
-use Rattle.std.proofs.Common.{◌≡◌, ◌<◌, rules, map, length, refl}
+use Rattle.std.proofs.Common.{◌<◌, rules, map, length, refl}
 use Rattle.opl_expr.specs.Solutions.{declared}
 use Rattle.opl_filter.proofs.Removals.{left_self}
 use Rattle.opl_reify.proofs.Looking.{still_below}
@@ -154,4 +154,4 @@ round_any-returns-in-None-first_told-clause-goes g t c =
     let m = c.index-nodes-first.result in
     goes_carried (is_refuted core o (tree m)) (all_refuted core o ts) D (g.N.View.family c.round.new.n) c.round.result c.vars-vars.ensures.sets
     (one_within core o ts c.requires.nodes D c.in-Some.first (tree m) (tree_slice c.args.nodes.now c.in-Some.first m (there_back c.args.nodes.now c.in-Some.first c.in-Some.ensures.there) c.index-nodes-first.is)
-        (others_told core D o ts c.in-Some.first c.in-Some.ensures c.in-None-first_told.ensures)) c.round.ensures.goes
+    (others_told core D o ts c.in-Some.first c.in-Some.ensures c.in-None-first_told.ensures)) c.round.ensures.goes
