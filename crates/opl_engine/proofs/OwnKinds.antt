@@ -10,16 +10,20 @@ use Rattle.opl_all_different.specs.declared.different_filter.DifferentFilter.{Di
 use Rattle.opl_all_different.specs.DifferentForms.{SeparatesVariables, IsThereFor as IsDifferenceThere}
 use Rattle.opl_reify.specs.declared.reify_filter.ReifyFilter.{ReifyFilter}
 use Rattle.opl_reify.specs.Disjunctions.{IsDisjunction, IsDisjunctionFor, IsThereFor as IsDisjunctionThere}
+use Rattle.opl_connective.specs.declared.connective_filter.ConnectiveFilter.{ConnectiveFilter}
+use Rattle.opl_connective.specs.Connectives.{IsConnectiveFor}
+use Rattle.opl_connective.specs.Kinds.{Connects, IsThereFor as IsConnectiveThere}
 use Rattle.opl_count.specs.declared.count_filter.CountFilter.{CountFilter}
 use Rattle.opl_count.specs.CountFilters.{IsCountFor, ComparesCounts, IsThereFor as IsCountThere}
 use Rattle.opl_engine.specs.declared.own_filter.OwnFilter.{OwnFilter}
 use Rattle.opl_engine.specs.declared.own_filter.OwnFilter.TheVariants as own
-use Rattle.opl_engine.specs.OwnFilters.{IsMadeWith, IsOwnFilter, IsOwnFilterIfAny, KeepsConstraints, IsThereForCounts, IsThereForDisjunctions, IsThereForDifferences, IsThereForKinds, sees_ends, sees_ends_if_any}
+use Rattle.opl_engine.specs.OwnFilters.{IsMadeWith, IsOwnFilter, IsOwnFilterIfAny, KeepsConstraints, IsThereForCounts, IsThereForConnectives, IsThereForDisjunctions, IsThereForDifferences, IsThereForKinds, sees_ends, sees_ends_if_any}
 
 pub made_with : (core : Core) (c : Fact) (f : OwnFilter) → IsOwnFilter core c f → IsMadeWith core f
 made_with core c (own.Linear f) i = i.comparison.difference.made
 made_with core c (own.Different f) i = i.made
 made_with core c (own.Reify f) i = i.made
+made_with core c (own.Connective f) i = i.made
 made_with core c (own.Count f) i = i.made
 
 -- the filter that there is
@@ -32,6 +36,9 @@ keeps form old new e k s = record { constraint = λ core c i. k core c (own_is c
 
 pub reify_is : (core : Core) (c : Fact) (s : OwnFilter) (f : ReifyFilter) → s ≡ own.Reify f → IsOwnFilter core c s → IsDisjunctionFor core c f
 reify_is core c s f e i = subst (IsOwnFilter core c) e i
+
+pub connective_is : (core : Core) (c : Fact) (s : OwnFilter) (f : ConnectiveFilter) → s ≡ own.Connective f → IsOwnFilter core c s → IsConnectiveFor core c f
+connective_is core c s f e i = subst (IsOwnFilter core c) e i
 
 pub count_is : (core : Core) (c : Fact) (s : OwnFilter) (f : CountFilter) → s ≡ own.Count f → IsOwnFilter core c s → IsCountFor core c f
 count_is core c s f e i = subst (IsOwnFilter core c) e i
@@ -47,6 +54,9 @@ different_kind core c x f t e = subst (IsDifferenceThere core c) e t
 pub reify_kind : (core : Core) (c : Cons) (x : Option ReifyFilter) (f : ReifyFilter) → IsDisjunctionThere core c x → x ≡ Some f → IsDisjunction core c
 reify_kind core c x f t e = subst (IsDisjunctionThere core c) e t
 
+pub connective_kind : (core : Core) (c : Cons) (x : Option ConnectiveFilter) (f : ConnectiveFilter) → IsConnectiveThere core c x → x ≡ Some f → Connects core c
+connective_kind core c x f t e = subst (IsConnectiveThere core c) e t
+
 pub count_kind : (core : Core) (c : Cons) (x : Option CountFilter) (f : CountFilter) → IsCountThere core c x → x ≡ Some f → ComparesCounts core c
 count_kind core c x f t e = subst (IsCountThere core c) e t
 
@@ -55,14 +65,18 @@ count_kind core c x f t e = subst (IsCountThere core c) e t
 pub none_of : (core : Core) (c : Cons) (x : Option CountFilter) → IsCountThere core c x → x ≡ None → ComparesCounts core c → ⊥
 none_of core c x t e = subst (IsCountThere core c) e t
 
-pub none_of_two : (core : Core) (c : Cons) (x : Option ReifyFilter) → IsDisjunctionThere core c x → x ≡ None → (o : Option OwnFilter) → IsThereForCounts core c o → IsThereForDisjunctions core c o
-none_of_two core c x t e None h = (subst (IsDisjunctionThere core c) e t, h)
+pub none_of_two : (core : Core) (c : Cons) (x : Option ConnectiveFilter) → IsConnectiveThere core c x → x ≡ None → (o : Option OwnFilter) → IsThereForCounts core c o → IsThereForConnectives core c o
+none_of_two core c x t e None h = (subst (IsConnectiveThere core c) e t, h)
 none_of_two core c x t e (Some f) h = h
 
-pub none_of_three : (core : Core) (c : Cons) (x : Option DifferentFilter) → IsDifferenceThere core c x → x ≡ None → (o : Option OwnFilter) → IsThereForDisjunctions core c o → IsThereForDifferences core c o
-none_of_three core c x t e None h = (subst (IsDifferenceThere core c) e t, h.0, h.1)
+pub none_of_three : (core : Core) (c : Cons) (x : Option ReifyFilter) → IsDisjunctionThere core c x → x ≡ None → (o : Option OwnFilter) → IsThereForConnectives core c o → IsThereForDisjunctions core c o
+none_of_three core c x t e None h = (subst (IsDisjunctionThere core c) e t, h.0, h.1)
 none_of_three core c x t e (Some f) h = h
 
+pub none_of_four : (core : Core) (c : Cons) (x : Option DifferentFilter) → IsDifferenceThere core c x → x ≡ None → (o : Option OwnFilter) → IsThereForDisjunctions core c o → IsThereForDifferences core c o
+none_of_four core c x t e None h = (subst (IsDifferenceThere core c) e t, h.0, h.1, h.2)
+none_of_four core c x t e (Some f) h = h
+
 pub none_of_all : (core : Core) (c : Cons) (x : Option LinearFilter) → IsComparisonThere core c x → x ≡ None → (o : Option OwnFilter) → IsThereForDifferences core c o → IsThereForKinds core c o
-none_of_all core c x t e None h = (subst (IsComparisonThere core c) e t, h.0, h.1, h.2)
+none_of_all core c x t e None h = (subst (IsComparisonThere core c) e t, h.0, h.1, h.2, h.3)
 none_of_all core c x t e (Some f) h = h

@@ -23,6 +23,7 @@ use Rattle.opl_linear_filter.proofs.Weights.{below_length}
 use Rattle.opl_linear_filter.proofs.Ends as linear
 use Rattle.opl_all_different.proofs.Ends as different
 use Rattle.opl_reify.proofs.Ends as disjunction
+use Rattle.opl_connective.proofs.Ends as connective
 use Rattle.opl_closure.proofs.Turns.{stable_moves}
 use Rattle.opl_closure.proofs.Values.{value_rests}
 use Rattle.opl_engine.specs.declared.member.Member.{Member}
@@ -129,6 +130,7 @@ own_ends_decide : (core : Core) (c : Fact) (f : OwnFilter) → IsOwnFilter core 
 own_ends_decide core c (own.Linear f) i e = linear.ends_decide core c f i e
 own_ends_decide core c (own.Different f) i e = different.different_by_ends core c f i
 own_ends_decide core c (own.Reify f) i e = disjunction.ends_decide core c f i e
+own_ends_decide core c (own.Connective f) i e = connective.ends_decide core c f i e
 own_ends_decide core c (own.Count f) i e = cc
 
 module _ (core : Core) (c : Fact) (variables : List ℕ) (F G : Family) (m : IsListed core c variables) (wide : length F ≡ length core.sets) (s : IsStable (refutes c) F) (g : Full G) (b : Below G F) where

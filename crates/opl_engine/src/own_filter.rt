@@ -6,9 +6,10 @@ ghost use Rattle.opl_expr.specs.Forms.{Fact, fact};
 ghost use Rattle.opl_expr.specs.Solutions.{declared};
 ghost use Rattle.opl_expr.specs.Sound.{IsSoundFact};
 ghost use Rattle.opl_filter.specs.Filtering.{refutes, IsBetween, Filters};
-ghost use Rattle.opl_engine.specs.OwnFilters.{IsMadeWith, IsOwnFilter, IsOwnFilterIfAny, IsThereForCounts, IsThereForDisjunctions, IsThereForDifferences, IsThereForKinds, sees_ends};
+ghost use Rattle.opl_engine.specs.OwnFilters.{IsMadeWith, IsOwnFilter, IsOwnFilterIfAny, IsThereForConnectives, IsThereForCounts, IsThereForDisjunctions, IsThereForDifferences, IsThereForKinds, sees_ends};
 
 use opl_all_different::DifferentFilter;
+use opl_connective::ConnectiveFilter;
 use opl_count::CountFilter;
 use opl_domain::{Narrow, OutOfMemory};
 use opl_expr::{Cons, Core};
@@ -27,6 +28,8 @@ pub enum OwnFilter {
     Different(DifferentFilter),
     /// That of a disjunction whose parts compare linear sides.
     Reify(ReifyFilter),
+    /// That of connectives inside one another over comparisons of linear sides.
+    Connective(ConnectiveFilter),
     /// That of a comparison of counting sums.
     Count(CountFilter),
 }
@@ -43,19 +46,31 @@ fn of_counts(alloc: Global, core: &Core, c: &Cons) -> Result<Option<OwnFilter>, 
     }
 }
 
-/// The filter of a disjunction, or that of a comparison of counting sums, if the constraint is one of these.
+/// The filter of connectives inside one another, or that of a comparison of counting sums, if the constraint is one of these.
+fn of_connectives(alloc: Global, core: &Core, c: &Cons) -> Result<Option<OwnFilter>, OutOfMemory>
+    requires { IsSoundFact core.now.sets (fact core.now.tables core.now.resources c.now) }
+    ensures filter { IfOk result (IsOwnFilterIfAny core.now (fact core.now.tables core.now.resources c.now)) }
+    ensures kinds { IfOk result (IsThereForConnectives core.now c.now) }
+{
+    match ConnectiveFilter::new(alloc, core, c)? {
+        None => of_counts(alloc, core, c),
+        Some(filter) => Ok(Some(OwnFilter::Connective(filter))),
+    }
+}
+
+/// The filter of a disjunction, or that of other connectives or of a comparison of counting sums, if the constraint is one of these.
 fn of_disjunction(alloc: Global, core: &Core, c: &Cons) -> Result<Option<OwnFilter>, OutOfMemory>
     requires { IsSoundFact core.now.sets (fact core.now.tables core.now.resources c.now) }
     ensures filter { IfOk result (IsOwnFilterIfAny core.now (fact core.now.tables core.now.resources c.now)) }
     ensures kinds { IfOk result (IsThereForDisjunctions core.now c.now) }
 {
     match ReifyFilter::new(alloc, core, c)? {
-        None => of_counts(alloc, core, c),
+        None => of_connectives(alloc, core, c),
         Some(filter) => Ok(Some(OwnFilter::Reify(filter))),
     }
 }
 
-/// The filter of `alldifferent` over parts of one variable each, or that of a disjunction or of counting sums, if the constraint is
+/// The filter of `alldifferent` over parts of one variable each, or that of connectives or of counting sums, if the constraint is
 /// one of these.
 fn of_difference(alloc: Global, core: &Core, c: &Cons) -> Result<Option<OwnFilter>, OutOfMemory>
     requires { IsSoundFact core.now.sets (fact core.now.tables core.now.resources c.now) }
@@ -89,6 +104,7 @@ impl OwnFilter {
             OwnFilter::Linear(filter) => filter.sees_ends(),
             OwnFilter::Different(_filter) => true,
             OwnFilter::Reify(filter) => filter.sees_ends(),
+            OwnFilter::Connective(filter) => filter.sees_ends(),
             OwnFilter::Count(_filter) => false, // Its truths may be decided by values.
         }
     }
@@ -109,6 +125,7 @@ impl OwnFilter {
             OwnFilter::Linear(filter) => filter.filter(core, n),
             OwnFilter::Different(filter) => filter.filter(core, n),
             OwnFilter::Reify(filter) => filter.filter(core, n),
+            OwnFilter::Connective(filter) => filter.filter(core, n),
             OwnFilter::Count(filter) => filter.filter(core, n),
         }
     }

@@ -1,9 +1,9 @@
 use Rattle.std.proofs.lemmas.Result.{IfOk-weaker}
-use Rattle.opl_engine.proofs.OwnKinds.{different_kind, none_of_three}
+use Rattle.opl_engine.proofs.OwnKinds.{different_kind, none_of_four}
 use Rattle.opl_engine.proofs.own_filter.of_difference.Goals as goal
 
 pub returns-in-None-clause-kinds : goal.returns-in-None-clause-kinds
-returns-in-None-clause-kinds c = IfOk-weaker c.of_disjunction.result _ _ (none_of_three c.args.core.now c.args.c.now c.in_ok-new.field-0 c.in_ok-new.ensures.kind c.in-None.is) c.of_disjunction.ensures.kinds
+returns-in-None-clause-kinds c = IfOk-weaker c.of_disjunction.result _ _ (none_of_four c.args.core.now c.args.c.now c.in_ok-new.field-0 c.in_ok-new.ensures.kind c.in-None.is) c.of_disjunction.ensures.kinds
 
 pub returns-in-Some-clause-kinds : goal.returns-in-Some-clause-kinds
 returns-in-Some-clause-kinds c = different_kind c.args.core.now c.args.c.now c.in_ok-new.field-0 c.in-Some.filter c.in_ok-new.ensures.kind c.in-Some.is

@@ -1,4 +1,4 @@
-use Rattle.opl_engine.proofs.OwnKinds.{count_is, reify_is}
+use Rattle.opl_engine.proofs.OwnKinds.{connective_is, count_is, reify_is}
 use Rattle.opl_engine.proofs.own_filter.OwnFilter.filter.Goals as goal
 
 pub returns-in-Reify-clause-between : goal.returns-in-Reify-clause-between
@@ -6,6 +6,12 @@ returns-in-Reify-clause-between g c = λ d i. c.filter-in-Reify.ensures.between 
 
 pub returns-in-Reify-clause-outcome : goal.returns-in-Reify-clause-outcome
 returns-in-Reify-clause-outcome g c = λ d i. c.filter-in-Reify.ensures.outcome d (reify_is c.args.core.now d c.args.self.now c.in-Reify.filter c.in-Reify.is i)
+
+pub returns-in-Connective-clause-between : goal.returns-in-Connective-clause-between
+returns-in-Connective-clause-between g c = λ d i. c.filter-in-Connective.ensures.between d (connective_is c.args.core.now d c.args.self.now c.in-Connective.filter c.in-Connective.is i)
+
+pub returns-in-Connective-clause-outcome : goal.returns-in-Connective-clause-outcome
+returns-in-Connective-clause-outcome g c = λ d i. c.filter-in-Connective.ensures.outcome d (connective_is c.args.core.now d c.args.self.now c.in-Connective.filter c.in-Connective.is i)
 
 pub returns-in-Count-clause-between : goal.returns-in-Count-clause-between
 returns-in-Count-clause-between g c = λ d i. c.filter-in-Count.ensures.between d (count_is c.args.core.now d c.args.self.now c.in-Count.filter c.in-Count.is i)
