@@ -1,5 +1,5 @@
-//! Reads lines `NUMBER CONDITION`, and prints behind each what the condition comes to where the decision variable `x` has that number. A
-//! line that begins with `#`, and a blank one, is printed alone.
+//! Lines `NUMBER CONDITION`, each with what the condition comes to where the decision variable `x` has that number. A line that begins
+//! with `#`, and a blank one, stands alone.
 #![tactic(auto)]
 
 mod condition;
@@ -7,8 +7,6 @@ mod site;
 mod text;
 
 use std::alloc::{AllocError, Global};
-use std::io;
-use std::io::Write;
 use text::push_outcome;
 
 /// Adds a line, and what its condition comes to.
@@ -27,18 +25,11 @@ fn push_line(alloc: Global, text: &mut Vec<u8>, line: &str) -> Result<(), AllocE
     )
 }
 
-/// Writes what is printed at a line.
-fn answer<W: Write>(alloc: Global, out: &mut W, line: &str) -> io::Result<()> {
+/// The lines, each with what its condition comes to behind it.
+pub fn told_of_conditions(alloc: Global, lines: &str) -> Result<Vec<u8>, AllocError> {
     let mut text = Vec::new(alloc);
-    push_line(alloc, &mut text, line)?;
-    out.write_all(text.as_slice())
-}
-
-fn main(rt: HostRuntime) -> io::Result<()> {
-    let mut out = io::writer(&rt);
-    for line in rt.lines(rt.alloc()) {
-        let line = line?;
-        answer(rt.alloc(), &mut out, line.as_str())?;
+    for line in lines.strip_suffix("\n").unwrap_or(lines).split("\n") {
+        push_line(alloc, &mut text, line)?;
     }
-    Ok(())
+    Ok(text)
 }

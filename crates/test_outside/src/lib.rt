@@ -1,4 +1,4 @@
-//! The program `test_outside`: makes calls of shelves and sinks, and tells how each ended.
+//! Makes calls of shelves and sinks, and tells how each ended.
 #![tactic(auto)]
 
 mod call;
@@ -6,12 +6,12 @@ mod narrow;
 mod shelves;
 mod sinks;
 
-use opl_outside::{RealSink, Sink};
 use shelves::{tell_memory_shelf, tell_real_shelf, tell_sure_shelf};
 use sinks::{tell_memory_sink, tell_real_sink, tell_sure_sink};
 use std::alloc::Global;
 use std::io;
-use std::process::ExitCode;
+use std::io::Write;
+use std::rt::Files;
 
 /// How the calls ended that need no file.
 fn told_of_memory(alloc: Global) -> io::Result<String> {
@@ -24,15 +24,10 @@ fn told_of_memory(alloc: Global) -> io::Result<String> {
     Ok(out)
 }
 
-fn main(rt: HostRuntime) -> ExitCode {
-    let mut out = RealSink::new(io::writer(&rt));
-    let Ok(memory) = told_of_memory(rt.alloc()) else {
-        return ExitCode::from(1);
-    };
-    let _ = out.put(rt.alloc(), memory.as_bytes());
-    let Ok(files) = tell_real_shelf(&rt) else {
-        return ExitCode::from(1);
-    };
-    let _ = out.put(rt.alloc(), files.as_bytes());
-    ExitCode::from(0)
+/// Tells how the calls ended, those in memory and those on the disk, where a file and a folder are made and removed.
+pub fn tell_outside<R: Files + AllocGlobal, W: Write>(rt: &R, out: &mut W) -> io::Result<()> {
+    let memory = told_of_memory(rt.alloc())?;
+    out.write_all(memory.as_bytes())?;
+    let disk = tell_real_shelf(rt)?;
+    out.write_all(disk.as_bytes())
 }
