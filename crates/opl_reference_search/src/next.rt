@@ -4,7 +4,7 @@ use opl_expr::{Cons, Step};
 use opl_list::Seq;
 
 /// The constraints from which a path goes on, and what it has to do.
-#[derive(Debug, Drop)]
+#[derive(Drop)]
 pub struct Way<'a> {
     /// The variable and its value, where the way is an alternative of labelling.
     pub label: Option<(u32, i64)>,
@@ -13,7 +13,7 @@ pub struct Way<'a> {
 }
 
 /// What comes next on a path.
-#[derive(Debug, Drop)]
+#[derive(Drop)]
 pub enum Next<'a> {
     /// All is done.
     Finished,

@@ -7,7 +7,7 @@ use opl_list::Seq;
 use std::alloc::Global;
 
 /// What ends a list of tasks.
-#[derive(Debug, Drop, Clone, Copy)]
+#[derive(Drop, Clone, Copy)]
 pub enum End {
     /// A solution: the list is all that the search does.
     Whole,
@@ -16,7 +16,7 @@ pub enum End {
 }
 
 /// A part of what is to be done.
-#[derive(Debug, Drop)]
+#[derive(Drop)]
 pub enum Task<'a> {
     /// A statement.
     Perform(&'a Step),
