@@ -1,0 +1,11 @@
+pub mod Intervals
+pub mod Deciding
+pub mod Reading
+pub mod Staying
+pub mod Sizes
+pub mod Picking
+pub mod Going
+pub mod Finding
+pub mod Sounding
+pub mod Counting
+pub mod Comparing
