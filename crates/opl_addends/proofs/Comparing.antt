@@ -1,7 +1,6 @@
 -- The sum that is made for a comparison.
-use Rattle.std.proofs.Common.{◌≡◌, ◌∙◌, ℕ, zero, suc, ◌+◌, ◌<◌, ◌≤◌, Bool, true, false, ◌||◌, refl, List, [], ◌∷◌, map, length, get_or, take, ℤ, inl, inr, ap, sym, subst, arith}
+use Rattle.std.proofs.Common.{◌≡◌, ◌∙◌, ℕ, zero, suc, ◌+◌, ◌<◌, ◌≤◌, Bool, true, false, ◌||◌, refl, List, [], ◌∷◌, map, length, ap, sym, subst, arith}
 use Rattle.std.specs.Prelude.{Option, Some, None, slice_get, nat_eq}
-use Rattle.std.proofs.lemmas.Bool.{or_cases}
 use Rattle.std.proofs.lemmas.Bool.Decides.{Decides-eqb}
 use Rattle.opl_domain.specs.Span.{values}
 use Rattle.opl_domain.specs.Family.{Family, Below, Full}
@@ -29,15 +28,15 @@ use Rattle.opl_addends.specs.declared.sum.Addend.{Addend}
 use Rattle.opl_addends.specs.declared.sum.Demand.{Demand}
 use Rattle.opl_addends.specs.declared.sum.Mention.{Mention}
 use Rattle.opl_addends.specs.declared.sum.Sum.{Sum}
-use Rattle.opl_addends.specs.Addends.{plains, mentioning, with_factor, AreApart, AreSound, CanAdd}
+use Rattle.opl_addends.specs.Addends.{plains, mentioning, with_factor, AreApart, CanAdd}
 use Rattle.opl_addends.specs.Demands.{demand_of, addends_of, is_sum_refuted}
-use Rattle.opl_addends.specs.Sums.{is_refuted, IsMention, variables, IsSum}
+use Rattle.opl_addends.specs.Sums.{is_refuted, IsMention, variables}
 use Rattle.opl_addends.specs.Making.{AreMentions, AreMentionsOf}
-use Rattle.opl_addends.specs.Apart.{AreNumbered, AreOnce, AreOnceIf}
+use Rattle.opl_addends.specs.Apart.{AreNumbered, AreOnceIf}
 use Rattle.opl_addends.specs.AddendsFilters.{HasAddends, HaveAddends, IsMadeOf, IsMadeForSides, ComparesAddends}
 use Rattle.opl_addends.proofs.Deciding.{addends_decide}
 use Rattle.opl_addends.proofs.Sounding.{compared_can_add, compared_mentions}
-use Rattle.opl_addends.proofs.Counting.{by_mention, all_apart}
+use Rattle.opl_addends.proofs.Counting.{all_apart}
 
 length_map : {A B : Type 0} (f : A → B) (xs : List A) → length (map f xs) ≡ length xs
 length_map f [] = refl
@@ -153,10 +152,10 @@ cmp_is op a b a' b' c i e f = i ∙ ap (λ z. C.Cmp op z b) (sym e) ∙ ap (λ z
 pub cmp_sound : (core : Core) (op : Op) (a b : Expr) (c : Cons) → c ≡ C.Cmp op a b → IsSoundFact core.sets (fact core.tables core.resources c) → IsSoundFact core.sets (compared op (term_of core a) (term_of core b))
 cmp_sound core op a b c i s = subst (IsSoundFact core.sets) (ap (fact core.tables core.resources) i ∙ fact_Cmp core.tables core.resources op a b) s
 
-pub filter_made : (core : Core) (op : Op) (a b : Expr) (c k : Cons) (s : Sum) (r : Option Sum) → c ≡ C.Cmp op a b → k ≡ c → r ≡ Some s → IsMadeForSides core op a b r → (k ≡ c) × IsMadeOf core (fact core.tables core.resources c) s
-filter_made core op a b c k s r i e j h =
+pub filter_made : (core : Core) (op : Op) (a b : Expr) (c : Cons) (s : Sum) (r : Option Sum) → c ≡ C.Cmp op a b → r ≡ Some s → IsMadeForSides core op a b r → IsMadeOf core (fact core.tables core.resources c) s
+filter_made core op a b c s r i j h =
     let m = subst (IsMadeForSides core op a b) j h in
-    (e, subst (λ f. IsMadeOf core f s) (sym (ap (fact core.tables core.resources) i ∙ fact_Cmp core.tables core.resources op a b)) m.1)
+    subst (λ f. IsMadeOf core f s) (sym (ap (fact core.tables core.resources) i ∙ fact_Cmp core.tables core.resources op a b)) m.1
 
 pub filter_there : (core : Core) (op : Op) (a b : Expr) (c : Cons) (s : Sum) (r : Option Sum) → c ≡ C.Cmp op a b → r ≡ Some s → IsMadeForSides core op a b r → ComparesAddends core c
 filter_there core op a b c s r i j h = let m = subst (IsMadeForSides core op a b) j h in record { op = op; left = a; right = b; is = i; sides = m.0 }

@@ -1,5 +1,5 @@
 -- The sum of the ranges of its addends decides a comparison.
-use Rattle.std.proofs.Common.{◌≡◌, ◌≢◌, ◌∙◌, ◌⊎◌, ℕ, zero, suc, ◌+◌, ◌≤◌, Bool, true, false, cond, not, ◌&&◌, refl, List, [], ◌∷◌, ◌++◌, map, length, ℤ, pos, ◌+ℤ◌, ◌*ℤ◌, neg_ℤ, ◌≤ℤ◌, inl, inr, ap, sym, subst, arith}
+use Rattle.std.proofs.Common.{◌≡◌, ◌∙◌, ◌⊎◌, ℕ, zero, suc, Bool, true, false, cond, not, ◌&&◌, refl, List, [], ◌∷◌, ◌++◌, map, length, ℤ, pos, ◌+ℤ◌, ◌*ℤ◌, neg_ℤ, ◌≤ℤ◌, inl, inr, ap, sym, subst, arith}
 use Rattle.std.specs.Prelude.{Option, Some, None, int_le, int_lt}
 use Rattle.std.specs.Ordering.{int_eq}
 use Rattle.std.proofs.lemmas.Int.{ints}
@@ -9,22 +9,21 @@ use Rattle.opl_domain.specs.Span.{Span, IsInside, smaller, larger, point, is_poi
 use Rattle.opl_domain.specs.Arithmetic.{span_add, span_neg, is_nonzero}
 use Rattle.opl_domain.specs.Family.{Family, hull, Full}
 use Rattle.opl_domain.proofs.Numbers.{smaller_tells, larger_tells}
-use Rattle.opl_expr.specs.declared.forms.Op.{Op}
 use Rattle.opl_expr.specs.declared.forms.Op.TheVariants.{Eq, Ne, Lt, Le, Gt, Ge}
-use Rattle.opl_expr.specs.Forms.{Relation, Term, Terms, Fact, compared}
+use Rattle.opl_expr.specs.Forms.{Relation, Term, Terms, Fact}
 use Rattle.opl_expr.specs.Forms.Relation.{equal, at_most, below}
 use Rattle.opl_expr.specs.Options.{lift, lift1, lift_all}
-use Rattle.opl_expr.specs.Range.{verdict, flip, is_possible, span_scale, Linear, weighted, with_variables, misses_zero, never_zero, compare, coef, coefs, pure, rest, linears, range, fact_range, is_refuted}
-use Rattle.opl_expr.proofs.Inside.{In, of_inside}
+use Rattle.opl_expr.specs.Range.{flip, is_possible, span_scale, Linear, weighted, with_variables, misses_zero, never_zero, compare, coef, coefs, pure, rest, linears, range, fact_range, is_refuted}
+use Rattle.opl_expr.proofs.Inside.{of_inside}
 use Rattle.opl_expr.proofs.Narrower.{monotony}
 use Rattle.opl_trace.proofs.Families.{below_self}
 use Rattle.opl_linear.proofs.Normal.{never_refuted, sure_refuted}
 use Rattle.opl_addends.specs.declared.sum.Demand.{Demand}
 use Rattle.opl_addends.specs.declared.sum.Demand.TheVariants as demand
 use Rattle.opl_addends.specs.Addends.{addends, all_addends, addends_between, signed, signed_span, addend_range, total, one_if, with_factor, AreApart}
-use Rattle.opl_addends.specs.Demands.{is_refuted_by, is_refuted_if, is_sum_refuted, demand_of, addends_of}
+use Rattle.opl_addends.specs.Demands.{is_refuted_if, is_sum_refuted}
 use Rattle.opl_addends.specs.Laws.{AddendsDecide}
-use Rattle.opl_addends.proofs.Intervals.{same_span, add_turned, add_again, signed_sum, lift_turned, lift_again, lift_nothing, lift_nothing_behind, lift_signed, lift_neg, append_again, append_nothing, add_nothing, add_nothing_behind, signed_nothing}
+use Rattle.opl_addends.proofs.Intervals.{same_span, add_turned, add_again, signed_sum, lift_again, lift_nothing, lift_nothing_behind, lift_signed, lift_neg, append_again, append_nothing, add_nothing, add_nothing_behind, signed_nothing}
 
 -- ---- sums of variables with their factors
 

@@ -1,7 +1,7 @@
 -- The addends of two sides, as they are found one after another, and the mentions of their variables.
 use Rattle.std.proofs.Common.{◌≡◌, ◌∙◌, ℕ, zero, suc, ◌+◌, ◌<◌, ◌≤◌, Bool, true, false, cond, not, ◌||◌, refl, List, [], ◌∷◌, ◌++◌, map, length, get_or, take, ℤ, pos, ap, sym, subst, arith}
-use Rattle.std.specs.Prelude.{Option, Some, None, slice_get, nat_eq}
-use Rattle.std.specs.List.{filter, list_any}
+use Rattle.std.specs.Prelude.{Some, slice_get, nat_eq}
+use Rattle.std.specs.List.{list_any}
 use Rattle.opl_expr.specs.declared.model.Core.{Core}
 use Rattle.opl_expr.specs.declared.forms.Ask.{Ask}
 use Rattle.opl_expr.specs.declared.forms.Op.TheVariants.{Le}
@@ -9,7 +9,7 @@ use Rattle.opl_expr.specs.declared.forms.Expr.{Expr}
 use Rattle.opl_expr.specs.declared.forms.Expr.TheVariants as E
 use Rattle.opl_expr.specs.declared.forms.Cons.{Cons}
 use Rattle.opl_expr.specs.declared.forms.Cons.TheVariants as C
-use Rattle.opl_expr.specs.Forms.{Term, Terms, Fact, term, fact, terms_of, product}
+use Rattle.opl_expr.specs.Forms.{Term, Fact, fact, terms_of, product}
 use Rattle.opl_expr.specs.Forms.Relation.{at_most}
 use Rattle.opl_expr.proofs.Parts.{product_cases, any_default}
 use Rattle.opl_expr.proofs.Plain.{term_Const, term_Var, term_Sum, term_Neg, term_Mul, term_Div, term_Rem, term_Abs, term_Min, term_Max, term_At, term_Truth, term_Ask, fact_Cmp}

@@ -1,12 +1,10 @@
 -- What is known once the values of a variable were tried, and those of all variables.
-use Rattle.std.proofs.Common.{◌≡◌, ◌≢◌, ◌∙◌, ℕ, zero, suc, ◌+◌, ◌<◌, ◌≤◌, Bool, true, false, cond, not, ◌||◌, refl, List, [], ◌∷◌, map, length, get_or, take, ℤ, pos, ◌+ℤ◌, neg_ℤ, ◌≤ℤ◌, ap, sym, subst, arith, set}
+use Rattle.std.proofs.Common.{◌≡◌, ◌∙◌, ℕ, zero, suc, ◌+◌, ◌<◌, ◌≤◌, Bool, true, false, ◌||◌, refl, List, [], ◌∷◌, length, get_or, ℤ, ◌+ℤ◌, ap, sym, subst, arith}
 use Rattle.std.specs.Prelude.{Option, Some, None, slice_get}
-use Rattle.std.specs.List.{filter}
-use Rattle.std.proofs.lemmas.Int.{ints}
 use Rattle.std.proofs.lemmas.List.{set-set}
 use Rattle.opl_domain.specs.Span.{Span, magnitude}
 use Rattle.opl_domain.specs.Arithmetic.{span_add}
-use Rattle.opl_domain.specs.Family.{Family, IsFamily, IsLeastAbove, Below, Full, set_of, has, only, cut_of, outside}
+use Rattle.opl_domain.specs.Family.{Family, IsFamily, Below, Full, set_of, only, cut_of, outside}
 use Rattle.opl_domain.proofs.Sets.{cut_there}
 use Rattle.opl_expr.specs.declared.model.Core.{Core}
 use Rattle.opl_expr.specs.Forms.{Term}
@@ -16,22 +14,21 @@ use Rattle.opl_expr.proofs.Bounds.{lift_parts}
 use Rattle.opl_filter.specs.declared.outcome.Outcome.TheVariants as outcome
 use Rattle.opl_filter.specs.Fresh.{DifferAt}
 use Rattle.opl_filter.specs.Mentions.{lists, term_mentions}
-use Rattle.opl_filter.specs.Filtering.{IsLeftOf, IsBetween, Filters}
-use Rattle.opl_filter.specs.Rounds.{AreThere, HasShrunk, NoneDead, TriesValue, TriesValues}
+use Rattle.opl_filter.specs.Filtering.{IsLeftOf}
+use Rattle.opl_filter.specs.Rounds.{AreThere, TriesValue, TriesValues}
 use Rattle.opl_filter.proofs.Removals.{left_self, left_join, left_sets, left_below, left_kept, from_cut}
-use Rattle.opl_trace.specs.Removals.{DeadValue}
 use Rattle.opl_trace.specs.Stable.{IsMonotone, IsStable, HasFailed}
 use Rattle.opl_trace.proofs.Families.{below_self, below_join, only_below}
-use Rattle.opl_reify.specs.Rounds.{TriesIfListed, TriesShared, Looks}
+use Rattle.opl_reify.specs.Rounds.{TriesIfListed, Looks}
 use Rattle.opl_reify.proofs.Trying.{TryingShared, listed_at, shared_next, shared_end}
 use Rattle.opl_reify.proofs.Looking.{left_between, nothing_between, dead_has_failed, stuck_has_failed}
 use Rattle.opl_addends.specs.declared.sum.Addend.{Addend}
 use Rattle.opl_addends.specs.declared.sum.Mention.{Mention}
 use Rattle.opl_addends.specs.declared.sum.Sum.{Sum}
 use Rattle.opl_addends.specs.Addends.{plains, picked, total, mentioning, others, CanAdd}
-use Rattle.opl_addends.specs.Demands.{is_refuted_by, is_refuted_if, is_sum_refuted}
+use Rattle.opl_addends.specs.Demands.{is_refuted_by, is_refuted_if}
 use Rattle.opl_addends.specs.Sums.{is_refuted, variables, IsMention, IsSum, CanAsk}
-use Rattle.opl_addends.specs.Rounds.{CanTry, SameBut, HasEnded, TriesVariable, TriesEach, Keeps, IsLess}
+use Rattle.opl_addends.specs.Rounds.{CanTry, SameBut, HasEnded, TriesVariable, TriesEach, IsLess}
 use Rattle.opl_addends.proofs.Deciding.{total_ordered}
 use Rattle.opl_addends.proofs.Sizes.{total_small, can_add_some, magnitudes_split}
 use Rattle.opl_addends.proofs.Staying.{sums_split, others_stay, others_only, unmentioned}

@@ -1,11 +1,11 @@
 -- Sums and opposites of intervals that may be missing.
-use Rattle.std.proofs.Common.{◌≡◌, ◌∙◌, Bool, true, false, not, refl, List, [], ◌∷◌, ◌++◌, ℤ, pos, ◌+ℤ◌, ◌*ℤ◌, neg_ℤ, ◌≤ℤ◌, ap, sym, arith}
+use Rattle.std.proofs.Common.{◌≡◌, ◌∙◌, Bool, true, false, not, refl, List, [], ◌∷◌, ◌++◌, ℤ, pos, ◌+ℤ◌, neg_ℤ, ap, sym, arith}
 use Rattle.std.specs.Prelude.{Option, Some, None}
 use Rattle.std.proofs.lemmas.Int.{ints}
 use Rattle.opl_domain.specs.Span.{Span, point}
 use Rattle.opl_domain.specs.Arithmetic.{span_add, span_neg}
 use Rattle.opl_expr.specs.Options.{lift, lift1}
-use Rattle.opl_addends.specs.Addends.{signed, signed_span}
+use Rattle.opl_addends.specs.Addends.{signed_span}
 
 abbrev span_of : ℤ → ℤ → Span
 span_of l h = record { low = l; high = h }

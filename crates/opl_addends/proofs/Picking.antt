@@ -1,12 +1,10 @@
 -- The addends at some places, one after another.
-use Rattle.std.proofs.Common.{◌≡◌, ◌∙◌, ℕ, zero, suc, ◌+◌, ◌-◌, ◌≤◌, ◌<◌, Bool, true, false, cond, refl, List, [], ◌∷◌, ◌++◌, map, length, get_or, drop, take, ℤ, ap, sym, subst, arith}
-use Rattle.std.specs.Prelude.{Option, Some, None, slice_get}
-use Rattle.std.specs.List.{filter}
+use Rattle.std.proofs.Common.{◌≡◌, ◌∙◌, ℕ, zero, suc, ◌-◌, ◌≤◌, ◌<◌, Bool, refl, List, [], ◌∷◌, ◌++◌, map, length, get_or, drop, ℤ, ap, sym, subst, arith}
+use Rattle.std.specs.Prelude.{Some, None, slice_get}
 use Rattle.opl_expr.specs.Forms.{Term}
 use Rattle.opl_expr.proofs.Parts.{any_default}
 use Rattle.opl_range.proofs.Parts.{part_before}
 use Rattle.opl_addends.specs.Addends.{CanAdd, listed, picked}
-use Rattle.opl_addends.proofs.Intervals.{append_again}
 use Rattle.opl_addends.proofs.Sizes.{can_add_behind}
 
 module _ {X : Type 0} (f : X → Bool × Term) where

@@ -1,13 +1,13 @@
 -- How large sums of ranges are, and how loops over addends make them.
-use Rattle.std.proofs.Common.{◌≡◌, ◌∙◌, ℕ, zero, suc, ◌+◌, ◌-◌, ◌≤◌, ◌<◌, max, Bool, true, false, cond, not, refl, List, [], ◌∷◌, ◌++◌, map, length, get_or, drop, ℤ, pos, ap, sym, subst, arith}
-use Rattle.std.specs.Prelude.{Option, Some, None, unsigned_abs}
+use Rattle.std.proofs.Common.{◌≡◌, ◌∙◌, ℕ, zero, suc, ◌+◌, ◌-◌, ◌≤◌, ◌<◌, Bool, true, false, cond, not, refl, List, [], ◌∷◌, ◌++◌, map, length, get_or, drop, ℤ, pos, ap, sym, subst, arith}
+use Rattle.std.specs.Prelude.{Option, Some}
 use Rattle.std.specs.List.{filter}
 use Rattle.opl_domain.specs.Span.{Span, magnitude, point}
-use Rattle.opl_domain.specs.Arithmetic.{span_add, span_neg}
+use Rattle.opl_domain.specs.Arithmetic.{span_add}
 use Rattle.opl_domain.specs.Family.{Family, Below}
 use Rattle.opl_expr.specs.declared.model.Core.{Core}
 use Rattle.opl_expr.specs.Forms.{Term}
-use Rattle.opl_expr.specs.Options.{lift, lift1}
+use Rattle.opl_expr.specs.Options.{lift}
 use Rattle.opl_expr.specs.Range.{range}
 use Rattle.opl_expr.specs.Solutions.{declared}
 use Rattle.opl_expr.specs.Sound.{IsSmall, IsSoundTerm, term_magnitude}

@@ -1,15 +1,12 @@
 -- What the addends of a sound comparison are like, and which variables they mention.
-use Rattle.std.proofs.Common.{◌≡◌, ◌∙◌, ℕ, ◌+◌, ◌≤◌, Bool, true, false, cond, not, ◌||◌, refl, List, [], ◌∷◌, ◌++◌, length, ℤ, pos, ◌+ℤ◌, ◌*ℤ◌, neg_ℤ, ap, sym, subst, arith}
-use Rattle.std.specs.List.{filter}
-use Rattle.opl_domain.specs.Arithmetic.{is_nonzero}
+use Rattle.std.proofs.Common.{◌≡◌, ◌∙◌, ℕ, ◌+◌, Bool, true, false, cond, not, ◌||◌, refl, List, [], ◌∷◌, ◌++◌, ℤ, ap, sym, subst, arith}
 use Rattle.opl_expr.specs.declared.forms.Op.{Op}
 use Rattle.opl_expr.specs.declared.forms.Op.TheVariants.{Eq, Ne, Lt, Le, Gt, Ge}
 use Rattle.opl_expr.specs.Forms.{Term, Terms, compared}
-use Rattle.opl_expr.specs.Range.{coef, coefs}
 use Rattle.opl_expr.specs.Sound.{IsSmall, IsSoundTerm, AreSoundTerms, IsSoundFact, term_magnitude, sum_magnitude}
 use Rattle.opl_expr.proofs.Parts.{sound_compared}
 use Rattle.opl_filter.specs.Mentions.{term_mentions, terms_mention, mentions}
-use Rattle.opl_addends.specs.Addends.{addends, all_addends, addends_between, one_if, with_factor, magnitudes, AreSound, CanAdd, mentioning}
+use Rattle.opl_addends.specs.Addends.{addends, all_addends, addends_between, magnitudes, AreSound, CanAdd, mentioning}
 use Rattle.opl_addends.specs.Demands.{addends_of}
 use Rattle.opl_addends.proofs.Intervals.{append_again, append_nothing}
 

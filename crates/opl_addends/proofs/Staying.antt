@@ -1,8 +1,5 @@
 -- With another set for a variable, only addends that mention it can have another range.
-use Rattle.std.proofs.Common.{◌≡◌, ◌∙◌, ℕ, Bool, true, false, cond, not, ◌||◌, refl, List, [], ◌∷◌, length, ℤ, pos, ap, sym, subst}
-use Rattle.std.specs.Prelude.{Option, Some, None}
-use Rattle.std.specs.List.{filter}
-use Rattle.opl_domain.specs.Span.{Span, point}
+use Rattle.std.proofs.Common.{◌≡◌, ◌∙◌, ℕ, Bool, true, false, cond, not, ◌||◌, refl, List, [], ◌∷◌, ℤ, ap, sym}
 use Rattle.opl_domain.specs.Arithmetic.{span_add}
 use Rattle.opl_domain.specs.Family.{Family, Full, only}
 use Rattle.opl_expr.specs.Forms.{Term, Fact}

@@ -1,5 +1,5 @@
 -- The addends of a comparison, and the range of their sum.
-use Rattle.std.specs.Prelude.{◌≡◌, ℕ, ◌+◌, ◌≤◌, Bool, true, false, not, List, [], ◌∷◌, ◌++◌, map, ℤ, pos, ◌+ℤ◌, neg_ℤ, slice_get, Option, Some, None}
+use Rattle.std.specs.Prelude.{ℕ, ◌+◌, ◌≤◌, Bool, true, false, not, List, [], ◌∷◌, ◌++◌, map, ℤ, pos, neg_ℤ, slice_get, Option, Some, None}
 use Rattle.std.specs.List.{filter}
 use Rattle.opl_domain.specs.Span.{Span, point}
 use Rattle.opl_domain.specs.Arithmetic.{span_add, span_neg, is_nonzero}
@@ -7,7 +7,7 @@ use Rattle.opl_domain.specs.Family.{Family}
 use Rattle.opl_expr.specs.declared.model.Core.{Core}
 use Rattle.opl_expr.specs.Forms.{Term, Terms}
 use Rattle.opl_expr.specs.Options.{lift, lift1}
-use Rattle.opl_expr.specs.Range.{coef, rest, range}
+use Rattle.opl_expr.specs.Range.{coef, range}
 use Rattle.opl_expr.specs.Sound.{IsSmall, IsSoundTerm, term_magnitude}
 use Rattle.opl_filter.specs.Mentions.{term_mentions}
 use Rattle.opl_range.specs.Between.{term_of}

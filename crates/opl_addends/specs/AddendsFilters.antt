@@ -6,7 +6,7 @@ use Rattle.opl_expr.specs.declared.forms.Cons.{Cons}
 use Rattle.opl_expr.specs.declared.forms.Cons.TheVariants as constraint
 use Rattle.opl_expr.specs.declared.forms.Expr.{Expr}
 use Rattle.opl_expr.specs.declared.forms.Op.{Op}
-use Rattle.opl_expr.specs.Forms.{Fact, fact, compared}
+use Rattle.opl_expr.specs.Forms.{Fact, compared}
 use Rattle.opl_filter.specs.Filtering.{refutes}
 use Rattle.opl_range.specs.Between.{term_of, is_pure_between}
 use Rattle.opl_addends.specs.declared.sum.Addend.{Addend}
@@ -50,7 +50,15 @@ abbrev pub IsThereFor : Core → Cons → Option AddendsFilter → Type 0
 IsThereFor core c None = ComparesAddends core c → ⊥
 IsThereFor core c (Some f) = ComparesAddends core c
 
--- it is made for it
-abbrev pub IsFilterIfAny : Core → Cons → Option AddendsFilter → Type 0
-IsFilterIfAny core c None = Unit {0}
-IsFilterIfAny core c (Some f) = (f.constraint ≡ c) × IsMadeOf core (fact core.tables core.resources c) f.sum
+-- the filter was made with a core
+abbrev pub IsMadeOfAddends : Core → AddendsFilter → Type 0
+IsMadeOfAddends core f = IsSum core f.sum
+
+-- the filter is that of a constraint
+abbrev pub IsAddendsFor : Core → Fact → AddendsFilter → Type 0
+IsAddendsFor core c f = IsMadeOf core c f.sum
+
+-- a filter, where there is one, is that of a constraint
+abbrev pub IsAddendsIfAny : Core → Fact → Option AddendsFilter → Type 0
+IsAddendsIfAny core c None = Unit {0}
+IsAddendsIfAny core c (Some f) = IsAddendsFor core c f

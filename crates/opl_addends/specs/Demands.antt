@@ -1,5 +1,5 @@
 -- What sums are to be, and which families refute that they are.
-use Rattle.std.specs.Prelude.{◌≡◌, ℕ, Bool, true, false, List, ℤ, pos, int_le, int_lt, Option, Some, None}
+use Rattle.std.specs.Prelude.{Bool, true, List, pos, int_le, int_lt, Option, Some, None}
 use Rattle.opl_domain.specs.Span.{Span, is_point}
 use Rattle.opl_domain.specs.Family.{Family}
 use Rattle.opl_expr.specs.declared.forms.Op.{Op}

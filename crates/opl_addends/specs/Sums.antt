@@ -1,5 +1,5 @@
 -- Sums that were made, and the variables that their addends mention.
-use Rattle.std.specs.Prelude.{◌≡◌, ◌≢◌, ℕ, Bool, true, false, List, [], map, ℤ, slice_get, Some}
+use Rattle.std.specs.Prelude.{◌≡◌, ℕ, Bool, false, List, [], map, slice_get, Some}
 use Rattle.opl_domain.specs.Span.{Span}
 use Rattle.opl_domain.specs.Family.{Family, Below}
 use Rattle.opl_expr.specs.declared.model.Core.{Core}

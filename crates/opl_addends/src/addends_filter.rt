@@ -1,11 +1,14 @@
 //! The filter of a comparison of sums whose addends are of any form.
 ghost use Rattle.std.specs.Prelude.{◌≡◌, ◌<◌, ◌^◌, false, length, IfOk};
+ghost use Rattle.opl_domain.specs.Family.{Below};
 ghost use Rattle.opl_expr.specs.declared.forms.Cons.TheVariants as constraint;
-ghost use Rattle.opl_expr.specs.Forms.{fact, compared};
+ghost use Rattle.opl_expr.specs.Forms.{Fact, fact, compared};
+ghost use Rattle.opl_expr.specs.Solutions.{declared};
 ghost use Rattle.opl_expr.specs.Sound.{IsSoundFact};
+ghost use Rattle.opl_filter.specs.Filtering.{refutes, IsBetween, Filters};
 ghost use Rattle.opl_range.specs.Between.{term_of, is_pure_between};
 ghost use Rattle.opl_addends.specs.Demands.{demand_of};
-ghost use Rattle.opl_addends.specs.AddendsFilters.{HasAddends, IsMadeForSides, IsThereFor, IsFilterIfAny};
+ghost use Rattle.opl_addends.specs.AddendsFilters.{HasAddends, IsMadeOfAddends, IsMadeForSides, IsAddendsFor, IsAddendsIfAny, IsThereFor};
 
 use crate::apart::are_apart;
 use crate::making::{addends_between, mentions};
@@ -13,15 +16,14 @@ use crate::rounds::filter_sum;
 use crate::sum::{Addend, Demand, Sum};
 use opl_domain::{Narrow, OutOfMemory, View};
 use opl_expr::{Cons, Core, Expr, Op};
-use opl_filter::{Filter, Outcome, variables_of};
-use opl_list::{Boxed, Seq};
+use opl_filter::{Outcome, variables_of};
+use opl_list::Seq;
 use opl_range::is_linear;
 use std::alloc::Global;
 
-/// A comparison, and what the sum of its addends is to be.
+/// What the sum of the addends of a comparison is to be.
 #[derive(Drop)]
 pub struct AddendsFilter {
-    constraint: Boxed<Cons>,
     sum: Sum,
 }
 
@@ -117,48 +119,33 @@ fn of_comparison(
     sum_of(alloc, core, c, op, a, b)
 }
 
-/// A copy of a constraint.
-fn copied(alloc: Global, c: &Cons) -> Result<Boxed<Cons>, OutOfMemory>
-    ensures { IfOk result (λ b. b ≡ c.now) }
-{
-    Ok(Boxed::new(alloc, c.copy(alloc)?)?)
-}
-
 impl AddendsFilter {
     /// The filter of a constraint, exactly where that is a comparison with a side that isn't linear, whose sides are built, by
     /// sums and opposites, of addends of which no two have the same variable with a factor. There must be fewer than 2^32 variables.
     pub fn new(alloc: Global, core: &Core, c: &Cons) -> Result<Option<AddendsFilter>, OutOfMemory>
         requires sound { IsSoundFact core.now.sets (fact core.now.tables core.now.resources c.now) }
         requires few { length core.now.sets < 2 ^ 32 }
-        ensures filter { IfOk result (IsFilterIfAny core.now c.now) }
+        ensures filter { IfOk result (IsAddendsIfAny core.now (fact core.now.tables core.now.resources c.now)) }
         ensures kind { IfOk result (IsThereFor core.now c.now) }
     {
         let Cons::Cmp(op, a, b) = c else {
             return Ok(None);
         };
-        let constraint = copied(alloc, c)?;
         match of_comparison(alloc, core, c, *op, a.get(), b.get())? {
             None => Ok(None),
-            Some(sum) => Ok(Some(AddendsFilter { constraint, sum })),
+            Some(sum) => Ok(Some(AddendsFilter { sum })),
         }
     }
-}
 
-impl Filter for AddendsFilter {
-    ghost use Rattle.opl_expr.specs.Forms.{fact};
-    ghost use Rattle.opl_addends.specs.AddendsFilters.{IsMadeOf};
-
-    ghost constraint = { λ s core. fact core.tables core.resources s.constraint };
-
-    ghost is_made_with = { λ s core. IsMadeOf core (fact core.tables core.resources s.constraint) s.sum };
-
-    ghost fresh = { λ s F. Unit {0} };
-
-    ghost fresh_law = { λ s d F G made agree is. is };
-
-    fn wake(&mut self, _x: u32) {}
-
-    fn filter<N: Narrow>(&mut self, core: &Core, n: &mut N) -> Outcome {
+    /// Removes values that the constraint refutes alone at that moment, until the family is stable for it, or until none within
+    /// is. All values must be declared. It takes no memory.
+    pub fn filter<N: Narrow>(&self, core: &Core, n: &mut N) -> Outcome
+        requires made { IsMadeOfAddends core.now self.now }
+        requires declared { Below (N.family n.old) (declared core.now) }
+        ensures between { (c : Fact) → IsAddendsFor core.now c self.now → IsBetween (refutes c) (N.family n.old) (N.family n.new) }
+        ensures outcome { (c : Fact) → IsAddendsFor core.now c self.now → Filters (refutes c) (N.family n.old) (N.family n.new) result }
+        ensures leads_to { N.leads_to n.old n.new }
+    {
         // No set is empty: a view says so with its number of variables.
         let _vars = n.vars();
         filter_sum(core, &self.sum, n)

@@ -1,5 +1,5 @@
 -- When no value of the objective is better than a best value.
-use Rattle.std.proofs.Common.{◌≡◌, ◌∙◌, ℕ, zero, suc, Bool, true, false, ◌&&◌, cond, refl, ℤ, pos, ◌+ℤ◌, ◌*ℤ◌, ◌≤ℤ◌, neg_ℤ, length, ap, sym, subst, arith, inl, inr}
+use Rattle.std.proofs.Common.{◌≡◌, ◌∙◌, ℕ, zero, suc, Bool, true, false, ◌&&◌, cond, refl, ℤ, pos, ◌+ℤ◌, ◌*ℤ◌, ◌≤ℤ◌, neg_ℤ, length, ap, arith, inl, inr}
 use Rattle.std.specs.Prelude.{Option, Some, None, int_le, int_lt}
 use Rattle.std.proofs.lemmas.Int.{ints}
 use Rattle.opl_domain.specs.Span.{Span, point, smaller, larger}

@@ -7,7 +7,6 @@ use Rattle.opl_expr.specs.declared.model.Core.{Core}
 use Rattle.opl_expr.specs.Forms.{Fact}
 use Rattle.opl_expr.specs.Solutions.{declared}
 use Rattle.opl_trace.specs.Closure.{closure}
-use Rattle.opl_trace.specs.Marks.{objective}
 use Rattle.opl_trace.specs.Moments.{core_sets}
 use Rattle.opl_trace.specs.Removals.{Kept}
 use Rattle.opl_filter.specs.declared.outcome.Outcome.{Outcome}
@@ -18,11 +17,11 @@ use Rattle.opl_closure.specs.Members.{refutes_one, Each, WaitOrAreStable}
 use Rattle.opl_engine.specs.declared.member.Member.{Member}
 use Rattle.opl_engine.specs.declared.member.Member.TheVariants as member
 use Rattle.opl_engine.specs.declared.opening.Opening.{Opening}
-use Rattle.opl_engine.specs.Members.{bound_fact, fact_of, IsMember}
+use Rattle.opl_engine.specs.Members.{fact_of, IsMember}
 use Rattle.opl_engine.specs.Crowds.{Crowd, kind_of}
 use Rattle.opl_engine.specs.Engines.{IsBounded, IsEngine, IsBase}
 use Rattle.opl_engine.specs.States.{Level, State, Parts, seen, posted_below, closed_after, SameBeside, CanClose, Closes, Fits, state_of, level_of, AreOpenings}
-use Rattle.opl_engine.proofs.Lists.{length_map, map_added, map_take, drop_added, map_set_first, drop_set, take_take, levels_added, levels_kept, levels_set, openings_more}
+use Rattle.opl_engine.proofs.Lists.{length_map, map_added, map_take, drop_added, map_set_first, drop_set, levels_added, levels_kept, levels_set, openings_more}
 use Rattle.opl_engine.proofs.Made.{some_members, bounded_added, bounded_taken, bounded_set, bounded_worked, bounded_facts, made_added}
 use Rattle.opl_engine.proofs.Crowds.{each_taken, each_set}
 use Rattle.opl_engine.proofs.Fitting.{fits_added, fits_better, fits_opened, fits_closed, fits_narrowed, fits_new}
@@ -74,6 +73,7 @@ module _ (core : Core) where
 
   pub posts_keep : (best : Option ℤ) (crowd more : Crowd) (os : List Opening) (m : Member) → IsEngine core best crowd os → IsMember core m → more ≡ record crowd { members = crowd.members ++ m ∷ []; waits = crowd.waits ++ true ∷ [] } → IsEngine core best more os
   posts_keep best crowd more os m i s e = subst (λ d. IsEngine core best d os) (sym e) (record {
+    few = i.few;
     bounded = bounded_added core best crowd.members m i.bounded;
     variables = i.variables;
     made = made_added core crowd.members m i.made s;
@@ -96,9 +96,9 @@ module _ (core : Core) where
       same_state more _ _ _ _ next.waits (ap (drop 1) f ∙ drop_set (facts crowd) (fact_of core m)) (ap (λ fs. map (level_of fs) os) f ∙ levels_set (facts crowd) (fact_of core m) os)
       ∙ ap (λ v. state_with more (drop 1 (facts crowd)) (map (level_of (facts crowd)) os) v) w
 
-  pub betters : (best more : Option ℤ) (crowd next : Crowd) (os : List Opening) (old : State) (i : IsEngine core best crowd os) → state best crowd os ≡ old → next.members ≡ set crowd.members 0 (member.Bound more i.bounded.variables) → next.waits ≡ set crowd.waits 0 true → length crowd.waits ≡ length crowd.members → Betters more old (state more next os)
+  pub betters : (best more : Option ℤ) (crowd next : Crowd) (os : List Opening) (old : State) (i : IsEngine core best crowd os) → state best crowd os ≡ old → next.members ≡ set crowd.members 0 (member.Bound more i.bounded.variables i.bounded.form) → next.waits ≡ set crowd.waits 0 true → length crowd.waits ≡ length crowd.members → Betters more old (state more next os)
   betters best more crowd next os old i s e w l =
-      let t = set_state best more crowd next os (member.Bound more i.bounded.variables) e w in
+      let t = set_state best more crowd next os (member.Bound more i.bounded.variables i.bounded.form) e w in
       subst (λ z. Betters more z (state more next os)) s (subst (λ z. Betters more (state best crowd os) z) (sym t) (record {
         best_is = refl;
         core_is = refl;
@@ -107,11 +107,12 @@ module _ (core : Core) where
         fits = λ F below h. fits_better core best more (drop 1 (facts crowd)) (map (level_of (facts crowd)) os) crowd.waits F below (omega (arith, l, some_members core best crowd.members i.bounded)) h;
       }))
 
-  pub betters_keep : (best more : Option ℤ) (crowd next : Crowd) (os : List Opening) (i : IsEngine core best crowd os) → next.members ≡ set crowd.members 0 (member.Bound more i.bounded.variables) → next.variables ≡ crowd.variables → IsMember core (member.Bound more i.bounded.variables) → length next.members ≡ length crowd.members → IsEngine core more next os
+  pub betters_keep : (best more : Option ℤ) (crowd next : Crowd) (os : List Opening) (i : IsEngine core best crowd os) → next.members ≡ set crowd.members 0 (member.Bound more i.bounded.variables i.bounded.form) → next.variables ≡ crowd.variables → IsMember core (member.Bound more i.bounded.variables i.bounded.form) → length next.members ≡ length crowd.members → IsEngine core more next os
   betters_keep best more crowd next os i e v m l = record {
+    few = i.few;
     bounded = subst (IsBounded core more) (sym e) (bounded_set core best more crowd.members i.bounded);
     variables = v ∙ i.variables;
-    made = subst (Each (λ j a. IsMember core a)) (sym e) (each_set (IsMember core) crowd.members (member.Bound more i.bounded.variables) i.made m);
+    made = subst (Each (λ j a. IsMember core a)) (sym e) (each_set (IsMember core) crowd.members (member.Bound more i.bounded.variables i.bounded.form) i.made m);
     levels = subst (λ n. AreOpenings n os) (sym l) i.levels;
   }
 
@@ -158,6 +159,7 @@ module _ (core : Core) where
 
   pub opens_keep : (best : Option ℤ) (crowd : Crowd) (os ps : List Opening) (o : Opening) → IsEngine core best crowd os → o.members ≡ length crowd.members → ps ≡ o ∷ os → IsEngine core best crowd ps
   opens_keep best crowd os ps o i l e = subst (IsEngine core best crowd) (sym e) (record {
+    few = i.few;
     bounded = i.bounded;
     variables = i.variables;
     made = i.made;
@@ -212,6 +214,7 @@ module _ (core : Core) where
       let a : AreOpenings (length crowd.members) (o ∷ os) = subst (AreOpenings (length crowd.members)) p i.levels in
       let n : length next.members ≡ o.members = ap length e ∙ length-take o.members crowd.members ∙ least_of_two o.members (length crowd.members) a.1 in
       record {
+        few = i.few;
         bounded = subst (IsBounded core best) (sym e) (bounded_taken core best crowd.members o.members a.0 i.bounded);
         variables = v ∙ i.variables;
         made = subst (Each (λ j m. IsMember core m)) (sym e) (each_taken (IsMember core) o.members crowd.members i.made);
@@ -224,6 +227,7 @@ module _ (core : Core) where
   worked_keep best crowd next os i f k m v =
       let n : length next.members ≡ length crowd.members = sym (length_map (fact_of core) next.members) ∙ ap length f ∙ length_map (fact_of core) crowd.members in
       record {
+        few = i.few;
         bounded = bounded_worked core best crowd.members next.members k f i.bounded;
         variables = v ∙ i.variables;
         made = m;
@@ -277,7 +281,7 @@ module _ (core : Core) where
   -- ---- a new engine
 
   pub begins : (crowd : Crowd) → IsBase core crowd → IsEngine core None crowd []
-  begins crowd b = record { bounded = b.grown.bounded; variables = b.grown.variables; made = b.grown.made; levels = tt }
+  begins crowd b = record { few = b.few; bounded = b.grown.bounded; variables = b.grown.variables; made = b.grown.made; levels = tt }
 
   pub begins_fit : (crowd : Crowd) (F : Family) → IsBase core crowd → Below F (declared core) → Fits (state None crowd []) F []
   begins_fit crowd F b w =

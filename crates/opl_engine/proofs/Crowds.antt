@@ -3,7 +3,7 @@ use Rattle.std.proofs.Common.{◌≡◌, ◌∙◌, ℕ, zero, suc, ◌+◌, ◌
 use Rattle.std.specs.Prelude.{slice_get, Some}
 use Rattle.std.proofs.lemmas.Bool.{cases_lt}
 use Rattle.std.proofs.lemmas.List.{length-append, length-take}
-use Rattle.opl_closure.specs.Waits.{waits, watches}
+use Rattle.opl_closure.specs.Waits.{watches}
 use Rattle.opl_closure.specs.Watching.{KeepsBefore}
 use Rattle.opl_closure.specs.Members.{Each, AreWatched}
 use Rattle.opl_closure.proofs.Turns.{from_map, to_map}

@@ -1,7 +1,6 @@
 -- When an engine fits sets.
-use Rattle.std.proofs.Common.{◌≡◌, ◌∙◌, ◌≢◌, ℕ, zero, suc, ◌+◌, ◌<◌, ◌≤◌, Bool, true, false, ◌||◌, refl, List, [], ◌∷◌, ◌++◌, length, set, ℤ, ap, sym, subst, arith, inl, inr}
-use Rattle.std.specs.Prelude.{slice_get, Option, Some, None, nat_eq}
-use Rattle.std.proofs.lemmas.Bool.{cases_lt, cases_eq}
+use Rattle.std.proofs.Common.{◌≡◌, ◌∙◌, ◌≢◌, ℕ, zero, suc, ◌<◌, Bool, true, false, ◌||◌, refl, List, [], ◌∷◌, ◌++◌, length, set, ℤ, ap, sym, subst, arith}
+use Rattle.std.specs.Prelude.{Option, nat_eq}
 use Rattle.std.proofs.lemmas.Bool.Decides.{nat_tests}
 use Rattle.std.proofs.lemmas.List.{get_or-set_same, get_or-set_other, length-append}
 use Rattle.opl_domain.specs.Family.{Family, Below}
@@ -12,10 +11,10 @@ use Rattle.opl_trace.specs.Marks.{objective}
 use Rattle.opl_trace.specs.Stable.{IsStable}
 use Rattle.opl_filter.specs.Filtering.{refutes}
 use Rattle.opl_closure.specs.Waits.{waits}
-use Rattle.opl_closure.specs.Members.{Each, WaitOrAreStable}
+use Rattle.opl_closure.specs.Members.{WaitOrAreStable}
 use Rattle.opl_closure.proofs.Queues.{pushed_waits}
 use Rattle.opl_engine.specs.Members.{bound_fact}
-use Rattle.opl_engine.specs.States.{Level, State, members, FitsLevel, FitLevels, Fits}
+use Rattle.opl_engine.specs.States.{Level, Fits}
 use Rattle.opl_engine.proofs.Lists.{the_one, there, get_first}
 
 pub not_false : (b : Bool) → b ≡ true → b ≡ false → ⊥

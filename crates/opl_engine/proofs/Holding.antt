@@ -1,26 +1,26 @@
 -- Sets that hold every stable family, and from propagation to the sets of a moment.
-use Rattle.std.proofs.Common.{◌≡◌, ◌∙◌, ℕ, zero, suc, ◌<◌, Bool, true, false, ◌||◌, refl, List, [], ◌∷◌, ◌++◌, length, map, ℤ, pos, ◌+ℤ◌, neg_ℤ, ap, sym, subst, arith, inl, inr}
+use Rattle.std.proofs.Common.{◌≡◌, ◌∙◌, ℕ, zero, suc, Bool, true, false, ◌||◌, refl, List, [], ◌∷◌, ◌++◌, length, map, ℤ, pos, ◌+ℤ◌, neg_ℤ, ap, sym, subst, arith, inl, inr}
 use Rattle.std.specs.Prelude.{Option, Some, None}
-use Rattle.std.specs.List.{list_any, filter}
+use Rattle.std.specs.List.{list_any}
 use Rattle.std.proofs.lemmas.Int.{ints}
 use Rattle.opl_domain.specs.Span.{values, count_from}
 use Rattle.opl_domain.specs.Family.{Family, IsFamily, IsRising, member, set_of, has, Below}
-use Rattle.opl_domain.proofs.Members.{member_cases, member_first, member_later, from_filter}
+use Rattle.opl_domain.proofs.Members.{member_cases, member_first, member_later}
 use Rattle.opl_domain.proofs.Sets.{filter_rises, ints_rise}
 use Rattle.opl_expr.specs.declared.model.Core.{Core}
 use Rattle.opl_expr.specs.Forms.{Fact}
 use Rattle.opl_expr.specs.Range.{is_refuted}
 use Rattle.opl_expr.specs.Solutions.{declared}
-use Rattle.opl_trace.specs.Stable.{IsStable, IsStableWithin}
+use Rattle.opl_trace.specs.Stable.{IsStable}
 use Rattle.opl_trace.specs.Closure.{closure, restrict}
 use Rattle.opl_trace.specs.Removals.{Kept}
 use Rattle.opl_trace.specs.Marks.{objective}
 use Rattle.opl_trace.specs.Moments.{core_sets}
-use Rattle.opl_trace.specs.Objective.{Objective, bound, Tighter}
+use Rattle.opl_trace.specs.Objective.{Objective, bound}
 use Rattle.opl_trace.specs.Run.{is_dead, closed}
 use Rattle.opl_trace.proofs.Closures.{closure_is}
 use Rattle.opl_trace.proofs.Constraints.{dead_monotone}
-use Rattle.opl_trace.proofs.Families.{below_self, restrict_below, below_restrict, restrict_within}
+use Rattle.opl_trace.proofs.Families.{below_self, below_restrict, restrict_within}
 use Rattle.opl_trace.proofs.Removals.{kept_below}
 use Rattle.opl_trace.proofs.StableFamilies.{below_union}
 use Rattle.opl_trace.proofs.Posting.{stable_more}

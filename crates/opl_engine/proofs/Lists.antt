@@ -1,5 +1,5 @@
 -- Lists of constraints, level by level.
-use Rattle.std.proofs.Common.{◌≡◌, ◌∙◌, ℕ, zero, suc, ◌+◌, ◌<◌, ◌≤◌, refl, List, [], ◌∷◌, ◌++◌, length, map, take, drop, set, ap, sym, arith, inl, inr}
+use Rattle.std.proofs.Common.{◌≡◌, ◌∙◌, ℕ, zero, suc, ◌<◌, ◌≤◌, refl, List, [], ◌∷◌, ◌++◌, length, map, take, drop, set, ap, arith}
 use Rattle.std.specs.Prelude.{slice_get, Some}
 use Rattle.opl_expr.specs.Forms.{Fact}
 use Rattle.opl_engine.specs.States.{Level, level_of, AreOpenings}

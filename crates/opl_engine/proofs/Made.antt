@@ -3,7 +3,6 @@ use Rattle.std.proofs.Common.{append-nil, add-one, get_or, ℤ, ◌≡◌, ◌�
 use Rattle.std.specs.Prelude.{Option, Some, None, slice_get}
 use Rattle.std.specs.List.{All}
 use Rattle.std.proofs.lemmas.Bool.{cases_lt}
-use Rattle.std.proofs.lemmas.List.{length-append}
 use Rattle.std.proofs.lemmas.Option.{slice_get-map, slice_get-get_or}
 use Rattle.std.proofs.lemmas.List.Elements.{All-head, All-tail}
 use Rattle.std.specs.Option.{option_map}
@@ -15,7 +14,7 @@ use Rattle.opl_expr.specs.declared.forms.Cons.{Cons}
 use Rattle.opl_expr.specs.declared.forms.Cons.TheVariants as C
 use Rattle.opl_expr.specs.Forms.{Term, Fact, term, fact, compared}
 use Rattle.opl_expr.specs.Forms.Relation.{equal}
-use Rattle.opl_expr.specs.Sound.{IsSoundFact, IsSoundTerm}
+use Rattle.opl_expr.specs.Sound.{IsSoundFact}
 use Rattle.opl_expr.specs.Options.{lift1}
 use Rattle.opl_expr.specs.Solutions.{declared, facts, definedness, base}
 use Rattle.opl_expr.proofs.Plain.{fact_Cmp}
@@ -30,7 +29,9 @@ use Rattle.opl_engine.specs.declared.own_filter.OwnFilter.{OwnFilter}
 use Rattle.opl_engine.specs.OwnFilters.{IsOwnFilterIfAny}
 use Rattle.opl_engine.specs.declared.member.Member.{Member}
 use Rattle.opl_engine.specs.declared.member.Member.TheVariants as member
-use Rattle.opl_engine.specs.Members.{goal_in, bound_fact, fact_of, fact_at, names, AreVariablesOf, IsListed, IsConstraint, IsGoal, IsMember}
+use Rattle.opl_objective_filter.specs.declared.objective_filter.ObjectiveFilter.{ObjectiveFilter}
+use Rattle.opl_objective_filter.specs.ObjectiveFilters.{goal_in, IsThereFor}
+use Rattle.opl_engine.specs.Members.{bound_fact, fact_of, fact_at, names, AreVariablesOf, IsListed, IsConstraint, IsGoal, IsObjectiveFilterIfAny, IsMember}
 use Rattle.opl_engine.specs.Crowds.{Crowd, kind_of}
 use Rattle.opl_engine.specs.Engines.{IsBounded, IsFirst, IsGrown}
 use Rattle.opl_engine.proofs.Lists.{the_one, length_map, map_added, drop_added, there, get_first}
@@ -63,15 +64,20 @@ defined_sound : (core : Core) (t : Term) → IsSoundGoal core.sets (Some t) → 
 defined_sound core t s = (s.0, s.1, s.1)
 
 -- with an objective, the bound's variables are those of a constraint that asks for its being defined
-pub bound_made : (core : Core) (g : Goal) (c : Fact) (xs : List ℕ) → objective core ≡ Some (goal_in core g) → c ≡ Fact.cmp equal (goal_in core g).term (goal_in core g).term → AreVariables xs c → IsSoundGoal core.sets (Some (goal_in core g).term) → IsMember core (member.Bound None xs)
-bound_made core g c xs o e a s =
+pub bound_made : (core : Core) (g : Goal) (c : Fact) (xs : List ℕ) → objective core ≡ Some (goal_in core g) → c ≡ Fact.cmp equal (goal_in core g).term (goal_in core g).term → AreVariables xs c → IsSoundGoal core.sets (Some (goal_in core g).term) → (form : Option ObjectiveFilter) → IsObjectiveFilterIfAny core (goal_in core g) form → IsMember core (member.Bound None xs form)
+bound_made core g c xs o e a s form f =
     let t = (goal_in core g).term in
     let named : AreVariables xs (Fact.cmp equal t t) = subst (AreVariables xs) e a in (
       λ x h. listed_there core (Fact.cmp equal t t) xs x (record { sound = defined_sound core t s; named = named }) h,
-      λ h i. subst (λ k. IsGoal core k xs) (the_one (goal_in core g) h (sym o ∙ i)) (record { sound = s.1; named = own_variables xs t named }),
+      λ h i. subst (λ k. IsGoal core k xs × IsObjectiveFilterIfAny core k form) (the_one (goal_in core g) h (sym o ∙ i)) (record { sound = s.1; named = own_variables xs t named }, f),
     )
 
-pub unbound_made : (core : Core) → objective core ≡ None → IsMember core (member.Bound None [])
+-- a filter that is there is that of the objective
+filter_there : (core : Core) (g : Objective) (form : Option ObjectiveFilter) → IsThereFor core g form → IsObjectiveFilterIfAny core g form
+filter_there core g None t = tt
+filter_there core g (Some f) t = t
+
+pub unbound_made : (core : Core) → objective core ≡ None → IsMember core (member.Bound None [] None)
 unbound_made core o = (λ x h. cc, λ h i. absurd (let e = sym o ∙ i in cc))
 
 -- a constraint is sound where all are
@@ -95,10 +101,10 @@ each_added good xs x h g i a e = elim (cases_lt i (length xs)) [
 ]
 
 pub some_members : (core : Core) (best : Option ℤ) (ms : List Member) → IsBounded core best ms → 1 ≤ length ms
-some_members core best ms b = there ms 0 (member.Bound b.value b.variables) b.first
+some_members core best ms b = there ms 0 (member.Bound b.value b.variables b.form) b.first
 
 pub bounded_added : (core : Core) (best : Option ℤ) (ms : List Member) (m : Member) → IsBounded core best ms → IsBounded core best (ms ++ m ∷ [])
-bounded_added core best ms m b = record { value = b.value; variables = b.variables; first = get_first ms (m ∷ []) 0 (some_members core best ms b) ∙ b.first; same = b.same }
+bounded_added core best ms m b = record { value = b.value; variables = b.variables; form = b.form; first = get_first ms (m ∷ []) 0 (some_members core best ms b) ∙ b.first; same = b.same }
 
 first_taken : {A : Type 0} (n : ℕ) (xs : List A) → 1 ≤ n → slice_get (take n xs) 0 ≡ slice_get xs 0
 first_taken zero xs l = absurd (omega arith)
@@ -106,18 +112,18 @@ first_taken (suc n) [] l = refl
 first_taken (suc n) (x ∷ xs) l = refl
 
 pub bounded_taken : (core : Core) (best : Option ℤ) (ms : List Member) (n : ℕ) → 1 ≤ n → IsBounded core best ms → IsBounded core best (take n ms)
-bounded_taken core best ms n l b = record { value = b.value; variables = b.variables; first = first_taken n ms l ∙ b.first; same = b.same }
+bounded_taken core best ms n l b = record { value = b.value; variables = b.variables; form = b.form; first = first_taken n ms l ∙ b.first; same = b.same }
 
 first_set : {A : Type 0} (xs : List A) (y : A) → 1 ≤ length xs → slice_get (set xs 0 y) 0 ≡ Some y
 first_set [] y l = absurd (omega arith)
 first_set (x ∷ xs) y l = refl
 
-pub bounded_set : (core : Core) (best more : Option ℤ) (ms : List Member) (b : IsBounded core best ms) → IsBounded core more (set ms 0 (member.Bound more b.variables))
-bounded_set core best more ms b = record { value = more; variables = b.variables; first = first_set ms (member.Bound more b.variables) (some_members core best ms b); same = refl }
+pub bounded_set : (core : Core) (best more : Option ℤ) (ms : List Member) (b : IsBounded core best ms) → IsBounded core more (set ms 0 (member.Bound more b.variables b.form))
+bounded_set core best more ms b = record { value = more; variables = b.variables; form = b.form; first = first_set ms (member.Bound more b.variables b.form) (some_members core best ms b); same = refl }
 
 -- the bound has worked
-bound_kind : (m : Member) → kind_of m ≡ 0 → (v : Option ℤ) × (xs : List ℕ) × (m ≡ member.Bound v xs)
-bound_kind (member.Bound v xs) h = (v, xs, refl)
+bound_kind : (m : Member) → kind_of m ≡ 0 → (v : Option ℤ) × (xs : List ℕ) × (f : Option ObjectiveFilter) × (m ≡ member.Bound v xs f)
+bound_kind (member.Bound v xs f) h = (v, xs, f, refl)
 bound_kind (member.Declared k xs form) h = absurd (omega (arith, h))
 bound_kind (member.Posted c xs form) h = absurd (omega (arith, h))
 bound_kind (member.Value x v) h = absurd (omega (arith, h))
@@ -132,15 +138,16 @@ same_first f (z ∷ xs) (y ∷ ys) x e h = (y, refl, the_head (f y) (f z) (map f
 
 pub bounded_worked : (core : Core) (best : Option ℤ) (ms ns : List Member) → map kind_of ns ≡ map kind_of ms → map (fact_of core) ns ≡ map (fact_of core) ms → IsBounded core best ms → IsBounded core best ns
 bounded_worked core best ms ns k f b =
-    let m = member.Bound b.value b.variables in
+    let m = member.Bound b.value b.variables b.form in
     let r = same_first kind_of ms ns m k b.first in
     let s = same_first (fact_of core) ms ns m f b.first in
     let t = bound_kind r.0 r.2 in
     record {
       value = t.0;
       variables = t.1;
-      first = r.1 ∙ ap (λ a. Some a) t.2;
-      same = ap (fact_of core) (sym t.2 ∙ the_one r.0 s.0 (sym r.1 ∙ s.1)) ∙ s.2 ∙ b.same;
+      form = t.2;
+      first = r.1 ∙ ap (λ a. Some a) t.3;
+      same = ap (fact_of core) (sym t.3 ∙ the_one r.0 s.0 (sym r.1 ∙ s.1)) ∙ s.2 ∙ b.same;
     }
 
 -- the facts of all members: the bound, and what is posted
@@ -168,7 +175,7 @@ made_added core ms m = each_added (IsMember core) ms m
 
 -- a member's variables are there
 pub member_there : (core : Core) (m : Member) (x : ℕ) → IsMember core m → names m x ≡ true → x < length core.sets
-member_there core (member.Bound best xs) x s h = s.0 x h
+member_there core (member.Bound best xs form) x s h = s.0 x h
 member_there core (member.Declared k xs form) x s h = listed_there core (fact_at core (slice_get core.cons k)) xs x s.1.0 h
 member_there core (member.Posted c xs form) x s h = listed_there core (fact core.tables core.resources c.value) xs x s.0 h
 member_there core (member.Value y v) x s h = cc
@@ -181,14 +188,14 @@ objective_some core g e = ap (lift1 (goal_in core)) e
 objective_none : (core : Core) → core.goal ≡ None → objective core ≡ None
 objective_none core e = ap (lift1 (goal_in core)) e
 
-goal_sound : (core : Core) (g : Goal) → core.goal ≡ Some g → IsSoundCore core → IsSoundGoal core.sets (Some (goal_in core g).term)
+pub goal_sound : (core : Core) (g : Goal) → core.goal ≡ Some g → IsSoundCore core → IsSoundGoal core.sets (Some (goal_in core g).term)
 goal_sound core g e s = subst (λ o. IsSoundGoal core.sets (lift1 (λ (h : Goal). term core.tables core.resources h.value) o)) e s.goal
 
-pub first_none : (core : Core) (xs : List ℕ) → core.goal ≡ None → xs ≡ [] → IsFirst core (member.Bound None xs)
-first_none core xs e n = subst (λ ys. IsFirst core (member.Bound None ys)) (sym n) (record { variables = []; is = refl; made = unbound_made core (objective_none core e) })
+pub first_none : (core : Core) (xs : List ℕ) → core.goal ≡ None → xs ≡ [] → IsFirst core (member.Bound None xs None)
+first_none core xs e n = subst (λ ys. IsFirst core (member.Bound None ys None)) (sym n) (record { variables = []; form = None; is = refl; made = unbound_made core (objective_none core e) })
 
-pub first_some : (core : Core) (g : Goal) (c : Fact) (xs : List ℕ) → core.goal ≡ Some g → IsSoundCore core → c ≡ Fact.cmp equal (goal_in core g).term (goal_in core g).term → AreVariables xs c → IsFirst core (member.Bound None xs)
-first_some core g c xs e s f a = record { variables = xs; is = refl; made = bound_made core g c xs (objective_some core g e) f a (goal_sound core g e s) }
+pub first_some : (core : Core) (g : Goal) (c : Fact) (xs : List ℕ) → core.goal ≡ Some g → IsSoundCore core → c ≡ Fact.cmp equal (goal_in core g).term (goal_in core g).term → AreVariables xs c → (form : Option ObjectiveFilter) → IsThereFor core (goal_in core g) form → IsFirst core (member.Bound None xs form)
+first_some core g c xs e s f a form t = record { variables = xs; form = form; is = refl; made = bound_made core g c xs (objective_some core g e) f a (goal_sound core g e s) form (filter_there core (goal_in core g) form t) }
 
 at_place : (core : Core) (k : ℕ) (c : Cons) → k < length core.cons → c ≡ get_or core.cons k c → slice_get core.cons k ≡ Some c
 at_place core k c l e = slice_get-get_or core.cons k c l ∙ ap (λ d. Some d) (sym e)
@@ -214,7 +221,7 @@ only_one core m s (suc i) a h = cc
 
 pub begun_grown : (core : Core) (m : Member) (crowd : Crowd) → IsFirst core m → crowd ≡ record { variables = length core.sets; members = m ∷ []; waits = true ∷ [] } → IsGrown core [] crowd
 begun_grown core m crowd f e = subst (IsGrown core []) (sym e) (record {
-  bounded = record { value = None; variables = f.variables; first = ap (λ a. Some a) f.is; same = refl };
+  bounded = record { value = None; variables = f.variables; form = f.form; first = ap (λ a. Some a) f.is; same = refl };
   variables = refl;
   made = only_one core m f.made;
   posted = refl;

@@ -33,7 +33,7 @@ Watches i wakes watchers = (x : ℕ) → wakes x ≡ true → watches watchers i
 
 -- the kinds of members
 abbrev pub kind_of : Member → ℕ
-kind_of (member.Bound best variables) = 0
+kind_of (member.Bound best variables form) = 0
 kind_of (member.Declared k variables form) = 1
 kind_of (member.Posted c variables form) = 2
 kind_of (member.Value x v) = 3

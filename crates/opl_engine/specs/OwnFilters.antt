@@ -12,6 +12,7 @@ use Rattle.opl_connective.specs.Ends as connective
 use Rattle.opl_connective.specs.Connectives.{IsMadeOfNodes, IsConnectiveFor}
 use Rattle.opl_connective.specs.Kinds.{Connects}
 use Rattle.opl_count.specs.CountFilters.{IsMadeOfCounts, IsCountFor, ComparesCounts}
+use Rattle.opl_addends.specs.AddendsFilters.{IsMadeOfAddends, IsAddendsFor, ComparesAddends}
 use Rattle.opl_engine.specs.declared.own_filter.OwnFilter.{OwnFilter}
 use Rattle.opl_engine.specs.declared.own_filter.OwnFilter.TheVariants as own
 
@@ -22,6 +23,7 @@ IsMadeWith core (own.Different f) = IsMadeOfSingles core f
 IsMadeWith core (own.Reify f) = IsMadeOfParts core f
 IsMadeWith core (own.Connective f) = IsMadeOfNodes core f
 IsMadeWith core (own.Count f) = IsMadeOfCounts core f
+IsMadeWith core (own.Addends f) = IsMadeOfAddends core f
 
 -- it is the filter of a constraint
 abbrev pub IsOwnFilter : Core → Fact → OwnFilter → Type 0
@@ -30,6 +32,7 @@ IsOwnFilter core c (own.Different f) = IsDifferenceFor core c f
 IsOwnFilter core c (own.Reify f) = IsDisjunctionFor core c f
 IsOwnFilter core c (own.Connective f) = IsConnectiveFor core c f
 IsOwnFilter core c (own.Count f) = IsCountFor core c f
+IsOwnFilter core c (own.Addends f) = IsAddendsFor core c f
 
 -- a filter, where there is one, is that of a constraint
 abbrev pub IsOwnFilterIfAny : Core → Fact → Option OwnFilter → Type 0
@@ -43,6 +46,7 @@ sees_ends (own.Different f) = true
 sees_ends (own.Reify f) = disjunction.sees_ends f
 sees_ends (own.Connective f) = connective.sees_ends f
 sees_ends (own.Count f) = false
+sees_ends (own.Addends f) = false
 
 -- so it is of a filter, where there is one; without one all values count
 abbrev pub sees_ends_if_any : Option OwnFilter → Bool
@@ -61,28 +65,34 @@ IsOfKind core c (own.Different f) = SeparatesVariables core c
 IsOfKind core c (own.Reify f) = IsDisjunction core c
 IsOfKind core c (own.Connective f) = Connects core c
 IsOfKind core c (own.Count f) = ComparesCounts core c
+IsOfKind core c (own.Addends f) = ComparesAddends core c
 
--- each comparison of counting sums has a filter, and what has a filter is of its kind
+-- each comparison no two addends of which have the same variable with a factor has a filter, and what has a filter is of its kind
+abbrev pub IsThereForAddends : Core → Cons → Option OwnFilter → Type 0
+IsThereForAddends core c None = ComparesAddends core c → ⊥
+IsThereForAddends core c (Some f) = IsOfKind core c f
+
+-- so has each comparison of counting sums
 abbrev pub IsThereForCounts : Core → Cons → Option OwnFilter → Type 0
-IsThereForCounts core c None = ComparesCounts core c → ⊥
+IsThereForCounts core c None = (ComparesCounts core c → ⊥) × (ComparesAddends core c → ⊥)
 IsThereForCounts core c (Some f) = IsOfKind core c f
 
 -- so has each constraint that connectives build of comparisons of linear sides
 abbrev pub IsThereForConnectives : Core → Cons → Option OwnFilter → Type 0
-IsThereForConnectives core c None = (Connects core c → ⊥) × (ComparesCounts core c → ⊥)
+IsThereForConnectives core c None = (Connects core c → ⊥) × (ComparesCounts core c → ⊥) × (ComparesAddends core c → ⊥)
 IsThereForConnectives core c (Some f) = IsOfKind core c f
 
 -- so has each disjunction whose parts compare linear sides
 abbrev pub IsThereForDisjunctions : Core → Cons → Option OwnFilter → Type 0
-IsThereForDisjunctions core c None = (IsDisjunction core c → ⊥) × (Connects core c → ⊥) × (ComparesCounts core c → ⊥)
+IsThereForDisjunctions core c None = (IsDisjunction core c → ⊥) × (Connects core c → ⊥) × (ComparesCounts core c → ⊥) × (ComparesAddends core c → ⊥)
 IsThereForDisjunctions core c (Some f) = IsOfKind core c f
 
 -- so has each alldifferent of linear parts with at most one variable each, no two of them the same
 abbrev pub IsThereForDifferences : Core → Cons → Option OwnFilter → Type 0
-IsThereForDifferences core c None = (SeparatesVariables core c → ⊥) × (IsDisjunction core c → ⊥) × (Connects core c → ⊥) × (ComparesCounts core c → ⊥)
+IsThereForDifferences core c None = (SeparatesVariables core c → ⊥) × (IsDisjunction core c → ⊥) × (Connects core c → ⊥) × (ComparesCounts core c → ⊥) × (ComparesAddends core c → ⊥)
 IsThereForDifferences core c (Some f) = IsOfKind core c f
 
 -- and so has each comparison of linear sides
 abbrev pub IsThereForKinds : Core → Cons → Option OwnFilter → Type 0
-IsThereForKinds core c None = (ComparesLinear core c → ⊥) × (SeparatesVariables core c → ⊥) × (IsDisjunction core c → ⊥) × (Connects core c → ⊥) × (ComparesCounts core c → ⊥)
+IsThereForKinds core c None = (ComparesLinear core c → ⊥) × (SeparatesVariables core c → ⊥) × (IsDisjunction core c → ⊥) × (Connects core c → ⊥) × (ComparesCounts core c → ⊥) × (ComparesAddends core c → ⊥)
 IsThereForKinds core c (Some f) = IsOfKind core c f

@@ -1,7 +1,7 @@
 -- A member whose variables have lost nothing, or no end where the ends alone decide it, is stable still: the law that members keep as propagators.
 use Rattle.std.proofs.Common.{◌≡◌, ◌∙◌, ℕ, zero, suc, ◌<◌, Bool, true, false, ◌||◌, cond, refl, List, [], ◌∷◌, length, ℤ, ap, sym, subst, arith, inl, inr}
 use Rattle.std.proofs.lemmas.Bool.{cases_eq}
-use Rattle.std.specs.Prelude.{Option, Some, None}
+use Rattle.std.specs.Prelude.{is_some, Option, Some, None}
 use Rattle.opl_domain.specs.Span.{hull_of}
 use Rattle.opl_domain.specs.Family.{Family, member as has_number, set_of, hull, only, Below, Full}
 use Rattle.opl_domain.proofs.Sets.{only_here, only_there, length-only}
@@ -24,6 +24,8 @@ use Rattle.opl_linear_filter.proofs.Ends as linear
 use Rattle.opl_all_different.proofs.Ends as different
 use Rattle.opl_reify.proofs.Ends as disjunction
 use Rattle.opl_connective.proofs.Ends as connective
+use Rattle.opl_objective_filter.specs.declared.objective_filter.ObjectiveFilter.{ObjectiveFilter}
+use Rattle.opl_objective_filter.proofs.Ends as objective_filter
 use Rattle.opl_closure.proofs.Turns.{stable_moves}
 use Rattle.opl_closure.proofs.Values.{value_rests}
 use Rattle.opl_engine.specs.declared.member.Member.{Member}
@@ -31,7 +33,7 @@ use Rattle.opl_engine.specs.declared.member.Member.TheVariants as member
 use Rattle.opl_engine.specs.declared.own_filter.OwnFilter.{OwnFilter}
 use Rattle.opl_engine.specs.declared.own_filter.OwnFilter.TheVariants as own
 use Rattle.opl_engine.specs.OwnFilters.{IsOwnFilter, IsOwnFilterIfAny, sees_ends, sees_ends_if_any}
-use Rattle.opl_engine.specs.Members.{bound_fact, fact_of, wakes_on, wakes_by_ends, IsListed, IsGoal, IsMember}
+use Rattle.opl_engine.specs.Members.{bound_fact, fact_of, wakes_on, wakes_by_ends, IsListed, IsGoal, IsObjectiveFilterIfAny, IsMember}
 
 or_none : (b : Bool) → (b || false) ≡ b
 or_none true = refl
@@ -132,6 +134,7 @@ own_ends_decide core c (own.Different f) i e = different.different_by_ends core 
 own_ends_decide core c (own.Reify f) i e = disjunction.ends_decide core c f i e
 own_ends_decide core c (own.Connective f) i e = connective.ends_decide core c f i e
 own_ends_decide core c (own.Count f) i e = cc
+own_ends_decide core c (own.Addends f) i e = cc
 
 module _ (core : Core) (c : Fact) (variables : List ℕ) (F G : Family) (m : IsListed core c variables) (wide : length F ≡ length core.sets) (s : IsStable (refutes c) F) (g : Full G) (b : Below G F) where
   filter_rests : (f : OwnFilter) → IsOwnFilter core c f → (t : Bool) → sees_ends f ≡ t →
@@ -146,15 +149,22 @@ module _ (core : Core) (c : Fact) (variables : List ℕ) (F G : Family) (m : IsL
 
 -- ---- members
 
-bound_rests : (core : Core) (goal : Option Objective) (best : Option ℤ) (variables : List ℕ) (F G : Family) → ((g : Objective) → goal ≡ Some g → IsGoal core g variables) → IsStable (refutes (bound_fact goal best)) F → Full G → Below G F →
-    ((x : ℕ) → lists variables x ≡ true → set_of G x ≡ set_of F x) → IsStable (refutes (bound_fact goal best)) G
-bound_rests core None best variables F G m s g b same = fixed_rests F G s g
-bound_rests core (Some o) None variables F G m s g b same = fixed_rests F G s g
-bound_rests core (Some o) (Some v) variables F G m s g b same = stable_moves (better_than o v) F G s g b (λ x h. same x ((m o refl).named x ∙ sym (bound_mentions o v x) ∙ h))
+better_rests : (core : Core) (o : Objective) (v : ℤ) (variables : List ℕ) (form : Option ObjectiveFilter) (F G : Family) → length F ≡ length core.sets → IsGoal core o variables → IsObjectiveFilterIfAny core o form → IsStable (refutes (better_than o v)) F → Full G → Below G F →
+    ((x : ℕ) → cond (is_some form) false (lists variables x) ≡ true → set_of G x ≡ set_of F x) → ((x : ℕ) → cond (is_some form) (lists variables x) false ≡ true → hull G x ≡ hull F x) → IsStable (refutes (better_than o v)) G
+better_rests core o v variables None F G wide m i s g b same ends = stable_moves (better_than o v) F G s g b (λ x h. same x (m.named x ∙ sym (bound_mentions o v x) ∙ h))
+better_rests core o v variables (Some f) F G wide m i s g b same ends =
+    ends_rest (length core.sets) (better_than o v) F G (objective_filter.ends_decide core o v i.linear) wide s g b (λ x h. ends x (m.named x ∙ sym (bound_mentions o v x) ∙ h))
+
+bound_rests : (core : Core) (goal : Option Objective) (best : Option ℤ) (variables : List ℕ) (form : Option ObjectiveFilter) (F G : Family) → length F ≡ length core.sets → ((g : Objective) → goal ≡ Some g → IsGoal core g variables × IsObjectiveFilterIfAny core g form) → IsStable (refutes (bound_fact goal best)) F → Full G → Below G F →
+    ((x : ℕ) → cond (is_some form) false (lists variables x) ≡ true → set_of G x ≡ set_of F x) → ((x : ℕ) → cond (is_some form) (lists variables x) false ≡ true → hull G x ≡ hull F x) → IsStable (refutes (bound_fact goal best)) G
+bound_rests core None best variables form F G wide m s g b same ends = fixed_rests F G s g
+bound_rests core (Some o) None variables form F G wide m s g b same ends = fixed_rests F G s g
+bound_rests core (Some o) (Some v) variables form F G wide m s g b same ends = let made = m o refl in better_rests core o v variables form F G wide made.0 made.1 s g b same ends
 
 pub member_rests : (core : Core) (m : Member) (F G : Family) → IsMember core m → length F ≡ length (declared core) → IsStable (refutes (fact_of core m)) F → Full G → Below G F →
     ((x : ℕ) → wakes_on m x ≡ true → set_of G x ≡ set_of F x) → ((x : ℕ) → wakes_by_ends m x ≡ true → hull G x ≡ hull F x) → IsStable (refutes (fact_of core m)) G
-member_rests core (member.Bound best variables) F G m wide s g b same ends = bound_rests core (objective core) best variables F G m.1 s g b same
+member_rests core (member.Bound best variables form) F G m wide s g b same ends =
+    bound_rests core (objective core) best variables form F G (wide ∙ below_length core (declared core) (below_self (declared core))) m.1 s g b same ends
 member_rests core (member.Declared k variables form) F G m wide s g b same ends =
     constraint_rests core (fact_of core (member.Declared k variables form)) variables F G m.1.0 (wide ∙ below_length core (declared core) (below_self (declared core))) s g b form m.1.1 same ends
 member_rests core (member.Posted c variables form) F G m wide s g b same ends =

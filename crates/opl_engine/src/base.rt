@@ -14,6 +14,7 @@ use opl_domain::OutOfMemory;
 use opl_expr::{Cons, Core, Goal, Op};
 use opl_filter::variables_of;
 use opl_list::{Boxed, Seq};
+use opl_objective_filter::ObjectiveFilter;
 use std::alloc::Global;
 use std::rc::Rc;
 
@@ -32,10 +33,12 @@ fn bound_member(alloc: Global, core: &Core) -> Result<Member, OutOfMemory>
     ensures { IfOk result (IsFirst core.now) }
 {
     match &core.goal {
-        None => Ok(Member::Bound(None, Seq::new(alloc))),
+        None => Ok(Member::Bound(None, Seq::new(alloc), None)),
         Some(goal) => {
             let c = defined(alloc, core, goal)?;
-            Ok(Member::Bound(None, variables_of(alloc, core, c.as_ref())?))
+            let variables = variables_of(alloc, core, c.as_ref())?;
+            let form = ObjectiveFilter::new(alloc, core, goal)?;
+            Ok(Member::Bound(None, variables, form))
         }
     }
 }

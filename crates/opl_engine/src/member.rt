@@ -8,7 +8,7 @@ ghost use Rattle.opl_filter.specs.Filtering.{refutes, IsBetween, Filters};
 ghost use Rattle.opl_trace.specs.Marks.{objective};
 ghost use Rattle.opl_trace.specs.Objective.{Objective};
 ghost use Rattle.opl_engine.specs.OwnFilters.{IsOwnFilterIfAny, KeepsConstraints, sees_ends_if_any};
-ghost use Rattle.opl_engine.specs.Members.{bound_fact, fact_of, names, sees_ends, wakes_on, wakes_by_ends, AreThere, IsListed, IsGoal, IsMember};
+ghost use Rattle.opl_engine.specs.Members.{bound_fact, fact_of, names, sees_ends, wakes_on, wakes_by_ends, AreThere, IsListed, IsGoal, IsObjectiveFilterIfAny, IsMember};
 ghost use Rattle.opl_engine.specs.Crowds.{IsSameMember};
 
 use crate::bound::keep_better;
@@ -18,13 +18,15 @@ use opl_domain::Narrow;
 use opl_expr::{Cons, Core};
 use opl_filter::{Outcome, sweep};
 use opl_list::Seq;
+use opl_objective_filter::ObjectiveFilter;
 use std::rc::Rc;
 
 /// A constraint that an engine filters, by where it comes from. Where its kind has a filter of its own, that stands beside it.
 #[derive(Drop)]
 pub enum Member {
-    /// To be better than a best value, with the variables of the objective. Without an objective, or a best value yet, it asks nothing.
-    Bound(Option<i128>, Seq<u32>),
+    /// To be better than a best value, with the variables of the objective, and with its filter where it is linear. Without an
+    /// objective, or a best value yet, it asks nothing.
+    Bound(Option<i128>, Seq<u32>, Option<ObjectiveFilter>),
     /// A constraint of the core, by its place, with its variables, and with the filter of its own that it may have.
     Declared(u32, Seq<u32>, Option<OwnFilter>),
     /// A constraint that was posted, likewise.
@@ -39,7 +41,7 @@ impl Member {
         ensures { (x : ℕ) → lists result.now x ≡ names self.now x }
     {
         match self {
-            Member::Bound(_best, variables) => variables.as_slice(),
+            Member::Bound(_best, variables, _form) => variables.as_slice(),
             Member::Declared(_place, variables, _form) => variables.as_slice(),
             Member::Posted(_constraint, variables, _form) => variables.as_slice(),
             Member::Value(_x, _v) => &[],
@@ -51,7 +53,7 @@ impl Member {
         ensures { result ≡ sees_ends self.now }
     {
         match self {
-            Member::Bound(_best, _variables) => false,
+            Member::Bound(_best, _variables, form) => form.is_some(),
             Member::Declared(_place, _variables, form) => filter_sees_ends(form),
             Member::Posted(_constraint, _variables, form) => filter_sees_ends(form),
             Member::Value(_x, _v) => false,
@@ -101,9 +103,15 @@ fn keep_all<N: Narrow>(n: &mut N) -> Outcome
 }
 
 /// The filter of the bound.
-fn filter_bound<N: Narrow>(core: &Core, best: Option<i128>, variables: &[u32], n: &mut N) -> Outcome
+fn filter_bound<N: Narrow>(
+    core: &Core,
+    best: Option<i128>,
+    variables: &[u32],
+    form: &Option<ObjectiveFilter>,
+    n: &mut N,
+) -> Outcome
     requires there { AreThere core.now variables.now }
-    requires goal { (g : Objective) → objective core.now ≡ Some g → IsGoal core.now g variables.now }
+    requires goal { (g : Objective) → objective core.now ≡ Some g → IsGoal core.now g variables.now × IsObjectiveFilterIfAny core.now g form.now }
     requires declared { Below (N.family n.old) (declared core.now) }
     ensures between { IsBetween (refutes (bound_fact (objective core.now) best)) (N.family n.old) (N.family n.new) }
     ensures outcome { Filters (refutes (bound_fact (objective core.now) best)) (N.family n.old) (N.family n.new) result }
@@ -113,7 +121,7 @@ fn filter_bound<N: Narrow>(core: &Core, best: Option<i128>, variables: &[u32], n
         None => keep_all(n),
         Some(best) => match &core.goal {
             None => keep_all(n),
-            Some(goal) => keep_better(core, goal, best, variables, n),
+            Some(goal) => keep_better(core, goal, best, variables, form, n),
         },
     }
 }
@@ -150,7 +158,9 @@ fn filter_by<N: Narrow>(member: &mut Member, core: &Core, n: &mut N) -> Outcome
     ensures same { IsSameMember member.old member.new }
 {
     match member {
-        Member::Bound(best, variables) => filter_bound(core, *best, variables.as_slice(), n),
+        Member::Bound(best, variables, form) => {
+            filter_bound(core, *best, variables.as_slice(), form, n)
+        }
         Member::Declared(place, variables, form) => match core.cons.get(*place as usize) {
             None => keep_all(n),
             Some(c) => filter_constraint(core, c, variables.as_slice(), form, n),

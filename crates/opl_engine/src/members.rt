@@ -7,6 +7,7 @@ ghost use Rattle.opl_closure.specs.Members.{refutes_one, Each, WaitOrAreStable, 
 ghost use Rattle.opl_closure.specs.Waits.{waits};
 ghost use Rattle.opl_engine.specs.Crowds.{Keeps, Watches, kind_of};
 ghost use Rattle.opl_engine.specs.Members.{fact_of, names, sees_ends, wakes_on, wakes_by_ends, IsMember};
+ghost use Rattle.opl_objective_filter.specs.declared.objective_filter.ObjectiveFilter.{ObjectiveFilter};
 ghost use Rattle.opl_engine.specs.declared.member.Member.TheVariants as variant;
 
 use crate::member::Member;
@@ -136,7 +137,7 @@ impl Members {
     pub fn set_best(&mut self, best: Option<i128>)
         requires { 0 < length self.old.members }
         ensures variables { self.new.variables ≡ self.old.variables }
-        ensures bound { (b : Option ℤ) (xs : List ℕ) → slice_get self.old.members 0 ≡ Some (variant.Bound b xs) → self.new.members ≡ slice_set self.old.members 0 (variant.Bound best xs) }
+        ensures bound { (b : Option ℤ) (xs : List ℕ) (f : Option ObjectiveFilter) → slice_get self.old.members 0 ≡ Some (variant.Bound b xs f) → self.new.members ≡ slice_set self.old.members 0 (variant.Bound best xs f) }
         ensures waits { self.new.waits ≡ slice_set self.old.waits 0 true }
         ensures long { length self.old.waits ≡ length self.old.members }
     {
@@ -195,11 +196,11 @@ fn enrol(
 
 /// Gives a bound another best value.
 fn set_bound(member: &mut Member, best: Option<i128>)
-    ensures bound { (b : Option ℤ) (xs : List ℕ) → member.old ≡ variant.Bound b xs → member.new ≡ variant.Bound best xs }
+    ensures bound { (b : Option ℤ) (xs : List ℕ) (f : Option ObjectiveFilter) → member.old ≡ variant.Bound b xs f → member.new ≡ variant.Bound best xs f }
     ensures woken { (x : ℕ) → names member.new x ≡ names member.old x }
     ensures ends { sees_ends member.new ≡ sees_ends member.old }
 {
-    if let Member::Bound(old, _variables) = member {
+    if let Member::Bound(old, _variables, _form) = member {
         *old = best;
     }
 }

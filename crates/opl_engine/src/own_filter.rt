@@ -1,13 +1,14 @@
 //! Filters of their own that some kinds of constraints have.
-ghost use Rattle.std.specs.Prelude.{◌≡◌, IfOk};
+ghost use Rattle.std.specs.Prelude.{◌≡◌, ◌<◌, ◌^◌, length, IfOk};
 ghost use Rattle.opl_domain.specs.Family.{Below};
 ghost use Rattle.opl_expr.specs.declared.model.Core.{Core};
 ghost use Rattle.opl_expr.specs.Forms.{Fact, fact};
 ghost use Rattle.opl_expr.specs.Solutions.{declared};
 ghost use Rattle.opl_expr.specs.Sound.{IsSoundFact};
 ghost use Rattle.opl_filter.specs.Filtering.{refutes, IsBetween, Filters};
-ghost use Rattle.opl_engine.specs.OwnFilters.{IsMadeWith, IsOwnFilter, IsOwnFilterIfAny, IsThereForConnectives, IsThereForCounts, IsThereForDisjunctions, IsThereForDifferences, IsThereForKinds, sees_ends};
+ghost use Rattle.opl_engine.specs.OwnFilters.{IsMadeWith, IsOwnFilter, IsOwnFilterIfAny, IsThereForAddends, IsThereForConnectives, IsThereForCounts, IsThereForDisjunctions, IsThereForDifferences, IsThereForKinds, sees_ends};
 
+use opl_addends::AddendsFilter;
 use opl_all_different::DifferentFilter;
 use opl_connective::ConnectiveFilter;
 use opl_count::CountFilter;
@@ -32,23 +33,40 @@ pub enum OwnFilter {
     Connective(ConnectiveFilter),
     /// That of a comparison of counting sums.
     Count(CountFilter),
+    /// That of any other comparison no two addends of which have the same variable with a factor.
+    Addends(AddendsFilter),
 }
 
-/// The filter of a comparison of counting sums, if the constraint is one.
+/// The filter of a comparison with a side that isn't linear, if no variable has a factor in two of its addends.
+fn of_addends(alloc: Global, core: &Core, c: &Cons) -> Result<Option<OwnFilter>, OutOfMemory>
+    requires sound { IsSoundFact core.now.sets (fact core.now.tables core.now.resources c.now) }
+    requires few { length core.now.sets < 2 ^ 32 }
+    ensures filter { IfOk result (IsOwnFilterIfAny core.now (fact core.now.tables core.now.resources c.now)) }
+    ensures kinds { IfOk result (IsThereForAddends core.now c.now) }
+{
+    match AddendsFilter::new(alloc, core, c)? {
+        None => Ok(None),
+        Some(filter) => Ok(Some(OwnFilter::Addends(filter))),
+    }
+}
+
+/// The filter of a comparison of counting sums, or that of addends of any form, if the constraint is one of these.
 fn of_counts(alloc: Global, core: &Core, c: &Cons) -> Result<Option<OwnFilter>, OutOfMemory>
-    requires { IsSoundFact core.now.sets (fact core.now.tables core.now.resources c.now) }
+    requires sound { IsSoundFact core.now.sets (fact core.now.tables core.now.resources c.now) }
+    requires few { length core.now.sets < 2 ^ 32 }
     ensures filter { IfOk result (IsOwnFilterIfAny core.now (fact core.now.tables core.now.resources c.now)) }
     ensures kinds { IfOk result (IsThereForCounts core.now c.now) }
 {
     match CountFilter::new(alloc, core, c)? {
-        None => Ok(None),
+        None => of_addends(alloc, core, c),
         Some(filter) => Ok(Some(OwnFilter::Count(filter))),
     }
 }
 
-/// The filter of connectives inside one another, or that of a comparison of counting sums, if the constraint is one of these.
+/// The filter of connectives inside one another, or that of a comparison whose sides aren't linear, if the constraint is one of these.
 fn of_connectives(alloc: Global, core: &Core, c: &Cons) -> Result<Option<OwnFilter>, OutOfMemory>
-    requires { IsSoundFact core.now.sets (fact core.now.tables core.now.resources c.now) }
+    requires sound { IsSoundFact core.now.sets (fact core.now.tables core.now.resources c.now) }
+    requires few { length core.now.sets < 2 ^ 32 }
     ensures filter { IfOk result (IsOwnFilterIfAny core.now (fact core.now.tables core.now.resources c.now)) }
     ensures kinds { IfOk result (IsThereForConnectives core.now c.now) }
 {
@@ -58,9 +76,11 @@ fn of_connectives(alloc: Global, core: &Core, c: &Cons) -> Result<Option<OwnFilt
     }
 }
 
-/// The filter of a disjunction, or that of other connectives or of a comparison of counting sums, if the constraint is one of these.
+/// The filter of a disjunction, or that of other connectives or of a comparison whose sides aren't linear, if the constraint is one of
+/// these.
 fn of_disjunction(alloc: Global, core: &Core, c: &Cons) -> Result<Option<OwnFilter>, OutOfMemory>
-    requires { IsSoundFact core.now.sets (fact core.now.tables core.now.resources c.now) }
+    requires sound { IsSoundFact core.now.sets (fact core.now.tables core.now.resources c.now) }
+    requires few { length core.now.sets < 2 ^ 32 }
     ensures filter { IfOk result (IsOwnFilterIfAny core.now (fact core.now.tables core.now.resources c.now)) }
     ensures kinds { IfOk result (IsThereForDisjunctions core.now c.now) }
 {
@@ -70,10 +90,11 @@ fn of_disjunction(alloc: Global, core: &Core, c: &Cons) -> Result<Option<OwnFilt
     }
 }
 
-/// The filter of `alldifferent` over parts of one variable each, or that of connectives or of counting sums, if the constraint is
-/// one of these.
+/// The filter of `alldifferent` over parts of one variable each, or that of connectives or of a comparison whose sides aren't linear, if
+/// the constraint is one of these.
 fn of_difference(alloc: Global, core: &Core, c: &Cons) -> Result<Option<OwnFilter>, OutOfMemory>
-    requires { IsSoundFact core.now.sets (fact core.now.tables core.now.resources c.now) }
+    requires sound { IsSoundFact core.now.sets (fact core.now.tables core.now.resources c.now) }
+    requires few { length core.now.sets < 2 ^ 32 }
     ensures filter { IfOk result (IsOwnFilterIfAny core.now (fact core.now.tables core.now.resources c.now)) }
     ensures kinds { IfOk result (IsThereForDifferences core.now c.now) }
 {
@@ -86,7 +107,8 @@ fn of_difference(alloc: Global, core: &Core, c: &Cons) -> Result<Option<OwnFilte
 impl OwnFilter {
     /// The filter of a constraint, if its kind has one.
     pub fn new(alloc: Global, core: &Core, c: &Cons) -> Result<Option<OwnFilter>, OutOfMemory>
-        requires { IsSoundFact core.now.sets (fact core.now.tables core.now.resources c.now) }
+        requires sound { IsSoundFact core.now.sets (fact core.now.tables core.now.resources c.now) }
+        requires few { length core.now.sets < 2 ^ 32 }
         ensures filter { IfOk result (IsOwnFilterIfAny core.now (fact core.now.tables core.now.resources c.now)) }
         ensures kinds { IfOk result (IsThereForKinds core.now c.now) }
     {
@@ -106,6 +128,7 @@ impl OwnFilter {
             OwnFilter::Reify(filter) => filter.sees_ends(),
             OwnFilter::Connective(filter) => filter.sees_ends(),
             OwnFilter::Count(_filter) => false, // Its truths may be decided by values.
+            OwnFilter::Addends(_filter) => false, // So may its addends.
         }
     }
 
@@ -127,6 +150,7 @@ impl OwnFilter {
             OwnFilter::Reify(filter) => filter.filter(core, n),
             OwnFilter::Connective(filter) => filter.filter(core, n),
             OwnFilter::Count(filter) => filter.filter(core, n),
+            OwnFilter::Addends(filter) => filter.filter(core, n),
         }
     }
 }

@@ -22,7 +22,7 @@ use Rattle.opl_linear_filter.specs.Ends.{SeesEnds, by_values, sees_ends, EndsDec
 use Rattle.opl_linear_filter.proofs.Comparing.{long_as}
 
 -- the first n sets of two families have the same ends
-abbrev HaveSameEnds : Family → Family → ℕ → Type 0
+abbrev pub HaveSameEnds : Family → Family → ℕ → Type 0
 HaveSameEnds F G n = (x : ℕ) → x < n → hull F x ≡ hull G x
 
 weighted_same : (F G : Family) (c : ℕ → ℤ) (n : ℕ) → HaveSameEnds F G n → weighted F c n ≡ weighted G c n
@@ -40,7 +40,7 @@ unfolding is_zero with_variables
 zero_same F G c k n f g h =
     ap (λ m. is_point (pos 0) (span_add (point k) (weighted F c m))) f ∙ ap (λ a. is_point (pos 0) (span_add (point k) a)) (weighted_same F G c n h) ∙ ap (λ m. is_point (pos 0) (span_add (point k) (weighted G c m))) (sym g)
 
-rejects_same : (kind : Kind) (F G : Family) (c : ℕ → ℤ) (k : ℤ) (n : ℕ) → length F ≡ n → length G ≡ n → HaveSameEnds F G n → rejects kind c k F ≡ rejects kind c k G
+pub rejects_same : (kind : Kind) (F G : Family) (c : ℕ → ℤ) (k : ℤ) (n : ℕ) → length F ≡ n → length G ≡ n → HaveSameEnds F G n → rejects kind c k F ≡ rejects kind c k G
 rejects_same kinds.AtMost F G c k n f g h = above_same F G c k n f g h
 rejects_same kinds.Below F G c k n f g h = above_same F G c (k +ℤ pos 1) n f g h
 rejects_same kinds.Zero F G c k n f g h = let a = above_same F G c k n f g h in let b = above_same F G (λ x. neg_ℤ (c x)) (neg_ℤ k) n f g h in rw (a, b) refl

@@ -1,5 +1,5 @@
 mod Plain
-mod Constants
+pub mod Constants
 mod Building
 mod Adding
 mod Listing
@@ -7,7 +7,7 @@ pub mod Weights
 mod Counts
 mod Equations
 mod Values
-mod Comparing
+pub mod Comparing
 pub mod Ends
 mod Which
 mod Normal

@@ -13,3 +13,4 @@ mod short;
 
 pub use constant::constant_part;
 pub use linear_filter::LinearFilter;
+pub use parts::parts_between;

@@ -1,6 +1,4 @@
-use Rattle.std.proofs.Common.{◌∙◌, ap, sym, subst}
-use Rattle.opl_domain.specs.Arithmetic.{is_nonzero}
-use Rattle.opl_expr.specs.Range.{coef}
+use Rattle.std.proofs.Common.{sym, subst}
 use Rattle.opl_expr.specs.Sound.{IsSoundTerm}
 use Rattle.opl_range.specs.Between.{term_of}
 use Rattle.opl_addends.proofs.Counting.{one_with, none_with}

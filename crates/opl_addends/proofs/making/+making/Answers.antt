@@ -1,4 +1,3 @@
-use Rattle.std.proofs.Common.{not}
 use Rattle.std.proofs.lemmas.Result.{IfOk-weaker}
 use Rattle.opl_addends.proofs.Finding.{same_added, one_Const, one_Var, one_Mul, one_Div, one_Rem, one_Abs, one_Min, one_Max, one_At, one_Truth, one_Ask, sum_addends, neg_addends, first_none, first_next, first_all}
 use Rattle.opl_addends.proofs.making.+making.Goals as goal

@@ -1,4 +1,3 @@
-use Rattle.std.proofs.Common.{◌≡◌, ◌<◌, ap, sym, subst, length, get_or}
 use Rattle.opl_expr.specs.Solutions.{declared}
 use Rattle.opl_reify.proofs.Looking.{still_below}
 use Rattle.opl_addends.specs.Sums.{is_refuted, variables}

@@ -4,7 +4,7 @@ use mir.Syntax.{w64}
 use Rattle.std.proofs.lemmas.Int.{to_z-of_z}
 use Rattle.opl_trace.proofs.Families.{has_at}
 use Rattle.opl_filter.proofs.Removals.{left_sets}
-use Rattle.opl_reify.proofs.Trying.{tried_variable, trying_next, trying_end, trying_first, trying_stuck}
+use Rattle.opl_reify.proofs.Trying.{tried_variable, trying_next, trying_end, trying_first}
 use Rattle.opl_addends.proofs.Going.{can_try_next, same_next, same_stuck}
 use Rattle.opl_addends.proofs.values.try_values.Goals as goal
 

@@ -1,4 +1,4 @@
-use Rattle.std.proofs.Common.{◌≡◌, ◌<◌, ◌^◌, length, take}
+use Rattle.std.proofs.Common.{take}
 use Rattle.opl_expr.specs.Solutions.{facts}
 use Rattle.opl_engine.specs.Engines.{IsGrown}
 use Rattle.opl_engine.proofs.base.add_declared.Given as goal

@@ -14,7 +14,7 @@ returns-clause-fact c =
     declared_fact c.args.core.now c.args.place a c.in_ok-variables.variables c.in_ok-form.form c.requires.place
     (c.index-as_slice-place.is ∙ ap (λ xs. get_or xs c.args.place a) c.as_slice.ensures)
 
-pub new-requires : goal.new-requires
-new-requires c =
+pub new-requires-clause-sound : goal.new-requires-clause-sound
+new-requires-clause-sound c =
     let a = c.index-as_slice-place.result in
     declared_sound c.args.core.now c.args.place a c.requires.sound c.requires.place (c.index-as_slice-place.is ∙ ap (λ xs. get_or xs c.args.place a) c.as_slice.ensures)

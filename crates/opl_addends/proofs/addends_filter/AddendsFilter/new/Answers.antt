@@ -16,8 +16,8 @@ returns-in-None-clause-kind c =
 
 pub returns-in-Some-clause-filter : goal.returns-in-Some-clause-filter
 returns-in-Some-clause-filter c =
-    filter_made c.args.core.now c.in-Cmp.op c.get.result.now c.get-2.result.now c.args.c.now c.in_ok-constraint.constraint c.in-Some.sum c.in_ok-of_comparison.field-0
-    (cmp_is c.in-Cmp.op c.in-Cmp.a c.in-Cmp.b c.get.result.now c.get-2.result.now c.args.c.now c.in-Cmp.is c.get.ensures c.get-2.ensures) c.in_ok-constraint.ensures c.in-Some.is c.in_ok-of_comparison.ensures
+    filter_made c.args.core.now c.in-Cmp.op c.get.result.now c.get-2.result.now c.args.c.now c.in-Some.sum c.in_ok-of_comparison.field-0
+    (cmp_is c.in-Cmp.op c.in-Cmp.a c.in-Cmp.b c.get.result.now c.get-2.result.now c.args.c.now c.in-Cmp.is c.get.ensures c.get-2.ensures) c.in-Some.is c.in_ok-of_comparison.ensures
 
 pub returns-in-Some-clause-kind : goal.returns-in-Some-clause-kind
 returns-in-Some-clause-kind c =

@@ -2,7 +2,7 @@ use Rattle.std.proofs.Common.{rules, ◌∙◌, ap, sym}
 use Rattle.std.specs.Prelude.{FitsSigned, int_le}
 use mir.Syntax.{w128}
 use Rattle.std.proofs.lemmas.Int.{to_z-of_z}
-use Rattle.opl_engine.specs.Members.{goal_in}
+use Rattle.opl_objective_filter.specs.ObjectiveFilters.{goal_in}
 use Rattle.opl_engine.proofs.Beaten.{most_refuted, least_refuted}
 use Rattle.opl_engine.proofs.bound.UnbeatenTest.is_dead.Goals as goal
 

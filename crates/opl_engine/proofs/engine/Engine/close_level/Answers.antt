@@ -1,4 +1,4 @@
-use Rattle.std.proofs.Common.{◌≡◌, ◌∙◌, ◌∷◌, List, reverse, ap}
+use Rattle.std.proofs.Common.{◌≡◌, ◌∙◌, ◌∷◌, reverse, ap}
 use Rattle.opl_engine.specs.declared.opening.Opening.{Opening}
 use Rattle.opl_engine.specs.States.{seen}
 use Rattle.opl_engine.proofs.Changes.{closes_level, closes_level_keep, reverse_last}

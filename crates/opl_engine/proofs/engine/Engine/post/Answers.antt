@@ -1,5 +1,5 @@
-use Rattle.std.proofs.Common.{◌∙◌, length, reverse, ap, subst, arith}
-use Rattle.opl_expr.specs.Forms.{fact}
+use Rattle.std.proofs.Common.{◌<◌, ◌^◌, length, reverse, ap, sym, subst, arith}
+use Rattle.opl_expr.specs.declared.model.Core.{Core}
 use Rattle.opl_engine.specs.declared.member.Member.TheVariants as member
 use Rattle.opl_engine.specs.States.{Parts, seen}
 use Rattle.opl_engine.proofs.Made.{member_there, posted_made, posted_sound, posted_form}
@@ -48,7 +48,10 @@ invariant_of-self-2 c =
     let f = posted_form s.core.value c.as_ref-3.result.now c.args.c.value c.as_ref-4.result.now c.in_ok-form.form c.as_ref-3.ensures c.as_ref-4.ensures c.in_ok-form.ensures.filter in
     posts_keep s.core.value s.best s.members c.add.new.self (reverse s.openings.items) (member.Posted c.args.c xs c.in_ok-form.form) c.self.invariant (m, f) c.in_ok-add.ensures.ok
 
-pub new-requires : goal.new-requires
-new-requires c =
+pub new-requires-clause-few : goal.new-requires-clause-few
+new-requires-clause-few c = subst (λ (k : Core). length k.sets < 2 ^ 32) (sym c.as_ref-3.ensures) c.self.invariant.few
+
+pub new-requires-clause-sound : goal.new-requires-clause-sound
+new-requires-clause-sound c =
     let s = c.self.inside in
     posted_sound s.core.value c.args.self.now.core c.as_ref-3.result.now c.args.c.value c.as_ref-4.result.now (ap (λ (p : Parts). p.core) c.self.view_is) c.as_ref-3.ensures c.as_ref-4.ensures c.requires

@@ -1,4 +1,4 @@
-use Rattle.std.proofs.Common.{◌≡◌, ◌∙◌, ◌+◌, ◌<◌, ◌^◌, length, sym, subst, arith}
+use Rattle.std.proofs.Common.{◌∙◌, ◌+◌, ◌<◌, ◌^◌, length, sym, subst, arith}
 use Rattle.opl_closure.specs.Watching.{KeepsBefore}
 use Rattle.opl_engine.specs.Crowds.{Watches}
 use Rattle.opl_engine.specs.Members.{wakes_on, wakes_by_ends}

@@ -1,4 +1,4 @@
-use Rattle.std.proofs.Common.{◌≡◌, ◌≤◌, length, ap, arith}
+use Rattle.std.proofs.Common.{◌≤◌, length, ap, arith}
 use Rattle.opl_engine.specs.Crowds.{Crowd}
 use Rattle.opl_engine.proofs.Crowds.{crowd_taken}
 use Rattle.opl_engine.proofs.members.Members.keep.Goals as goal

@@ -1,5 +1,4 @@
-use Rattle.std.proofs.Common.{length, ap, arith}
-use Rattle.opl_engine.specs.Crowds.{Crowd}
+use Rattle.std.proofs.Common.{arith}
 use Rattle.opl_engine.proofs.Crowds.{crowd_waits}
 use Rattle.opl_engine.proofs.members.Members.wake_everybody.Goals as goal
 

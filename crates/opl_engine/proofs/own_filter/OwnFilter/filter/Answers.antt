@@ -1,4 +1,4 @@
-use Rattle.opl_engine.proofs.OwnKinds.{connective_is, count_is, reify_is}
+use Rattle.opl_engine.proofs.OwnKinds.{addends_is, connective_is, count_is, reify_is}
 use Rattle.opl_engine.proofs.own_filter.OwnFilter.filter.Goals as goal
 
 pub returns-in-Reify-clause-between : goal.returns-in-Reify-clause-between
@@ -18,3 +18,9 @@ returns-in-Count-clause-between g c = λ d i. c.filter-in-Count.ensures.between 
 
 pub returns-in-Count-clause-outcome : goal.returns-in-Count-clause-outcome
 returns-in-Count-clause-outcome g c = λ d i. c.filter-in-Count.ensures.outcome d (count_is c.args.core.now d c.args.self.now c.in-Count.filter c.in-Count.is i)
+
+pub returns-in-Addends-clause-between : goal.returns-in-Addends-clause-between
+returns-in-Addends-clause-between g c = λ d i. c.filter-in-Addends.ensures.between d (addends_is c.args.core.now d c.args.self.now c.in-Addends.filter c.in-Addends.is i)
+
+pub returns-in-Addends-clause-outcome : goal.returns-in-Addends-clause-outcome
+returns-in-Addends-clause-outcome g c = λ d i. c.filter-in-Addends.ensures.outcome d (addends_is c.args.core.now d c.args.self.now c.in-Addends.filter c.in-Addends.is i)

@@ -1,0 +1,3 @@
+mod Sides
+mod Bounds
+pub mod Ends
