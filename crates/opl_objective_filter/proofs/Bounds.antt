@@ -41,8 +41,8 @@ filter_made core g f s l e p c = record {
   constant = c;
   most = e;
   form = λ b near.
-  subst (λ m. IsDifference core kinds.Below (lesser_side (goal_in core g) b) (greater_side (goal_in core g) b) (record { kind = kinds.Below; parts = f.parts; opposites = f.opposites; constant = cond m (b +ℤ neg_ℤ f.constant) (f.constant +ℤ neg_ℤ b) })) (sym e)
-  (form_made core g g.maximize f.parts f.opposites f.constant refl s l c p b near);
+      subst (λ m. IsDifference core kinds.Below (lesser_side (goal_in core g) b) (greater_side (goal_in core g) b) (record { kind = kinds.Below; parts = f.parts; opposites = f.opposites; constant = cond m (b +ℤ neg_ℤ f.constant) (f.constant +ℤ neg_ℤ b) })) (sym e)
+      (form_made core g g.maximize f.parts f.opposites f.constant refl s l c p b near);
 }
 
 -- the constant fits

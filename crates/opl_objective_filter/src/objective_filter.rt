@@ -69,7 +69,11 @@ fn less(x: i128, y: i128) -> i128
 
 impl ObjectiveFilter {
     /// The filter of an objective, exactly where that is linear.
-    pub fn new(alloc: Global, core: &Core, goal: &Goal) -> Result<Option<ObjectiveFilter>, OutOfMemory>
+    pub fn new(
+        alloc: Global,
+        core: &Core,
+        goal: &Goal,
+    ) -> Result<Option<ObjectiveFilter>, OutOfMemory>
         requires { IsSoundGoal core.now.sets (Some (goal_in core.now goal.now).term) }
         ensures { IfOk result (IsThereFor core.now (goal_in core.now goal.now)) }
     {
