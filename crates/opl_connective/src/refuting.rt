@@ -2,15 +2,12 @@
 ghost use Rattle.std.specs.Prelude.{◌≡◌, map};
 ghost use Rattle.opl_domain.specs.Family.{Below};
 ghost use Rattle.opl_expr.specs.Solutions.{declared};
-ghost use Rattle.opl_filter.specs.Filtering.{refutes};
-ghost use Rattle.opl_reify.specs.Parts.{fact_in, IsPart};
 ghost use Rattle.opl_connective.specs.Trees.{tree, is_refuted};
 ghost use Rattle.opl_connective.specs.Nodes.{IsTree, AreNodes, First, LeavesSide};
 
 use crate::node::Node;
 use opl_domain::View;
 use opl_expr::Core;
-use opl_reify::Part;
 
 /// What of two nodes matters that are to be alike, or to differ: one of them or its opposite, since the other is decided; or both.
 #[derive(Drop, Clone, Copy)]
@@ -18,15 +15,6 @@ pub enum Side {
     First(bool),
     Second(bool),
     Both,
-}
-
-/// Whether the family refutes a comparison.
-fn part_refuted<V: View>(core: &Core, part: &Part, view: &V) -> bool
-    requires part { IsPart core.now part.now }
-    requires within { Below (V.family view.now) (declared core.now) }
-    ensures { result ≡ refutes (fact_in core.now part.now) (V.family view.now) }
-{
-    opl_range::refuted(core, part.constraint.get(), view)
 }
 
 /// Whether the family refutes the node, or its opposite.
@@ -41,9 +29,9 @@ pub fn refuted<V: View>(core: &Core, node: &Node, is_opposite: bool, view: &V) -
     match node {
         Node::Literal(part, opposite) => {
             if is_opposite {
-                part_refuted(core, opposite, view)
+                opposite.is_refuted(core, view)
             } else {
-                part_refuted(core, part, view)
+                part.is_refuted(core, view)
             }
         }
         Node::Not(node) => refuted(core, node.get(), !is_opposite, view),

@@ -9,7 +9,6 @@ ghost use Rattle.opl_count.specs.Costs.{fact_of, price, prices, weights, HavePar
 use crate::sum::{Costs, Literal};
 use opl_domain::View;
 use opl_expr::Core;
-use opl_range::refuted;
 use opl_trace::Test;
 
 /// Whether a literal is refuted.
@@ -18,7 +17,7 @@ pub fn is_refuted<V: View>(core: &Core, literal: &Literal, view: &V) -> bool
     requires within { Below (V.family view.now) (declared core.now) }
     ensures { result ≡ refutes (fact_of core.now literal.now) (V.family view.now) }
 {
-    refuted(core, literal.part.constraint.get(), view)
+    literal.part.is_refuted(core, view)
 }
 
 /// What is paid for a literal.

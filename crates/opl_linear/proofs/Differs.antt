@@ -305,6 +305,19 @@ module _ (D : Family) (ps : List (ℕ × ℤ)) (k : ℤ) (o : NamesOnce ps) (a :
   there_at : (i : ℕ) → i < length ps → key ps i < length D
   there_at i h = among_at (length D) ps i a h
 
+  -- whether the family leaves the form 0 alone
+  zero_closed : (first : ℕ) (t : ℤ) → IsNextOpen D ps 0 first → first ≡ length ps → t ≡ k +ℤ least_sum D ps → is_zero (factor_in ps) k D ≡ int_eq t (pos 0)
+  zero_closed first t p e q = closed_whole D (factor_in ps) k (all_closed first p e) ∙ ap (λ z. int_eq z (pos 0)) (sym (sum_is t q))
+
+  pub zero_is : (first : ℕ) (t : ℤ) → IsNextOpen D ps 0 first → first ≡ length ps → t ≡ k +ℤ least_sum D ps → t ≡ pos 0 → is_zero (factor_in ps) k D ≡ true
+  zero_is first t p e q z = zero_closed first t p e q ∙ is_there_zero t z
+
+  pub zero_misses : (first : ℕ) (t : ℤ) → IsNextOpen D ps 0 first → first ≡ length ps → t ≡ k +ℤ least_sum D ps → t ≢ pos 0 → is_zero (factor_in ps) k D ≡ false
+  zero_misses first t p e q n = zero_closed first t p e q ∙ not_zero t n
+
+  pub zero_open : (first : ℕ) → IsNextOpen D ps 0 first → first < length ps → is_zero (factor_in ps) k D ≡ false
+  zero_open first p h = open_spares D (factor_in ps) k (key ps first) (there_at first h) (open_at D ps first o s h (p.has_more h))
+
   pub ends_two : (first second : ℕ) → IsNextOpen D ps 0 first → IsNextOpen D ps (first + 1) second → first < length ps → second < length ps → IsGreatestStable (is_zero (factor_in ps) k) D D
   ends_two first second p q h i = nothing_gone (is_zero (factor_in ps) k) D (stable_two D (factor_in ps) k (key ps first) (key ps second) f.full (there_at first h) (there_at second i)
       (keys_apart ps first second o (omega (arith, q.least)) i) (open_at D ps first o s h (p.has_more h)) (open_at D ps second o s i (q.has_more i)))

@@ -6,3 +6,4 @@ mod Differs
 pub mod Normal
 pub mod Carrying
 mod Turned
+mod Leasts

@@ -54,3 +54,11 @@ zero_test ps qs k j e f =
     ap (λ rs. either (is_above (factor_in ps) k) (is_above (factor_in rs) j)) e
     ∙ ap (λ m. either (is_above (factor_in ps) k) (is_above (factor_in (opposite ps)) m)) f
     ∙ ap (λ c. either (is_above (factor_in ps) k) (is_above c (neg_ℤ k))) (opposite_is ps)
+
+-- the second of the two
+pub opposite_above : (ps qs : List (ℕ × ℤ)) (k j : ℤ) (F : Family) → qs ≡ opposite ps → j ≡ neg_ℤ k → is_above (factor_in qs) j F ≡ is_above (λ x. neg_ℤ (factor_in ps x)) (neg_ℤ k) F
+opposite_above ps qs k j F e f =
+    ap (λ rs. is_above (factor_in rs) j F) e ∙ ap (λ m. is_above (factor_in (opposite ps)) m F) f ∙ ap (λ c. is_above c (neg_ℤ k) F) (opposite_is ps)
+
+pub second_alone : (a b : Bool) → a ≡ false → b ≡ (a || b)
+second_alone a b e = rw e refl

@@ -23,7 +23,7 @@ fn is_fixed<V: View>(view: &V, x: u32) -> bool
 }
 
 /// The first place from `from` on whose variable has more than one value, or the length.
-fn next_open<V: View>(parts: &[(u32, i128)], from: usize, view: &V) -> usize
+pub fn next_open<V: View>(parts: &[(u32, i128)], from: usize, view: &V) -> usize
     requires there { AreAmong (length (V.family view.now)) parts.now }
     requires from { from ≤ length parts.now }
     ensures { IsNextOpen (V.family view.now) parts.now from result }

@@ -7,9 +7,11 @@ mod equal;
 mod form;
 mod kind;
 pub mod laws;
+mod rejected;
 mod roots;
 mod trim;
 
 pub use form::filter_form;
 pub use kind::Kind;
+pub use rejected::is_rejected;
 pub use roots::{root, value_of};

@@ -1,6 +1,7 @@
 -- The filter of a comparison of linear sides: how it is made, and that it filters the comparison.
 use Rattle.std.proofs.Common.{◌≡◌, ◌∙◌, ℕ, Bool, true, false, refl, length, ap, sym, subst}
-use Rattle.opl_domain.specs.Family.{Family, IsFamily, Below}
+use Rattle.std.proofs.Math.Path.{fun_ext}
+use Rattle.opl_domain.specs.Family.{Family, IsFamily, Full, Below}
 use Rattle.opl_expr.specs.declared.model.Core.{Core}
 use Rattle.opl_expr.specs.declared.forms.Op.{Op}
 use Rattle.opl_expr.specs.declared.forms.Op.TheVariants.{Eq}
@@ -16,7 +17,7 @@ use Rattle.opl_linear.specs.declared.kind.Kind.TheVariants as kinds
 use Rattle.opl_linear.specs.Linear.{factor_in}
 use Rattle.opl_linear.specs.Forms.{kind_of, left_of, right_of, rejects}
 use Rattle.opl_linear.specs.Laws.{factors_of, constant_of}
-use Rattle.opl_linear.proofs.Carrying.{SaysTheSame, between_carried, outcome_carried, comparisons_filter}
+use Rattle.opl_linear.proofs.Carrying.{SaysTheSame, between_carried, outcome_carried, comparisons_by_forms, comparisons_filter}
 use Rattle.opl_linear_filter.specs.declared.linear_filter.LinearFilter.{LinearFilter}
 use Rattle.opl_linear_filter.specs.Parts.{ArePartsBoth, is_short}
 use Rattle.opl_linear_filter.specs.ShortForms.{equation, IsShort}
@@ -65,6 +66,31 @@ module _ (core : Core) (c : Fact) (f : LinearFilter) (is : IsFilterOf core c f) 
       let same : (x : ℕ) → factor_in f.parts x ≡ factors_of is.left is.right x = λ x. d.factors x ∙ ap (λ z. factors_of z (right_of is.op is.left is.right) x) left ∙ ap (λ z. factors_of is.left z x) right in
       ap (is_one_or_two (factors_of is.left is.right)) l ∙ short_is (factors_of is.left is.right) f.parts (length core.sets) same d.made.once d.made.among d.made.factors ∙ h
 
+-- a family refutes the constraint exactly where it rejects the form
+pub form_refutes : (core : Core) (c : Fact) (f : LinearFilter) (is : IsFilterOf core c f) (F : Family) → Full F → length F ≡ length core.sets → (f.kind ≡ kinds.Zero → is_short f.parts ≡ false) → rejects f.kind (factor_in f.parts) f.constant F ≡ refutes c F
+form_refutes core c f is F w l long =
+    let m = is.comparison in
+    let d = m.difference in
+    let factors = factors_of (left_of is.op is.left is.right) (right_of is.op is.left is.right) in
+    ap (λ z. rejects z (factor_in f.parts) f.constant F) d.kind
+    ∙ ap (λ z. rejects (kind_of is.op) z f.constant F) (fun_ext d.factors)
+    ∙ ap (λ z. rejects (kind_of is.op) factors z F) d.constant
+    ∙ sym (ap (λ z. refutes z F) is.is ∙ comparisons_by_forms is.op is.left is.right F w m.first m.second (λ e. long_as core c f is (length F) l e (long (d.kind ∙ ap kind_of e))))
+
+-- of a short form that is to be 0, where it refutes the equation
+pub short_refutes : (core : Core) (c : Fact) (f : LinearFilter) (is : IsFilterOf core c f) (F : Family) → Full F → length F ≡ length core.sets → f.kind ≡ kinds.Zero → is_short f.parts ≡ true → refutes (equation f.parts f.constant) F ≡ refutes c F
+short_refutes core c f is F w l z s =
+    let m = is.comparison in
+    let d = m.difference in
+    let e = only_equal is.op (sym d.kind ∙ z) in
+    let left : left_of is.op is.left is.right ≡ is.left = ap (λ z. left_of z is.left is.right) e in
+    let right : right_of is.op is.left is.right ≡ is.right = ap (λ z. right_of z is.left is.right) e in
+    let factors : (x : ℕ) → factor_in f.parts x ≡ factors_of is.left is.right x = λ x. d.factors x ∙ ap (λ z. factors_of z (right_of is.op is.left is.right) x) left ∙ ap (λ z. factors_of is.left z x) right in
+    let constant : f.constant ≡ constant_of is.left is.right = d.constant ∙ ap (λ z. constant_of z (right_of is.op is.left is.right)) left ∙ ap (λ z. constant_of is.left z) right in
+    equation_is core f.parts f.constant F w l s d.made.once d.made.among d.made.factors
+    ∙ sym (ap (λ y. refutes y F) (is.is ∙ ap (λ y. compared y is.left is.right) e) ∙ equality_is is.left is.right f.parts f.constant F w m.first m.second factors constant
+    (ap (is_one_or_two (factors_of is.left is.right)) l ∙ short_is (factors_of is.left is.right) f.parts (length core.sets) factors d.made.once d.made.among d.made.factors ∙ s))
+
 -- what filters the form filters the constraint
 module _ (core : Core) (c : Fact) (f : LinearFilter) (is : IsFilterOf core c f) (D F : Family) (o : Outcome) (sets : IsFamily D) (b : Below D (declared core)) where
   pub form_filters : (f.kind ≡ kinds.Zero → is_short f.parts ≡ false) → IsBetween (rejects f.kind (factor_in f.parts) f.constant) D F → Filters (rejects f.kind (factor_in f.parts) f.constant) D F o → IsBetween (refutes c) D F × Filters (refutes c) D F o
@@ -80,16 +106,5 @@ module _ (core : Core) (c : Fact) (f : LinearFilter) (is : IsFilterOf core c f) 
   -- what filters the equation of a short form filters the constraint
   pub short_filters : f.kind ≡ kinds.Zero → is_short f.parts ≡ true → IsBetween (refutes (equation f.parts f.constant)) D F → Filters (refutes (equation f.parts f.constant)) D F o → IsBetween (refutes c) D F × Filters (refutes c) D F o
   short_filters z s i g =
-      let m = is.comparison in
-      let d = m.difference in
-      let e = only_equal is.op (sym d.kind ∙ z) in
-      let left : left_of is.op is.left is.right ≡ is.left = ap (λ z. left_of z is.left is.right) e in
-      let right : right_of is.op is.left is.right ≡ is.right = ap (λ z. right_of z is.left is.right) e in
-      let factors : (x : ℕ) → factor_in f.parts x ≡ factors_of is.left is.right x = λ x. d.factors x ∙ ap (λ z. factors_of z (right_of is.op is.left is.right) x) left ∙ ap (λ z. factors_of is.left z x) right in
-      let constant : f.constant ≡ constant_of is.left is.right = d.constant ∙ ap (λ z. constant_of z (right_of is.op is.left is.right)) left ∙ ap (λ z. constant_of is.left z) right in
-      let l = below_length core D b in
-      let same : SaysTheSame (length D) (refutes (equation f.parts f.constant)) (refutes c) = λ G w h.
-      equation_is core f.parts f.constant G w (h ∙ l) s d.made.once d.made.among d.made.factors
-      ∙ sym (ap (λ y. refutes y G) (is.is ∙ ap (λ y. compared y is.left is.right) e) ∙ equality_is is.left is.right f.parts f.constant G w m.first m.second factors constant
-      (ap (is_one_or_two (factors_of is.left is.right)) (h ∙ l) ∙ short_is (factors_of is.left is.right) f.parts (length core.sets) factors d.made.once d.made.among d.made.factors ∙ s)) in
+      let same : SaysTheSame (length D) (refutes (equation f.parts f.constant)) (refutes c) = λ G w h. short_refutes core c f is G w (h ∙ below_length core D b) z s in
       (between_carried (length D) (refutes (equation f.parts f.constant)) (refutes c) same D F sets refl i, outcome_carried (length D) (refutes (equation f.parts f.constant)) (refutes c) same D F o refl g)

@@ -1,24 +1,21 @@
 -- What a family refutes of a comparison whose form is decided by the ends of its sets.
-use Rattle.std.proofs.Common.{◌≡◌, ◌∙◌, ℕ, zero, suc, ◌<◌, Bool, true, false, not, refl, length, ℤ, pos, ◌+ℤ◌, neg_ℤ, ap, sym, subst, arith}
+use Rattle.std.proofs.Common.{◌≡◌, ◌∙◌, ℕ, zero, suc, ◌<◌, Bool, true, false, not, refl, length, ℤ, pos, ◌+ℤ◌, neg_ℤ, ap, sym, arith}
 use Rattle.std.specs.Prelude.{int_lt}
 use Rattle.opl_domain.specs.Span.{point, is_point}
 use Rattle.opl_domain.specs.Arithmetic.{span_add}
 use Rattle.opl_domain.specs.Family.{Family, Full, hull}
-use Rattle.opl_expr.specs.declared.model.Core.{Core}
-use Rattle.opl_expr.specs.Forms.{Fact, compared}
+use Rattle.opl_expr.specs.Forms.{compared}
 use Rattle.opl_expr.specs.Range.{span_scale, weighted, with_variables}
 use Rattle.opl_filter.specs.Filtering.{refutes}
 use Rattle.opl_linear.specs.declared.kind.Kind.{Kind}
 use Rattle.opl_linear.specs.declared.kind.Kind.TheVariants as kinds
 use Rattle.opl_linear.specs.Linear.{least_weighted, is_above, is_zero}
-use Rattle.opl_linear.specs.Alternating.{either}
 use Rattle.opl_linear.specs.Forms.{kind_of, left_of, right_of, rejects}
 use Rattle.opl_linear.specs.Laws.{factors_of, constant_of}
 use Rattle.opl_linear.proofs.Carrying.{comparisons_by_forms}
 use Rattle.opl_linear_filter.specs.declared.linear_filter.LinearFilter.{LinearFilter}
 use Rattle.opl_linear_filter.specs.Parts.{is_short}
-use Rattle.opl_linear_filter.specs.LinearForms.{IsFilterOf}
-use Rattle.opl_linear_filter.specs.Ends.{SeesEnds, by_values, sees_ends, EndsDecide}
+use Rattle.opl_linear_filter.specs.Ends.{by_values, sees_ends, EndsDecide}
 use Rattle.opl_linear_filter.proofs.Comparing.{long_as}
 
 -- the first n sets of two families have the same ends

@@ -13,11 +13,11 @@ ghost use Rattle.opl_linear_filter.specs.LinearForms.{IsMade, IsDifference, IsFi
 use crate::constant::constant_part;
 use crate::numbers::less;
 use crate::parts::{is_short, parts_between};
-use crate::short::filter_short;
+use crate::short::{filter_short, has_zero};
 use opl_domain::{Narrow, OutOfMemory, View};
 use opl_expr::{Cons, Core, Expr, Op};
 use opl_filter::Outcome;
-use opl_linear::{Kind, filter_form};
+use opl_linear::{Kind, filter_form, is_rejected};
 use opl_list::Seq;
 use opl_range::is_linear;
 use std::alloc::Global;
@@ -123,6 +123,26 @@ impl LinearFilter {
             Kind::Zero => !is_short(self.parts.as_slice()),
             Kind::Different => true,
         }
+    }
+
+    /// Whether the family refutes the constraint. All values must be declared.
+    pub fn is_refuted<V: View>(&self, core: &Core, view: &V) -> bool
+        requires made { IsMade core.now self.now }
+        requires declared { Below (V.family view.now) (declared core.now) }
+        ensures { (c : Fact) → IsFilterOf core.now c self.now → result ≡ refutes c (V.family view.now) }
+    {
+        // No set is empty: a view says so with its number of variables.
+        let _vars = view.vars();
+        if self.is_by_values() {
+            return !has_zero(self.parts.as_slice(), self.constant, view);
+        }
+        is_rejected(
+            self.kind,
+            self.parts.as_slice(),
+            self.opposites.as_slice(),
+            self.constant,
+            view,
+        )
     }
 
     /// Removes values that the constraint refutes alone at that moment, until the family is stable for it, or until none within

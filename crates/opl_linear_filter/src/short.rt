@@ -91,7 +91,7 @@ fn meets<V: View>(view: &V, x: u32, y: u32, shift: i128) -> bool
 }
 
 /// Whether some values make a short form 0.
-fn has_zero<V: View>(parts: &[(u32, i128)], constant: i128, view: &V) -> bool
+pub fn has_zero<V: View>(parts: &[(u32, i128)], constant: i128, view: &V) -> bool
     requires { CanTest parts.now constant (V.family view.now) }
     ensures { result ≡ has_zero (V.family view.now) (factor_in parts.now) constant (length (V.family view.now)) }
 {

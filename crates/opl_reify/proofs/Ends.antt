@@ -6,7 +6,7 @@ use Rattle.opl_expr.specs.declared.model.Core.{Core}
 use Rattle.opl_expr.specs.Range.{is_possible}
 use Rattle.opl_linear_filter.proofs.Ends as linear
 use Rattle.opl_reify.specs.declared.part.Part.{Part}
-use Rattle.opl_reify.specs.Parts.{fact_in, AreParts, any_of}
+use Rattle.opl_reify.specs.Parts.{fact_in, AreParts}
 use Rattle.opl_reify.specs.Ends.{part_sees_ends, EndsDecide}
 use Rattle.opl_reify.proofs.Parts.{all_refuted, any_refuted}
 

@@ -7,15 +7,13 @@ use Rattle.std.proofs.lemmas.Option.{slice_get-get_or}
 use Rattle.opl_domain.specs.Family.{Family, Below}
 use Rattle.opl_expr.specs.declared.model.Core.{Core}
 use Rattle.opl_expr.specs.declared.forms.Cons.{Cons}
-use Rattle.opl_expr.specs.Forms.{fact}
 use Rattle.opl_expr.specs.Solutions.{declared}
-use Rattle.opl_expr.specs.Sound.{IsSoundFact}
 use Rattle.opl_filter.specs.Filtering.{refutes}
 use Rattle.opl_filter.specs.Rounds.{AreThere}
 use Rattle.opl_filter.proofs.Mentioned.{variables_there}
 use Rattle.opl_linear_filter.specs.LinearForms.{IsMade, IsFilterOf}
 use Rattle.opl_reify.specs.declared.part.Part.{Part}
-use Rattle.opl_reify.specs.Parts.{fact_in, AreParts, any_of, IsRefutedAt, IsNextOpen}
+use Rattle.opl_reify.specs.Parts.{IsPart, fact_in, AreParts, any_of, IsRefutedAt, IsNextOpen}
 use Rattle.opl_reify.proofs.Parts.{any_refuted, each_refuted, one_open, part_at, the_one}
 
 -- ---- a part as it is read
@@ -26,15 +24,12 @@ at_place ps k p l e = slice_get-get_or ps k p l ∙ ap (λ q. Some q) (sym e)
 constraint_is : (ps : List Part) (k : ℕ) (p : Part) (c : Cons) → p ≡ get_or ps k p → c ≡ (get_or ps k p).constraint → c ≡ p.constraint
 constraint_is ps k p c e i = i ∙ ap (λ (q : Part). q.constraint) (sym e)
 
-pub read_sound : (core : Core) (ps : List Part) (k : ℕ) (p : Part) (c : Cons) → AreParts core ps → k < length ps → p ≡ get_or ps k p → c ≡ (get_or ps k p).constraint → IsSoundFact core.sets (fact core.tables core.resources c)
-read_sound core ps k p c a l e i =
-    subst (λ z. IsSoundFact core.sets (fact core.tables core.resources z)) (sym (constraint_is ps k p c e i)) (part_at core ps k p a (at_place ps k p l e)).sound
+pub part_read : (core : Core) (ps : List Part) (k : ℕ) (p : Part) → AreParts core ps → k < length ps → p ≡ get_or ps k p → IsPart core p
+part_read core ps k p a l e = part_at core ps k p a (at_place ps k p l e)
 
-pub told : (core : Core) (F : Family) (ps : List Part) (k : ℕ) (p : Part) (c : Cons) (r b : Bool) → k < length ps → p ≡ get_or ps k p → c ≡ (get_or ps k p).constraint → r ≡ refutes (fact core.tables core.resources c) F → r ≡ b
+pub told : (core : Core) (F : Family) (ps : List Part) (k : ℕ) (p : Part) (r b : Bool) → k < length ps → p ≡ get_or ps k p → r ≡ refutes (fact_in core p) F → r ≡ b
     → (q : Part) → slice_get ps k ≡ Some q → refutes (fact_in core q) F ≡ b
-told core F ps k p c r b l e i h j q s =
-    let t : p ≡ q = the_one p q (sym (at_place ps k p l e) ∙ s) in
-    subst (λ z. refutes (fact_in core z) F ≡ b) t (ap (λ z. refutes (fact core.tables core.resources z) F) (sym (constraint_is ps k p c e i)) ∙ sym h ∙ j)
+told core F ps k p r b l e h j q s = subst (λ z. refutes (fact_in core z) F ≡ b) (the_one p q (sym (at_place ps k p l e) ∙ s)) (sym h ∙ j)
 
 pub variables_read : (ps : List Part) (k : ℕ) (p : Part) (xs : List ℕ) → p ≡ get_or ps k p → xs ≡ (get_or ps k p).variables → xs ≡ p.variables
 variables_read ps k p xs e i = i ∙ ap (λ (q : Part). q.variables) (sym e)

@@ -6,7 +6,6 @@ ghost use Rattle.opl_reify.specs.Parts.{AreParts, NextOpen};
 use crate::part::Part;
 use opl_domain::View;
 use opl_expr::Core;
-use opl_range::refuted;
 use opl_trace::Test;
 
 /// The place of the first open part from `from` on.
@@ -17,7 +16,7 @@ pub fn next_open<V: View>(core: &Core, parts: &[Part], from: usize, view: &V) ->
 {
     let mut at = from;
     while at < parts.len() {
-        if !refuted(core, parts[at].constraint.get(), view) {
+        if !parts[at].is_refuted(core, view) {
             return Some(at);
         }
         at += 1;

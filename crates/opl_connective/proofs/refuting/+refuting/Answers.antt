@@ -26,11 +26,11 @@ first_told-loop-at-preserved g t c =
 pub first_told-returns : goal.first_told-returns
 first_told-returns g t c = told_none c.args.core.now (g.V.View.family c.args.view.now) c.args.is_opposite c.args.nodes.now (not c.args.told) c.args.from c.loop-at.at c.loop-at.invariant.1 c.loop-at-test.false
 
-pub refuted-part_refuted-requires-clause-part : goal.refuted-part_refuted-requires-clause-part
-refuted-part_refuted-requires-clause-part g t c = (literal_parts c.args.core.now c.args.node.now c.in-Literal.part c.in-Literal.opposite c.in-Literal.is c.requires.node).1.part
+pub refuted-is_refuted-requires-clause-part : goal.refuted-is_refuted-requires-clause-part
+refuted-is_refuted-requires-clause-part g t c = (literal_parts c.args.core.now c.args.node.now c.in-Literal.part c.in-Literal.opposite c.in-Literal.is c.requires.node).1.part
 
-pub refuted-part_refuted-requires-else-is_opposite-clause-part : goal.refuted-part_refuted-requires-else-is_opposite-clause-part
-refuted-part_refuted-requires-else-is_opposite-clause-part g t c = (literal_parts c.args.core.now c.args.node.now c.in-Literal.part c.in-Literal.opposite c.in-Literal.is c.requires.node).0
+pub refuted-is_refuted-requires-else-is_opposite-clause-part : goal.refuted-is_refuted-requires-else-is_opposite-clause-part
+refuted-is_refuted-requires-else-is_opposite-clause-part g t c = (literal_parts c.args.core.now c.args.node.now c.in-Literal.part c.in-Literal.opposite c.in-Literal.is c.requires.node).0
 
 pub refuted-refuted-requires : goal.refuted-refuted-requires
 refuted-refuted-requires g t c κs within = (search (rules, the_lemmas), (within, (not_part c.args.core.now c.args.node.now c.in-Not.node c.get.result.now c.in-Not.is c.get.ensures c.requires.node, c.requires.within)))
@@ -54,11 +54,11 @@ pub refuted-refuted-requires-then-refuted-2 : goal.refuted-refuted-requires-then
 refuted-refuted-requires-then-refuted-2 g t c κs within = (search (rules, the_lemmas), (within, (iff_second c.args.core.now c.args.node.now c.in-Iff._variables c.in-Iff.first c.in-Iff.second c.get-then-refuted-2.result.now c.in-Iff.is c.get-then-refuted-2.ensures c.requires.node, c.requires.within)))
 
 pub refuted-returns-then-is_opposite : goal.refuted-returns-then-is_opposite
-refuted-returns-then-is_opposite g t c = opposite_told c.args.core.now (g.V.View.family c.args.view.now) c.args.node.now c.requires.node c.in-Literal.part c.in-Literal.opposite c.args.is_opposite c.part_refuted.result c.in-Literal.is c.if-is_opposite.true c.part_refuted.ensures
+refuted-returns-then-is_opposite g t c = opposite_told c.args.core.now (g.V.View.family c.args.view.now) c.args.node.now c.requires.node c.in-Literal.part c.in-Literal.opposite c.args.is_opposite c.is_refuted.result c.in-Literal.is c.if-is_opposite.true c.is_refuted.ensures
 
 pub refuted-returns-else-is_opposite : goal.refuted-returns-else-is_opposite
 refuted-returns-else-is_opposite g t c =
-    part_told c.args.core.now (g.V.View.family c.args.view.now) c.args.node.now c.requires.node c.in-Literal.part c.in-Literal.opposite c.args.is_opposite c.part_refuted-else-is_opposite.result c.in-Literal.is c.if-is_opposite.false c.part_refuted-else-is_opposite.ensures
+    part_told c.args.core.now (g.V.View.family c.args.view.now) c.args.node.now c.requires.node c.in-Literal.part c.in-Literal.opposite c.args.is_opposite c.is_refuted-else-is_opposite.result c.in-Literal.is c.if-is_opposite.false c.is_refuted-else-is_opposite.ensures
 
 pub refuted-returns-in-Not : goal.refuted-returns-in-Not
 refuted-returns-in-Not g t c = not_told c.args.core.now (g.V.View.family c.args.view.now) c.args.node.now c.requires.node c.in-Not.node c.get.result.now c.args.is_opposite c.refuted.result c.in-Not.is c.get.ensures c.refuted.ensures
