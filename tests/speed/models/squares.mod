@@ -1,4 +1,4 @@
-// A number as the sum of ten squares, and of as many cubes another one, in order.
+// Seven hundred as the sum of six squares in order, with cubes that come to at most nine thousand.
 range Place 1..6;
 var int x[Place] in 0..20;
 solve {
