@@ -7,3 +7,4 @@ pub mod Normal
 pub mod Carrying
 mod Turned
 mod Leasts
+mod Widths

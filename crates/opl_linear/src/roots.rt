@@ -33,6 +33,12 @@ pub fn root(k: i128, c: i128) -> Option<i128>
     requires small { IsSmall (unsigned_abs k) }
     ensures { IsRoot k c result }
 {
+    if c == 1 {
+        return Some(negated(k));
+    }
+    if c == -1 {
+        return Some(k);
+    }
     if remainder(k, c) == 0 {
         Some(negated(quotient(k, c)))
     } else {

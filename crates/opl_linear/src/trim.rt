@@ -1,5 +1,5 @@
 //! One tail of a set.
-ghost use Rattle.std.specs.Prelude.{◌≡◌, ◌≢◌, ◌<◌, pos, negsuc, int_div, ◌+ℤ◌, neg_ℤ, ◌*ℤ◌, ◌≤ℤ◌, ◌<ℤ◌, ◌*◌, unsigned_abs, length};
+ghost use Rattle.std.specs.Prelude.{◌≡◌, ◌≢◌, ◌<◌, ◌≤◌, ◌^◌, true, pos, negsuc, int_div, ◌+ℤ◌, neg_ℤ, ◌*ℤ◌, ◌≤ℤ◌, ◌<ℤ◌, ◌*◌, unsigned_abs, length};
 ghost use Rattle.opl_domain.specs.Family.{hull};
 ghost use Rattle.opl_domain.specs.Span.{magnitude};
 ghost use Rattle.opl_expr.specs.Sound.{IsSmall};
@@ -39,18 +39,42 @@ fn product(factor: i128, value: i64) -> i128
     factor * value as i128
 }
 
+/// The product of a factor and a width.
+fn extent(factor: i128, width: i128) -> i128
+    requires { IsSmall (unsigned_abs factor * unsigned_abs width) }
+    ensures { result ≡ factor *ℤ width }
+{
+    factor * width
+}
+
+/// Its product with the width of any set fits.
+const FACTOR: i128 = 1 << 62;
+
+/// Whether `factor` times the width of a set is at most the slack. It says so only of factors below 2^62, since for these a product
+/// tells, which costs less than a quotient.
+fn is_within(factor: i128, slack: i128, width: i128) -> bool
+    requires factor { pos 0 <ℤ factor }
+    requires width { unsigned_abs width ≤ 2 ^ 64 }
+    ensures { result ≡ true → (factor *ℤ width) ≤ℤ slack }
+{
+    if factor >= FACTOR {
+        return false;
+    }
+    extent(factor, width) <= slack
+}
+
 /// How many steps of `factor` are within the slack; none where all from `lo` to `hi` are.
 fn reach(factor: i128, slack: i128, lo: i64, hi: i64) -> Option<i128>
     requires factor { pos 0 <ℤ factor }
     requires slack { pos 0 ≤ℤ slack }
     ensures { Reaches factor slack lo hi result }
 {
-    let steps = quotient(slack, factor);
-    if steps < width(lo, hi) {
-        Some(steps)
-    } else {
-        None
+    let whole = width(lo, hi);
+    if is_within(factor, slack, whole) {
+        return None;
     }
+    let steps = quotient(slack, factor);
+    if steps < whole { Some(steps) } else { None }
 }
 
 /// The value behind `lo` and `steps` more.

@@ -1,5 +1,5 @@
 //! The filter of the bound on a linear objective.
-ghost use Rattle.std.specs.Prelude.{◌≡◌, ◌+◌, ◌+ℤ◌, neg_ℤ, true, length, unsigned_abs, Some, IfOk};
+ghost use Rattle.std.specs.Prelude.{◌≡◌, ◌+◌, ◌^◌, ◌≤◌, ◌+ℤ◌, neg_ℤ, true, false, length, unsigned_abs, Some, IfOk};
 ghost use Rattle.opl_domain.specs.Family.{Below};
 ghost use Rattle.opl_expr.specs.Solutions.{declared};
 ghost use Rattle.opl_expr.specs.Sound.{IsSmall};
@@ -37,7 +37,8 @@ const HALF: u128 = 1 << 126;
 
 /// Whether a best value is below 2^126 in absolute value, as each value of the objective of a sound core is.
 pub fn is_near(best: i128) -> bool
-    ensures { result ≡ true → IsNear best }
+    ensures near { result ≡ true → IsNear best }
+    ensures far { result ≡ false → 2 ^ 126 ≤ unsigned_abs best }
 {
     best.unsigned_abs() < HALF
 }
