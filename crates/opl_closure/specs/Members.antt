@@ -1,7 +1,7 @@
 -- Lists of constraints, the members, and which of them wait.
-use Rattle.std.specs.Prelude.{◌≡◌, ℕ, Bool, true, false, List, [], length, slice_get, Some, None}
+use Rattle.std.specs.Prelude.{◌≡◌, ℕ, Bool, true, false, List, slice_get, Some, None}
 use Rattle.std.specs.List.{list_any}
-use Rattle.opl_domain.specs.Family.{Family, Full}
+use Rattle.opl_domain.specs.Family.{Family}
 use Rattle.opl_expr.specs.Forms.{Fact}
 use Rattle.opl_expr.specs.Range.{is_refuted}
 use Rattle.opl_trace.specs.Stable.{IsStable}
@@ -36,10 +36,3 @@ Rest w outcome.Failed = Unit {0}
 abbrev pub Closes : (Family → Bool) → Family → Family → Outcome → Type 0
 Closes dead D F outcome.Stable = closure dead D ≡ Some F
 Closes dead D F outcome.Failed = closure dead D ≡ None
-
--- a filter was fresh for some family of n sets, none of them empty
-pub record WasFresh (is_fresh : Family → Type 0) (n : ℕ) : Type 0 where
-  pub family : Family
-  pub full : Full family
-  pub same : length family ≡ n
-  pub fresh : is_fresh family

@@ -1,6 +1,7 @@
 mod Notices
 mod Implied
 mod Prices
+mod Known
 mod Settling
 mod Read
 mod Both

@@ -42,7 +42,7 @@ start_excess : (core : Core) (F : Family) (n : ℕ) (ls : List Literal) (b : Boo
 start_excess core F n ls b e h = let w = ap (prices core F) e in let k = ap pos h in omega (arith, ints, w, k)
 
 sum_made : (core : Core) (a b : Expr) (s : Bool) (ls : List Literal) (n : ℕ) (mid new : Costs) (ts : List Tie) → ls ≡ [] → n ≡ cond s 1 0 → Counts core a → Counts core b → Reads core false (term_of core a) (record { literals = ls; paid = n; room = 0 }) mid
-    → Reads core true (term_of core b) mid new → AreTies new.literals ts → CanCompare core a b → IsSumOf core a b s (record { costs = new; ties = ts })
+    → Reads core true (term_of core b) mid new → AreTies new.literals ts → CanCompare core a b → IsSumOf core a b s (record { costs = new; ties = ts; first_place = None })
 sum_made core a b s ls n mid new ts e h i j p q t can = record {
   made = record {
     made = record {
@@ -70,7 +70,7 @@ sum_made core a b s ls n mid new ts e h i j p q t can = record {
 }
 
 pub sum_read : (core : Core) (a b : Expr) (s : Bool) (ls : List Literal) (n : ℕ) (mid new : Costs) (xs : List Literal) (ts : List Tie) (r u : Bool) → ls ≡ [] → n ≡ cond s 1 0 → ReadsIf core false a (record { literals = ls; paid = n; room = 0 }) mid r → r ≡ true
-    → ReadsIf core true b mid new u → u ≡ true → xs ≡ new.literals → AreTies xs ts → CanCompare core a b → IsSumOf core a b s (record { costs = new; ties = ts })
+    → ReadsIf core true b mid new u → u ≡ true → xs ≡ new.literals → AreTies xs ts → CanCompare core a b → IsSumOf core a b s (record { costs = new; ties = ts; first_place = None })
 sum_read core a b s ls n mid new xs ts false u e h p k q l z t can = cc
 sum_read core a b s ls n mid new xs ts true false e h p k q l z t can = cc
 sum_read core a b s ls n mid new xs ts true true e h p k q l z t can = sum_made core a b s ls n mid new ts e h p.0 q.0 p.1 q.1 (subst (λ ys. AreTies ys ts) z t) can

@@ -6,3 +6,4 @@ pub mod Forcing
 pub mod CountingSums
 pub mod Readings
 pub mod CountFilters
+pub mod Places

@@ -6,9 +6,12 @@ ghost use Rattle.opl_expr.specs.Solutions.{declared};
 ghost use Rattle.opl_expr.specs.Sound.{IsSoundFact};
 ghost use Rattle.opl_filter.specs.Filtering.{refutes, IsBetween, Filters};
 ghost use Rattle.opl_range.specs.Between.{term_of, is_pure_between, CanCompare};
+ghost use Rattle.opl_notes.specs.Noted.{Knows, Tells};
+ghost use Rattle.opl_count.specs.Places.{means_counts, GivesPlaces};
 ghost use Rattle.opl_count.specs.CountFilters.{IsSumIfAny, IsNothing, IsMadeIfAny, IsMadeBothIfAny, IsMadeForSides, IsMadeOfCounts, IsCountFor, IsCountIfAny, IsThereFor};
 
 use crate::filtering::filter_counts;
+use crate::places::take_places;
 use crate::reading::read;
 use crate::sum::{Costs, Sum};
 use crate::ties::ties;
@@ -16,6 +19,7 @@ use opl_domain::{Narrow, OutOfMemory, View};
 use opl_expr::{Cons, Core, Expr, Op};
 use opl_filter::Outcome;
 use opl_list::Seq;
+use opl_notes::Notes;
 use opl_range::is_linear;
 use std::alloc::Global;
 
@@ -66,7 +70,11 @@ fn sum_of(
         return Ok(None);
     }
     let ties = ties(alloc, costs.literals.as_slice())?;
-    Ok(Some(Sum { costs, ties }))
+    Ok(Some(Sum {
+        costs,
+        ties,
+        first_place: None,
+    }))
 }
 
 /// No costs, which are never too great.
@@ -80,6 +88,7 @@ fn nothing(alloc: Global) -> Sum
             room: 0,
         },
         ties: Seq::new(alloc),
+        first_place: None,
     }
 }
 
@@ -169,17 +178,28 @@ impl CountFilter {
         }
     }
 
+    /// Gives each literal a place of notes, from `first` on, and tells the first place behind them. Where there would be more places
+    /// than 2^32 - 1, literals get none.
+    pub fn take_places(&mut self, first: u32) -> u32
+        ensures { GivesPlaces self.old self.new first result }
+    {
+        let behind = take_places(&mut self.first, first);
+        take_places(&mut self.second, behind)
+    }
+
     /// Removes values that the constraint refutes alone at that moment, until the family is stable for it, or until none within
-    /// is. All values must be declared. It takes no memory.
-    pub fn filter<N: Narrow>(&self, core: &Core, n: &mut N) -> Outcome
+    /// is. All values must be declared, and the notes right; they are right afterwards. It takes no memory.
+    pub fn filter<N: Narrow>(&self, core: &Core, notes: &mut Notes, n: &mut N) -> Outcome
         requires made { IsMadeOfCounts core.now self.now }
         requires declared { Below (N.family n.old) (declared core.now) }
+        requires knows { Knows (means_counts core.now self.now) notes.old.top (N.family n.old) }
         ensures between { (c : Fact) → IsCountFor core.now c self.now → IsBetween (refutes c) (N.family n.old) (N.family n.new) }
         ensures outcome { (c : Fact) → IsCountFor core.now c self.now → Filters (refutes c) (N.family n.old) (N.family n.new) result }
         ensures leads_to { N.leads_to n.old n.new }
+        ensures tells { Tells (means_counts core.now self.now) notes.old (N.family n.old) notes.new (N.family n.new) }
     {
         // No set is empty: a view says so with its number of variables.
         let _vars = n.vars();
-        filter_counts(core, &self.first, &self.second, n)
+        filter_counts(core, &self.first, &self.second, notes, n)
     }
 }

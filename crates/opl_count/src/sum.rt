@@ -31,4 +31,6 @@ pub struct Tie {
 pub struct Sum {
     pub costs: Costs,
     pub ties: Seq<Tie>,
+    /// Where notes have a place for each literal, one behind another, the first of these places.
+    pub first_place: Option<u32>,
 }

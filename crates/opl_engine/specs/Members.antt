@@ -11,7 +11,7 @@ use Rattle.opl_trace.specs.Objective.{Objective, better_than}
 use Rattle.opl_objective_filter.specs.declared.objective_filter.ObjectiveFilter.{ObjectiveFilter}
 use Rattle.opl_objective_filter.specs.ObjectiveFilters.{IsFilterOf}
 use Rattle.opl_engine.specs.declared.own_filter.OwnFilter.{OwnFilter}
-use Rattle.opl_engine.specs.OwnFilters.{IsOwnFilterIfAny, sees_ends_if_any}
+use Rattle.opl_engine.specs.OwnFilters.{IsOwnFilterIfAny, sees_ends_if_any, means_if_any}
 use Rattle.opl_engine.specs.declared.member.Member.{Member}
 use Rattle.opl_engine.specs.declared.member.Member.TheVariants as member
 
@@ -88,3 +88,13 @@ IsMember core (member.Bound best variables form) = AreThere core variables × ((
 IsMember core (member.Declared k variables form) = (k < length core.cons) × IsConstraint core (fact_at core (slice_get core.cons k)) variables form
 IsMember core (member.Posted c variables form) = IsConstraint core (fact core.tables core.resources c.value) variables form
 IsMember core (member.Value x v) = x < length core.sets
+
+-- what a member takes places of notes to stand for, and what all members do
+abbrev pub means_member : Core → Member → (ℕ → Fact) → ℕ → Type 0
+means_member core (member.Bound best variables form) facts n = Unit {0}
+means_member core (member.Declared k variables form) facts n = means_if_any core form facts n
+means_member core (member.Posted c variables form) facts n = means_if_any core form facts n
+means_member core (member.Value x v) facts n = Unit {0}
+
+abbrev pub means_members : Core → List Member → (ℕ → Fact) → ℕ → Type 0
+means_members core ms facts n = (i : ℕ) (m : Member) → slice_get ms i ≡ Some m → means_member core m facts n

@@ -1,5 +1,5 @@
 -- Filters of their own that some kinds of constraints have.
-use Rattle.std.specs.Prelude.{◌≡◌, Bool, true, false, Option, Some, None}
+use Rattle.std.specs.Prelude.{◌≡◌, ℕ, ◌≤◌, Bool, true, false, Option, Some, None}
 use Rattle.opl_expr.specs.declared.model.Core.{Core}
 use Rattle.opl_expr.specs.declared.forms.Cons.{Cons}
 use Rattle.opl_expr.specs.Forms.{Fact}
@@ -12,6 +12,7 @@ use Rattle.opl_connective.specs.Ends as connective
 use Rattle.opl_connective.specs.Connectives.{IsMadeOfNodes, IsConnectiveFor}
 use Rattle.opl_connective.specs.Kinds.{Connects}
 use Rattle.opl_count.specs.CountFilters.{IsMadeOfCounts, IsCountFor, ComparesCounts}
+use Rattle.opl_count.specs.Places.{means_counts, Extends}
 use Rattle.opl_addends.specs.AddendsFilters.{IsMadeOfAddends, IsAddendsFor, ComparesAddends}
 use Rattle.opl_engine.specs.declared.own_filter.OwnFilter.{OwnFilter}
 use Rattle.opl_engine.specs.declared.own_filter.OwnFilter.TheVariants as own
@@ -53,10 +54,38 @@ abbrev pub sees_ends_if_any : Option OwnFilter → Bool
 sees_ends_if_any None = false
 sees_ends_if_any (Some f) = sees_ends f
 
--- of whichever constraint the old filter is, the new one is too, and the ends of the sets decide it if they decided the old one
+-- what it takes places of notes to stand for: a counting sum its literals
+abbrev pub means_own : Core → OwnFilter → (ℕ → Fact) → ℕ → Type 0
+means_own core (own.Linear f) facts n = Unit {0}
+means_own core (own.Different f) facts n = Unit {0}
+means_own core (own.Reify f) facts n = Unit {0}
+means_own core (own.Connective f) facts n = Unit {0}
+means_own core (own.Count f) facts n = means_counts core f facts n
+means_own core (own.Addends f) facts n = Unit {0}
+
+abbrev pub means_if_any : Core → Option OwnFilter → (ℕ → Fact) → ℕ → Type 0
+means_if_any core None facts n = Unit {0}
+means_if_any core (Some f) facts n = means_own core f facts n
+
+-- the filter is as before, but for its places, which lie between two numbers
+pub record GivesOwnPlaces (old new : OwnFilter) (first n : ℕ) : Type 0 where
+  pub more : first ≤ n
+  pub constraint : (core : Core) (c : Fact) → IsOwnFilter core c old → IsOwnFilter core c new
+  pub ends : sees_ends new ≡ sees_ends old
+  pub places : (core : Core) (facts : ℕ → Fact) → Extends (means_own core new) facts first n
+
+-- of whichever constraint the old filter is, the new one is too; it takes places to stand for the same constraints, and the ends of the sets decide it if they decided the old one
 pub record KeepsConstraints (old new : Option OwnFilter) : Type 0 where
   pub constraint : (core : Core) (c : Fact) → IsOwnFilterIfAny core c old → IsOwnFilterIfAny core c new
+  pub means : (core : Core) (facts : ℕ → Fact) (n : ℕ) → means_if_any core old facts n → means_if_any core new facts n
   pub ends : sees_ends_if_any new ≡ sees_ends_if_any old
+
+-- so it is once a filter, where there is one, was given places between two numbers
+pub record GivesPlacesIfAny (old new : Option OwnFilter) (first n : ℕ) : Type 0 where
+  pub more : first ≤ n
+  pub constraint : (core : Core) (c : Fact) → IsOwnFilterIfAny core c old → IsOwnFilterIfAny core c new
+  pub ends : sees_ends_if_any new ≡ sees_ends_if_any old
+  pub places : (core : Core) (facts : ℕ → Fact) → Extends (means_if_any core new) facts first n
 
 -- a constraint is of the kind that such a filter is for
 abbrev pub IsOfKind : Core → Cons → OwnFilter → Type 0

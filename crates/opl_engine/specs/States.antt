@@ -1,5 +1,5 @@
 -- What an engine is: a core, a best value, and constraints that are posted level by level. When it fits sets of variables.
-use Rattle.std.specs.Prelude.{◌≡◌, ℕ, ◌≤◌, Bool, true, List, [], ◌∷◌, map, take, drop, ℤ, Option, Some, None}
+use Rattle.std.specs.Prelude.{◌≡◌, ℕ, ◌≤◌, Bool, true, List, [], ◌∷◌, length, map, take, drop, ℤ, Option, Some, None}
 use Rattle.opl_domain.specs.Family.{Family, Below}
 use Rattle.opl_expr.specs.declared.model.Core.{Core}
 use Rattle.opl_expr.specs.Forms.{Fact}
@@ -13,7 +13,10 @@ use Rattle.opl_filter.specs.declared.outcome.Outcome.TheVariants as outcome
 use Rattle.opl_filter.specs.Filtering.{refutes}
 use Rattle.opl_closure.specs.Members.{Each, WaitOrAreStable}
 use Rattle.opl_engine.specs.Crowds.{Crowd}
-use Rattle.opl_engine.specs.Members.{bound_fact, fact_of}
+use Rattle.opl_trail.specs.Levels.{Levels}
+use Rattle.opl_notes.specs.Noted.{AreRight}
+use Rattle.opl_engine.specs.declared.member.Member.{Member}
+use Rattle.opl_engine.specs.Members.{bound_fact, fact_of, means_members}
 use Rattle.opl_engine.specs.declared.opening.Opening.{Opening}
 use Rattle.opl_engine.specs.declared.closed.Closed.{Closed}
 use Rattle.opl_engine.specs.declared.closed.Closed.TheVariants as closed
@@ -27,13 +30,15 @@ pub record Level : Type 0 where
   pub best : Option ℤ
 
 -- an engine: the constraints that are posted now, among them those of the core, and the open levels, the last one first; and,
--- for the engine alone, who waits, the bound first
+-- for the engine alone, who waits, the bound first, the members, and their notes
 pub record State : Type 0 where
   pub core : Core
   pub best : Option ℤ
   pub posted : List Fact
   pub levels : List Level
   pub waits : List Bool
+  pub crowd : List Member
+  pub notes : Levels
 
 -- the lists of posted constraints at the openings, the last one first
 abbrev pub posted_below : State → List (List Fact)
@@ -83,11 +88,27 @@ FitLevels core [] (F ∷ below) = ⊥
 FitLevels core (l ∷ levels) [] = ⊥
 FitLevels core (l ∷ levels) (F ∷ below) = FitsLevel core l F × FitLevels core levels below
 
--- an engine fits sets F and those at the openings of the open levels, the last one first: each member waits, or F is stable for it
+-- what was noted at the openings of levels was right of their sets
+abbrev pub AreRightBelow : (ℕ → Fact) → ℕ → List (List ℕ) → List Family → Type 0
+AreRightBelow facts n [] [] = Unit {0}
+AreRightBelow facts n [] (G ∷ below) = ⊥
+AreRightBelow facts n (words ∷ earlier) [] = ⊥
+AreRightBelow facts n (words ∷ earlier) (G ∷ below) = (length words ≡ n) × AreRight facts words G × AreRightBelow facts n earlier below
+
+-- notes are right of sets, and so were those of each level, as the members take them
+pub record FitNotes (core : Core) (ms : List Member) (notes : Levels) (F : Family) (below : List Family) : Type 0 where
+  pub facts : ℕ → Fact
+  pub meant : means_members core ms facts (length notes.top)
+  pub right : AreRight facts notes.top F
+  pub earlier : AreRightBelow facts (length notes.top) notes.below below
+
+-- an engine fits sets F and those at the openings of the open levels, the last one first: each member waits, or F is stable for it, and its
+-- notes are right
 pub record Fits (e : State) (F : Family) (below : List Family) : Type 0 where
   pub within : Below F (declared e.core)
   pub wait : WaitOrAreStable (members e) e.waits F
   pub levels : FitLevels e.core e.levels below
+  pub notes : FitNotes e.core e.crowd e.notes F below
 
 -- ---- what it is made of
 
@@ -95,8 +116,8 @@ abbrev pub level_of : List Fact → Opening → Level
 level_of facts o = record { posted = drop 1 (take o.members facts); calm = o.calm; bounded = o.bounded; best = o.best }
 
 -- the members' constraints, the bound's first, and the openings, the last one first
-abbrev pub state_of : Core → Option ℤ → List Fact → List Opening → List Bool → State
-state_of core best facts openings waits = record { core = core; best = best; posted = drop 1 facts; levels = map (level_of facts) openings; waits = waits }
+abbrev pub state_of : Core → Option ℤ → List Fact → List Opening → Crowd → State
+state_of core best facts openings crowd = record { core = core; best = best; posted = drop 1 facts; levels = map (level_of facts) openings; waits = crowd.waits; crowd = crowd.members; notes = crowd.notes }
 
 -- what an engine is made of: the members with those who wait, and the openings, the last one first
 pub record Parts : Type 0 where
@@ -107,7 +128,7 @@ pub record Parts : Type 0 where
 
 -- what is seen of it
 abbrev pub seen : Parts → State
-seen e = state_of e.core e.best (map (fact_of e.core) e.crowd.members) e.openings e.crowd.waits
+seen e = state_of e.core e.best (map (fact_of e.core) e.crowd.members) e.openings e.crowd
 
 -- of n members, each level has at least one, and none more than a level above it
 abbrev pub AreOpenings : ℕ → List Opening → Type 0

@@ -117,6 +117,7 @@ pub fn base_members(alloc: Global, core: &Core) -> Result<Members, OutOfMemory>
     let mut members = begun(alloc, core)?;
     add_declared(alloc, core, &mut members)?;
     add_definedness(alloc, core, &mut members)?;
+    members.place_notes(alloc)?;
     members.wake_everybody();
     Ok(members)
 }

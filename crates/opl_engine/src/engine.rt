@@ -60,14 +60,16 @@ fn same_best(a: Option<i128>, b: Option<i128>) -> bool
     }
 }
 
-/// Leaves the members of a level that is given back, and lets those wait whom its sets may not suit.
+/// Leaves the members of a level that is given back, forgets what was noted in it, and lets those wait whom its sets may not suit.
 fn give_back(members: &mut Members, opening: Opening, best: Option<i128>)
-    requires { (1 ≤ opening.members) × (opening.members ≤ length members.old.members) }
+    requires { (1 ≤ opening.members) × (opening.members ≤ length members.old.members) × (0 < length members.old.notes.below) }
     ensures variables { members.new.variables ≡ members.old.variables }
     ensures members { members.new.members ≡ take opening.members members.old.members }
+    ensures notes { members.old.notes.below ≡ members.new.notes.top ∷ members.new.notes.below }
     ensures calm { (i : ℕ) → i + 1 < opening.members → waits members.new.waits (i + 1) ≡ false → opening.calm ≡ true }
     ensures bounded { waits members.new.waits 0 ≡ false → (opening.bounded ≡ true) × (opening.best ≡ best) }
 {
+    members.close_level();
     members.keep(opening.members);
     if !opening.calm {
         members.wake_everybody();
@@ -179,7 +181,9 @@ impl Engine {
             bounded: !self.members.waits(0),
             best: self.best,
         };
-        self.openings.push(opening)?;
+        self.openings.reserve(1)?;
+        self.members.open_level()?;
+        self.openings.push_reserved(opening);
         Ok(())
     }
 

@@ -7,9 +7,10 @@ ghost use Rattle.opl_filter.specs.Mentions.{lists};
 ghost use Rattle.opl_filter.specs.Filtering.{refutes, IsBetween, Filters};
 ghost use Rattle.opl_trace.specs.Marks.{objective};
 ghost use Rattle.opl_trace.specs.Objective.{Objective};
-ghost use Rattle.opl_engine.specs.OwnFilters.{IsOwnFilterIfAny, KeepsConstraints, sees_ends_if_any};
-ghost use Rattle.opl_engine.specs.Members.{bound_fact, fact_of, names, sees_ends, wakes_on, wakes_by_ends, AreThere, IsListed, IsGoal, IsObjectiveFilterIfAny, IsMember};
-ghost use Rattle.opl_engine.specs.Crowds.{IsSameMember};
+ghost use Rattle.opl_notes.specs.Noted.{Knows, Tells};
+ghost use Rattle.opl_engine.specs.OwnFilters.{IsOwnFilterIfAny, KeepsConstraints, sees_ends_if_any, means_if_any, GivesPlacesIfAny};
+ghost use Rattle.opl_engine.specs.Members.{bound_fact, fact_of, means_member, names, sees_ends, wakes_on, wakes_by_ends, AreThere, IsListed, IsGoal, IsObjectiveFilterIfAny, IsMember};
+ghost use Rattle.opl_engine.specs.Crowds.{IsSameMember, GivesMemberPlaces};
 
 use crate::bound::keep_better;
 use crate::own_filter::OwnFilter;
@@ -18,6 +19,7 @@ use opl_domain::Narrow;
 use opl_expr::{Cons, Core};
 use opl_filter::{Outcome, sweep};
 use opl_list::Seq;
+use opl_notes::Notes;
 use opl_objective_filter::ObjectiveFilter;
 use std::rc::Rc;
 
@@ -79,6 +81,28 @@ impl Member {
         }
         &[]
     }
+
+    /// Gives its filter the places of notes that it wants, from `first` on, and tells the first place behind them.
+    pub fn take_places(&mut self, first: u32) -> u32
+        ensures { GivesMemberPlaces self.old self.new first result }
+    {
+        match self {
+            Member::Bound(_best, _variables, _form) => first,
+            Member::Declared(_place, _variables, form) => filter_takes_places(form, first),
+            Member::Posted(_constraint, _variables, form) => filter_takes_places(form, first),
+            Member::Value(_x, _v) => first,
+        }
+    }
+}
+
+/// Gives a filter, if there is one, the places of notes that it wants, from `first` on, and tells the first place behind them.
+fn filter_takes_places(form: &mut Option<OwnFilter>, first: u32) -> u32
+    ensures { GivesPlacesIfAny form.old form.new first result }
+{
+    match form {
+        None => first,
+        Some(filter) => filter.take_places(first),
+    }
 }
 
 /// Whether the ends of sets alone decide what a filter removes, if there is one.
@@ -132,29 +156,39 @@ fn filter_constraint<N: Narrow>(
     c: &Cons,
     variables: &[u32],
     form: &mut Option<OwnFilter>,
+    notes: &mut Notes,
     n: &mut N,
 ) -> Outcome
     requires listed { IsListed core.now (fact core.now.tables core.now.resources c.now) variables.now }
     requires form { IsOwnFilterIfAny core.now (fact core.now.tables core.now.resources c.now) form.old }
     requires declared { Below (N.family n.old) (declared core.now) }
+    requires knows { Knows (means_if_any core.now form.old) notes.old.top (N.family n.old) }
     ensures between { IsBetween (refutes (fact core.now.tables core.now.resources c.now)) (N.family n.old) (N.family n.new) }
     ensures outcome { Filters (refutes (fact core.now.tables core.now.resources c.now)) (N.family n.old) (N.family n.new) result }
     ensures leads_to { N.leads_to n.old n.new }
+    ensures tells { Tells (means_if_any core.now form.old) notes.old (N.family n.old) notes.new (N.family n.new) }
     ensures form { KeepsConstraints form.old form.new }
 {
     match form {
         None => sweep(core, c, variables, n),
-        Some(filter) => filter.filter(core, n),
+        Some(filter) => filter.filter(core, notes, n),
     }
 }
 
 /// What a member's filter does.
-fn filter_by<N: Narrow>(member: &mut Member, core: &Core, n: &mut N) -> Outcome
+fn filter_by<N: Narrow>(
+    member: &mut Member,
+    core: &Core,
+    notes: &mut Notes,
+    n: &mut N,
+) -> Outcome
     requires made { IsMember core.now member.old }
     requires declared { Below (N.family n.old) (declared core.now) }
+    requires knows { Knows (means_member core.now member.old) notes.old.top (N.family n.old) }
     ensures between { IsBetween (refutes (fact_of core.now member.old)) (N.family n.old) (N.family n.new) }
     ensures outcome { Filters (refutes (fact_of core.now member.old)) (N.family n.old) (N.family n.new) result }
     ensures leads_to { N.leads_to n.old n.new }
+    ensures tells { Tells (means_member core.now member.old) notes.old (N.family n.old) notes.new (N.family n.new) }
     ensures same { IsSameMember member.old member.new }
 {
     match member {
@@ -163,17 +197,17 @@ fn filter_by<N: Narrow>(member: &mut Member, core: &Core, n: &mut N) -> Outcome
         }
         Member::Declared(place, variables, form) => match core.cons.get(*place as usize) {
             None => keep_all(n),
-            Some(c) => filter_constraint(core, c, variables.as_slice(), form, n),
+            Some(c) => filter_constraint(core, c, variables.as_slice(), form, notes, n),
         },
         Member::Posted(c, variables, form) => {
-            filter_constraint(core, c, variables.as_slice(), form, n)
+            filter_constraint(core, c, variables.as_slice(), form, notes, n)
         }
         &mut Member::Value(x, v) => keep_value(n, x, v),
     }
 }
 
 impl Propagator for Member {
-    ghost use Rattle.opl_engine.specs.Members.{fact_of, wakes_on, wakes_by_ends, IsMember};
+    ghost use Rattle.opl_engine.specs.Members.{fact_of, means_member, wakes_on, wakes_by_ends, IsMember};
     ghost use Rattle.opl_engine.specs.Crowds.{kind_of};
     ghost use Rattle.opl_engine.specs.Resting.{member_rests};
 
@@ -181,7 +215,7 @@ impl Propagator for Member {
 
     ghost is_made_with = { λ s core. IsMember core s };
 
-    ghost fresh = { λ s F. Unit {0} };
+    ghost means = { λ s core. means_member core s };
 
     ghost woken_by = { wakes_on };
 
@@ -189,11 +223,9 @@ impl Propagator for Member {
 
     ghost kind = { kind_of };
 
-    fn filter<N: Narrow>(&mut self, core: &Core, n: &mut N) -> Outcome {
-        filter_by(self, core, n)
+    fn filter<N: Narrow>(&mut self, core: &Core, notes: &mut Notes, n: &mut N) -> Outcome {
+        filter_by(self, core, notes, n)
     }
-
-    fn refresh(&mut self, _core: &Core) {}
 
     ghost rests = { λ s d F G made wide. member_rests d s F G made wide };
 }

@@ -1,12 +1,13 @@
 //! Filters of their own that some kinds of constraints have.
-ghost use Rattle.std.specs.Prelude.{◌≡◌, ◌<◌, ◌^◌, length, IfOk};
+ghost use Rattle.std.specs.Prelude.{◌≡◌, ℕ, ◌<◌, ◌^◌, length, IfOk};
 ghost use Rattle.opl_domain.specs.Family.{Below};
 ghost use Rattle.opl_expr.specs.declared.model.Core.{Core};
 ghost use Rattle.opl_expr.specs.Forms.{Fact, fact};
 ghost use Rattle.opl_expr.specs.Solutions.{declared};
 ghost use Rattle.opl_expr.specs.Sound.{IsSoundFact};
 ghost use Rattle.opl_filter.specs.Filtering.{refutes, IsBetween, Filters};
-ghost use Rattle.opl_engine.specs.OwnFilters.{IsMadeWith, IsOwnFilter, IsOwnFilterIfAny, IsThereForAddends, IsThereForConnectives, IsThereForCounts, IsThereForDisjunctions, IsThereForDifferences, IsThereForKinds, sees_ends};
+ghost use Rattle.opl_notes.specs.Noted.{Knows, Tells};
+ghost use Rattle.opl_engine.specs.OwnFilters.{means_own, GivesOwnPlaces, IsMadeWith, IsOwnFilter, IsOwnFilterIfAny, IsThereForAddends, IsThereForConnectives, IsThereForCounts, IsThereForDisjunctions, IsThereForDifferences, IsThereForKinds, sees_ends};
 
 use opl_addends::AddendsFilter;
 use opl_all_different::DifferentFilter;
@@ -16,11 +17,13 @@ use opl_domain::{Narrow, OutOfMemory};
 use opl_expr::{Cons, Core};
 use opl_filter::Outcome;
 use opl_linear_filter::LinearFilter;
+use opl_notes::Notes;
 use opl_reify::ReifyFilter;
 use std::alloc::Global;
 
-/// The filter of its own that a constraint has. A kind of filter is one more variant, with its arms in `new`, `sees_ends` and `filter`,
-/// and in the definitions of what it is made with, of which constraint it is the filter, and whether ends decide it.
+/// The filter of its own that a constraint has. A kind of filter is one more variant, with its arms in `new`, `sees_ends`,
+/// `take_places` and `filter`, and in the definitions of what it is made with, of which constraint it is the filter, what it takes notes to mean,
+/// and whether ends decide it.
 #[derive(Drop)]
 pub enum OwnFilter {
     /// That of a comparison of linear sides.
@@ -132,14 +135,32 @@ impl OwnFilter {
         }
     }
 
+    /// Gives it the places of notes that it wants, from `first` on, and tells the first place behind them.
+    pub fn take_places(&mut self, first: u32) -> u32
+        ensures { GivesOwnPlaces self.old self.new first result }
+    {
+        match self {
+            OwnFilter::Linear(_filter) => first,
+            OwnFilter::Different(_filter) => first,
+            OwnFilter::Reify(_filter) => first,
+            OwnFilter::Connective(_filter) => first,
+            OwnFilter::Count(filter) => filter.take_places(first),
+            OwnFilter::Addends(_filter) => first,
+        }
+    }
+
     /// Removes values that the constraint refutes alone at that moment, until the family is stable for it, or until none within
-    /// is. All values must be declared. It takes no memory. The filter stays that of the same constraints.
-    pub fn filter<N: Narrow>(&mut self, core: &Core, n: &mut N) -> Outcome
+    /// is. All values must be declared, and the notes right; they are right afterwards. It takes no memory. The filter stays that of the
+    /// same constraints.
+    pub fn filter<N: Narrow>(&mut self, core: &Core, notes: &mut Notes, n: &mut N) -> Outcome
         requires made { IsMadeWith core.now self.old }
         requires declared { Below (N.family n.old) (declared core.now) }
+        requires knows { Knows (means_own core.now self.old) notes.old.top (N.family n.old) }
         ensures between { (c : Fact) → IsOwnFilter core.now c self.old → IsBetween (refutes c) (N.family n.old) (N.family n.new) }
         ensures outcome { (c : Fact) → IsOwnFilter core.now c self.old → Filters (refutes c) (N.family n.old) (N.family n.new) result }
         ensures leads_to { N.leads_to n.old n.new }
+        ensures tells { (c : Fact) → IsOwnFilter core.now c self.old → Tells (means_own core.now self.old) notes.old (N.family n.old) notes.new (N.family n.new) }
+        ensures means { (d : Core) (facts : ℕ → Fact) (places : ℕ) → means_own d self.old facts places → means_own d self.new facts places }
         ensures made { (d : Core) → IsMadeWith d self.old → IsMadeWith d self.new }
         ensures constraint { (d : Core) (c : Fact) → IsOwnFilter d c self.old → IsOwnFilter d c self.new }
         ensures ends { sees_ends self.new ≡ sees_ends self.old }
@@ -149,7 +170,7 @@ impl OwnFilter {
             OwnFilter::Different(filter) => filter.filter(core, n),
             OwnFilter::Reify(filter) => filter.filter(core, n),
             OwnFilter::Connective(filter) => filter.filter(core, n),
-            OwnFilter::Count(filter) => filter.filter(core, n),
+            OwnFilter::Count(filter) => filter.filter(core, notes, n),
             OwnFilter::Addends(filter) => filter.filter(core, n),
         }
     }

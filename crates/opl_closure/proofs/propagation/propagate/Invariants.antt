@@ -1,8 +1,10 @@
-use Rattle.std.proofs.Common.{◌≡◌, ◌+◌, ◌*◌, suc, map, length}
+use Rattle.std.proofs.Common.{◌≡◌, ℕ, ◌+◌, ◌*◌, suc, map, length}
 use Rattle.opl_trace.specs.Sweeps.{size}
+use Rattle.opl_expr.specs.Forms.{Fact}
 use Rattle.opl_filter.specs.Filtering.{IsLeftOf}
+use Rattle.opl_notes.specs.Noted.{Tells}
 use Rattle.opl_closure.specs.Waits.{count_waits}
-use Rattle.opl_closure.specs.Members.{refutes_one, Each, WaitOrAreStable, WasFresh}
+use Rattle.opl_closure.specs.Members.{refutes_one, Each, WaitOrAreStable}
 use Rattle.opl_closure.proofs.propagation.propagate.Given as goal
 
 abbrev pub invariant-loop-i : goal.invariant-loop-i
@@ -13,7 +15,8 @@ invariant-loop-i g l = record {
   woken_by_ends : map g.F.Propagator.woken_by_ends l.filters ≡ map g.F.Propagator.woken_by_ends l.fn.filters;
   kinds : map g.F.Propagator.kind l.filters ≡ map g.F.Propagator.kind l.fn.filters;
   made : Each (λ i f. g.F.Propagator.is_made_with f l.fn.core) l.filters;
-  fresh : Each (λ i f. WasFresh (g.F.Propagator.fresh f) (length (g.N.View.family l.n))) l.filters;
+  tells : Tells (λ facts places. Each (λ i f. g.F.Propagator.means f l.fn.core facts places) l.fn.filters) l.fn.notes (g.N.View.family l.fn.n) l.notes (g.N.View.family l.n);
+  means : (facts : ℕ → Fact) (places : ℕ) → Each (λ i f. g.F.Propagator.means f l.fn.core facts places) l.fn.filters → Each (λ i f. g.F.Propagator.means f l.fn.core facts places) l.filters;
   long : length l.filters ≡ length l.fn.filters;
   waits : length l.waiting ≡ length l.fn.waiting;
   wait : WaitOrAreStable (map (λ f. g.F.Propagator.constraint f l.fn.core) l.fn.filters) l.waiting (g.N.View.family l.n);

@@ -1,4 +1,4 @@
-use Rattle.std.proofs.Common.{◌≡◌, ◌∙◌, ◌<◌, length, ap, arith}
+use Rattle.std.proofs.Common.{◌≡◌, ◌∙◌, ◌<◌, length, arith}
 use Rattle.std.specs.VecDeque.{deque_capacity}
 use Rattle.opl_closure.proofs.Queues.{count_most, queue_add}
 use Rattle.opl_closure.proofs.queue.add.Goals as goal

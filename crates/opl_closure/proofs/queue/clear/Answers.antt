@@ -1,7 +1,7 @@
 use Rattle.std.proofs.Common.{◌∙◌, arith, length-set, false, set, subst, sym}
 use Rattle.std.specs.VecDeque.{deque_capacity}
 use Rattle.opl_closure.specs.Queues.{IsQueue}
-use Rattle.opl_closure.proofs.Queues.{front_there, queue_take, none_waits}
+use Rattle.opl_closure.proofs.Queues.{front_there, queue_take}
 use Rattle.opl_closure.proofs.queue.clear.Goals as goal
 
 pub bounds-queued-i : goal.bounds-queued-i

@@ -1,4 +1,4 @@
-use Rattle.std.proofs.Common.{◌≡◌, ◌∙◌, ◌<◌, length, ap, arith}
+use Rattle.std.proofs.Common.{arith}
 use Rattle.std.specs.VecDeque.{deque_capacity}
 use Rattle.opl_closure.proofs.Queues.{has_room, queue_push}
 use Rattle.opl_closure.proofs.queue.wake.Goals as goal

@@ -1,4 +1,3 @@
-use Rattle.std.proofs.Common.{arith}
 use Rattle.opl_closure.proofs.Waking.{put_last, put_before}
 use Rattle.opl_closure.proofs.watchers.put.Goals as goal
 

@@ -1,4 +1,4 @@
-use Rattle.std.proofs.Common.{◌≡◌, ◌∙◌, ◌<◌, length, ap, arith}
+use Rattle.std.proofs.Common.{arith}
 use Rattle.opl_closure.proofs.Queues.{count_most}
 use Rattle.opl_closure.proofs.waiting.Waiting.push.Goals as goal
 

@@ -1,6 +1,6 @@
-use Rattle.std.proofs.Common.{◌∙◌, length, ap, arith, length-set, true}
+use Rattle.std.proofs.Common.{◌∙◌, ap, arith}
 use Rattle.opl_closure.specs.Waits.{waits}
-use Rattle.opl_closure.proofs.Waking.{wake_one, wake_nobody}
+use Rattle.opl_closure.proofs.Waking.{wake_one}
 use Rattle.opl_closure.proofs.waiting.Waiting.wake_there.Goals as goal
 
 pub returns-clause-woken : goal.returns-clause-woken

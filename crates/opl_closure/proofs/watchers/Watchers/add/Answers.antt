@@ -1,4 +1,4 @@
-use Rattle.std.proofs.Common.{◌≡◌, ◌∙◌, ◌<◌, ℕ, true, get_or, length, map, set, subst, sym, arith, length-set, inl, inr}
+use Rattle.std.proofs.Common.{◌≡◌, ◌∙◌, ◌<◌, true, get_or, length, map, set, subst, sym, arith, length-set, inl, inr}
 use Rattle.opl_filter.specs.Mentions.{lists}
 use Rattle.opl_closure.specs.Waits.{watches}
 use Rattle.opl_closure.proofs.Waking.{listed_at, listed_more, vec_kept, vec_put}
