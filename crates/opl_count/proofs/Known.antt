@@ -1,26 +1,24 @@
 -- What notes tell of literals.
-use Rattle.std.proofs.Common.{◌≡◌, ◌∙◌, ◌⊎◌, ℕ, ◌+◌, ◌<◌, ◌≤◌, Bool, true, false, refl, List, length, set, ap, sym, subst, arith, inl, inr}
+use Rattle.std.proofs.Common.{◌≡◌, ◌∙◌, ℕ, ◌+◌, ◌<◌, ◌≤◌, Bool, true, false, refl, List, [], ◌∷◌, length, get_or, drop, ap, sym, subst, arith, inl, inr, length-set}
 use Rattle.std.specs.Prelude.{◌^◌, ◌-◌, cond, nat_lt, Option, Some, None, slice_get}
-use Rattle.std.proofs.lemmas.Bool.{cases_lt}
-use Rattle.opl_domain.specs.Family.{Family, IsFamily, Full, Below}
+use Rattle.opl_domain.specs.Family.{Family, IsFamily}
 use Rattle.opl_expr.specs.declared.model.Core.{Core}
 use Rattle.opl_expr.specs.Forms.{Fact}
 use Rattle.opl_filter.specs.Filtering.{refutes, IsLeftOf}
 use Rattle.opl_linear.specs.Alternating.{either}
 use Rattle.opl_filter.proofs.Removals.{left_below, left_sets}
 use Rattle.opl_trail.specs.Levels.{Levels}
-use Rattle.opl_notes.specs.Noted.{is_noted, AreRight, Knows, Tells}
+use Rattle.opl_notes.specs.Noted.{is_noted, Knows, Tells}
 use Rattle.opl_notes.proofs.Rightness.{right_below, right_noted}
 use Rattle.opl_count.specs.declared.sum.Literal.{Literal}
 use Rattle.opl_count.specs.declared.sum.Sum.{Sum}
 use Rattle.opl_count.specs.declared.sum.Costs.{Costs}
 use Rattle.opl_count.specs.declared.count_filter.CountFilter.{CountFilter}
-use Rattle.opl_count.specs.Costs.{fact_of, is_over}
-use Rattle.opl_count.specs.Sums.{IsSum}
-use Rattle.opl_count.specs.Forcing.{SettlesAt, Settles, Forces}
-use Rattle.opl_count.specs.CountFilters.{IsMadeOfCounts, IsCountFor}
-use Rattle.opl_count.proofs.Prices.{within}
-use Rattle.opl_count.specs.Places.{StandFor, means_literals, means_sum, means_both, means_counts, Writes, Extends, GivesPlacesTo, GivesPlaces}
+use Rattle.opl_count.specs.Costs.{fact_of, price, prices, weights, is_over}
+use Rattle.opl_count.specs.Forcing.{SettlesAt}
+use Rattle.opl_count.proofs.Prices.{within, the_one, there_or}
+use Rattle.opl_count.proofs.Read.{price_before, price_fits}
+use Rattle.opl_count.specs.Places.{StandFor, means_literals, Writes, GivesPlacesTo, GivesPlaces}
 
 module _ (core : Core) (ls : List Literal) (first : ℕ) where
   abbrev means : (ℕ → Fact) → ℕ → Type 0
@@ -40,14 +38,45 @@ module _ (core : Core) (ls : List Literal) (first : ℕ) where
   written old new F i l true h e w = elim w [
     | inl s ↦ subst (λ z. Tells means old F z F) (sym s) (record { places = refl; below = refl; right = λ facts m r. r })
     | inr s ↦ subst (λ z. Tells means old F z F) (sym s) (record {
-      places = set_length old.top (first + i);
+      places = length-set old.top (first + i) 1;
       below = refl;
       right = λ facts m r. right_noted facts old.top F (first + i) (ap (λ c. refutes c F) (m.each i l h) ∙ sym e) r;
     })
   ]
-    where
-      set_length : (words : List ℕ) (p : ℕ) → length (set words p 1) ≡ length words
-      set_length words p = grind arith
+
+-- where a first place is there
+pub right_at : (core : Core) (ls : List Literal) (f : Option ℕ) (first : ℕ) (words : List ℕ) (F : Family) (i : ℕ) (l : Literal) → f ≡ Some first → slice_get ls i ≡ Some l → i < length ls → Knows (means_literals core ls f) words F → is_noted words (first + i) ≡ true → refutes (fact_of core l) F ≡ true
+right_at core ls f first words F i l e h m k n = known_right core ls first words F i l h m (subst (λ o. Knows (means_literals core ls o) words F) e k) n
+
+pub written_at : (core : Core) (ls : List Literal) (f : Option ℕ) (first : ℕ) (old new : Levels) (F : Family) (i : ℕ) (l : Literal) (r : Bool) → f ≡ Some first → slice_get ls i ≡ Some l → r ≡ refutes (fact_of core l) F → Writes old (first + i) r new → Tells (means_literals core ls f) old F new F
+written_at core ls f first old new F i l r e h d w = subst (λ o. Tells (means_literals core ls o) old F new F) (sym e) (written core ls first old new F i l r h d w)
+
+pub refuted_at : (core : Core) (ls : List Literal) (F : Family) (i : ℕ) (l m : Literal) (r : Bool) → slice_get ls i ≡ Some l → r ≡ refutes (fact_of core l) F → slice_get ls i ≡ Some m → r ≡ refutes (fact_of core m) F
+refuted_at core ls F i l m r h e k = e ∙ ap (λ (z : Literal). refutes (fact_of core z) F) (the_one l m (sym h ∙ k))
+
+-- what is paid for a literal, as it is refuted or not
+pub priced : (core : Core) (F : Family) (l : Literal) (b : Bool) (p : ℕ) → b ≡ refutes (fact_of core l) F → p ≡ cond b l.weight 0 → p ≡ price core F l
+priced core F l b p e h = h ∙ ap (λ c. cond c l.weight 0) e
+
+-- one literal more, from the last on
+last_there : (ls : List Literal) (i : ℕ) → 0 < i → i ≤ length ls → (l : Literal) × (slice_get ls (i - 1) ≡ Some l) × (l ≡ get_or ls (i - 1) l)
+last_there [] i p k = absurd (omega (arith, p, k))
+last_there (m ∷ ls) i p k =
+    let n : i - 1 < length (m ∷ ls) = omega (arith, p, k) in
+    let l = get_or (m ∷ ls) (i - 1) m in
+    (l, there_or (m ∷ ls) (i - 1) m n, the_one l (get_or (m ∷ ls) (i - 1) l) (sym (there_or (m ∷ ls) (i - 1) m n) ∙ there_or (m ∷ ls) (i - 1) l n))
+
+pub cost_fits : (core : Core) (F : Family) (ls : List Literal) (i n r p : ℕ) → 0 < i → i ≤ length ls → n + weights ls < 2 ^ 128 → r ≡ n + prices core F (drop i ls) → ((l : Literal) → slice_get ls (i - 1) ≡ Some l → p ≡ price core F l) → r + p < 2 ^ 128
+cost_fits core F ls i n r p a b s h e =
+    let t = last_there ls i a b in
+    let f = price_fits core F ls i t.0 n r a b t.2 s h in
+    omega (arith, f, e t.0 t.1)
+
+pub cost_next : (core : Core) (F : Family) (ls : List Literal) (i n r p : ℕ) → 0 < i → i ≤ length ls → r ≡ n + prices core F (drop i ls) → ((l : Literal) → slice_get ls (i - 1) ≡ Some l → p ≡ price core F l) → r + p ≡ n + prices core F (drop (i - 1) ls)
+cost_next core F ls i n r p a b h e =
+    let t = last_there ls i a b in
+    let f = price_before core F ls i t.0 n r a b t.2 h in
+    omega (arith, f, e t.0 t.1)
 
 -- a list that was read is the list
 pub tells_read : (core : Core) (ls xs : List Literal) (f : Option ℕ) (old new : Levels) (F G : Family) → xs ≡ ls → Tells (means_literals core xs f) old F new G → Tells (means_literals core ls f) old F new G
@@ -112,7 +141,7 @@ wider_at core ls first facts i l h =
     ∙ ap (λ k. fact_or core (slice_get ls k) (facts (first + i))) (behind first i)
     ∙ ap (λ o. fact_or core o (facts (first + i))) h
 
-abbrev placed : Sum → Option ℕ → Sum
+abbrev pub placed : Sum → Option ℕ → Sum
 placed s f = record { costs = s.costs; ties = s.ties; first_place = f }
 
 pub no_places : (s : Sum) (first : ℕ) → GivesPlacesTo s (placed s None) first first

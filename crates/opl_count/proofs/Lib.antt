@@ -1,9 +1,9 @@
 mod Notices
 mod Implied
 mod Prices
-mod Known
 mod Settling
 mod Read
+pub mod Known
 mod Both
 mod Shapes
 mod Ranges

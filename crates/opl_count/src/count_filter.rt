@@ -1,5 +1,5 @@
 //! The filter of a comparison of counting sums.
-ghost use Rattle.std.specs.Prelude.{◌≡◌, cond, IfOk};
+ghost use Rattle.std.specs.Prelude.{◌≡◌, ◌≤◌, cond, IfOk};
 ghost use Rattle.opl_domain.specs.Family.{Below};
 ghost use Rattle.opl_expr.specs.Forms.{Fact, fact, compared};
 ghost use Rattle.opl_expr.specs.Solutions.{declared};
@@ -178,13 +178,15 @@ impl CountFilter {
         }
     }
 
-    /// Gives each literal a place of notes, from `first` on, and tells the first place behind them. Where there would be more places
-    /// than 2^32 - 1, literals get none.
-    pub fn take_places(&mut self, first: u32) -> u32
-        ensures { GivesPlaces self.old self.new first result }
+    /// Gives each literal a place of notes, from `first` on, and tells the first place behind them. Where not all those of a sum are
+    /// before `end`, its literals get none.
+    pub fn take_places(&mut self, first: u32, end: u32) -> u32
+        requires { first ≤ end }
+        ensures places { GivesPlaces self.old self.new first result }
+        ensures within { result ≤ end }
     {
-        let behind = take_places(&mut self.first, first);
-        take_places(&mut self.second, behind)
+        let behind = take_places(&mut self.first, first, end);
+        take_places(&mut self.second, behind, end)
     }
 
     /// Removes values that the constraint refutes alone at that moment, until the family is stable for it, or until none within

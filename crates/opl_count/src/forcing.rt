@@ -108,14 +108,7 @@ pub fn settle<N: Narrow>(core: &Core, sum: &Sum, notes: &mut Notes, n: &mut N) -
     // No set is empty: a view says so with its number of variables.
     let _vars = n.vars();
     let literals = sum.costs.literals.as_slice();
-    let total = cost_as_noted(
-        core,
-        literals,
-        sum.first_place,
-        sum.costs.paid,
-        notes,
-        &*n,
-    );
+    let total = cost_as_noted(core, literals, sum.first_place, sum.costs.paid, notes, &*n);
     if total > sum.costs.room {
         return false;
     }

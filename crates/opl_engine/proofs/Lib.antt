@@ -6,5 +6,7 @@ pub mod Holding
 mod Lists
 mod OwnKinds
 mod Made
+mod Noting
+mod Placing
 pub mod Resting
 mod SameMembers

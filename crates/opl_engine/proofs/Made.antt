@@ -32,8 +32,9 @@ use Rattle.opl_engine.specs.declared.member.Member.TheVariants as member
 use Rattle.opl_objective_filter.specs.declared.objective_filter.ObjectiveFilter.{ObjectiveFilter}
 use Rattle.opl_objective_filter.specs.ObjectiveFilters.{goal_in, IsThereFor}
 use Rattle.opl_engine.specs.Members.{bound_fact, fact_of, fact_at, names, AreVariablesOf, IsListed, IsConstraint, IsGoal, IsObjectiveFilterIfAny, IsMember}
-use Rattle.opl_engine.specs.Crowds.{Crowd, kind_of}
-use Rattle.opl_engine.specs.Engines.{IsBounded, IsFirst, IsGrown}
+use Rattle.opl_trail.specs.Levels.{Levels}
+use Rattle.opl_engine.specs.Crowds.{Crowd, kind_of, PlacesNotes}
+use Rattle.opl_engine.specs.Engines.{IsBounded, IsFirst, IsGrown, HasPlaces}
 use Rattle.opl_engine.proofs.Lists.{the_one, length_map, map_added, drop_added, there, get_first}
 
 pub compared_same : (core : Core) (op : Op) (l r e : Expr) → l ≡ e → r ≡ e → fact core.tables core.resources (C.Cmp op l r) ≡ compared op (term core.tables core.resources e) (term core.tables core.resources e)
@@ -94,7 +95,7 @@ last_one [] x (suc i) a l e = cc
 last_one (y ∷ xs) x zero a l e = absurd (omega arith)
 last_one (y ∷ xs) x (suc i) a l e = last_one xs x i a (omega arith) e
 
-each_added : {A : Type 0} (good : A → Type 0) (xs : List A) (x : A) → Each (λ i a. good a) xs → good x → Each (λ i a. good a) (xs ++ x ∷ [])
+pub each_added : {A : Type 0} (good : A → Type 0) (xs : List A) (x : A) → Each (λ i a. good a) xs → good x → Each (λ i a. good a) (xs ++ x ∷ [])
 each_added good xs x h g i a e = elim (cases_lt i (length xs)) [
   | inl l ↦ h i a (sym (get_first xs (x ∷ []) i l) ∙ e)
   | inr l ↦ subst good (last_one xs x i a l e) g
@@ -160,8 +161,8 @@ bounded_facts core best ms b =
     first_rest (map (fact_of core) ms) (bound_fact (objective core) best)
     (slice_get-map (fact_of core) ms 0 ∙ ap (option_map (fact_of core)) b.first ∙ ap (λ c. Some c) b.same)
 
-pub grown_added : (core : Core) (P : List Fact) (crowd : Crowd) (m : Member) (w : List Bool) → IsGrown core P crowd → IsMember core m → IsGrown core (P ++ fact_of core m ∷ []) (record { variables = crowd.variables; members = crowd.members ++ m ∷ []; waits = w })
-grown_added core P crowd m w g s = record {
+pub grown_added : (core : Core) (P : List Fact) (crowd : Crowd) (m : Member) (w : List Bool) (ns : Levels) → IsGrown core P crowd → IsMember core m → IsGrown core (P ++ fact_of core m ∷ []) (record { variables = crowd.variables; members = crowd.members ++ m ∷ []; waits = w; notes = ns })
+grown_added core P crowd m w ns g s = record {
   bounded = bounded_added core None crowd.members m g.bounded;
   variables = g.variables;
   made = each_added (IsMember core) crowd.members m g.made s;
@@ -219,8 +220,8 @@ only_one : (core : Core) (m : Member) → IsMember core m → Each (λ i a. IsMe
 only_one core m s zero a h = subst (IsMember core) (the_one m a h) s
 only_one core m s (suc i) a h = cc
 
-pub begun_grown : (core : Core) (m : Member) (crowd : Crowd) → IsFirst core m → crowd ≡ record { variables = length core.sets; members = m ∷ []; waits = true ∷ [] } → IsGrown core [] crowd
-begun_grown core m crowd f e = subst (IsGrown core []) (sym e) (record {
+pub begun_grown : (core : Core) (m : Member) (crowd : Crowd) (ns : Levels) → IsFirst core m → crowd ≡ record { variables = length core.sets; members = m ∷ []; waits = true ∷ []; notes = ns } → IsGrown core [] crowd
+begun_grown core m crowd ns f e = subst (IsGrown core []) (sym e) (record {
   bounded = record { value = None; variables = f.variables; form = f.form; first = ap (λ a. Some a) f.is; same = refl };
   variables = refl;
   made = only_one core m f.made;
@@ -271,3 +272,16 @@ posted_sound core now lent c d e l i s =
 pub posted_form : (core lent : Core) (c d : Cons) (form : Option OwnFilter) → lent ≡ core → d ≡ c → IsOwnFilterIfAny lent (fact lent.tables lent.resources d) form → IsOwnFilterIfAny core (fact core.tables core.resources c) form
 posted_form core lent c d form l i f =
     subst (λ (k : Core). IsOwnFilterIfAny k (fact k.tables k.resources c) form) l (subst (λ (k : Cons). IsOwnFilterIfAny lent (fact lent.tables lent.resources k) form) i f)
+
+-- ---- places of notes
+
+pub grown_placed : (core : Core) (P : List Fact) (old new : Crowd) → IsGrown core P old → PlacesNotes old new → IsGrown core P new
+grown_placed core P old new g p = record {
+  bounded = bounded_worked core None old.members new.members p.given.kinds (p.given.constraints core) g.bounded;
+  variables = p.variables ∙ g.variables;
+  made = p.given.made core g.made;
+  posted = ap (drop 1) (p.given.constraints core) ∙ g.posted;
+}
+
+pub has_places : (core : Core) (old new : Crowd) → PlacesNotes old new → HasPlaces core new
+has_places core old new p = let f = p.given.places core in record { places = p.places; notes = p.notes; facts = f.0; meant = f.1 }

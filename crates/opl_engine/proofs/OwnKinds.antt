@@ -1,5 +1,5 @@
 -- A filter of its own is made with the core of its constraint.
-use Rattle.std.proofs.Common.{◌≡◌, ◌∙◌, ap, subst, sym}
+use Rattle.std.proofs.Common.{◌≡◌, ◌∙◌, ℕ, ap, subst, sym}
 use Rattle.std.specs.Prelude.{Option, Some, None}
 use Rattle.opl_expr.specs.declared.model.Core.{Core}
 use Rattle.opl_expr.specs.declared.forms.Cons.{Cons}
@@ -19,7 +19,7 @@ use Rattle.opl_addends.specs.declared.addends_filter.AddendsFilter.{AddendsFilte
 use Rattle.opl_addends.specs.AddendsFilters.{IsAddendsFor, ComparesAddends, IsThereFor as IsAddendsThere}
 use Rattle.opl_engine.specs.declared.own_filter.OwnFilter.{OwnFilter}
 use Rattle.opl_engine.specs.declared.own_filter.OwnFilter.TheVariants as own
-use Rattle.opl_engine.specs.OwnFilters.{IsMadeWith, IsOwnFilter, IsOwnFilterIfAny, KeepsConstraints, IsThereForAddends, IsThereForCounts, IsThereForConnectives, IsThereForDisjunctions, IsThereForDifferences, IsThereForKinds, sees_ends, sees_ends_if_any}
+use Rattle.opl_engine.specs.OwnFilters.{IsMadeWith, IsOwnFilter, IsOwnFilterIfAny, KeepsConstraints, means_own, means_if_any, IsThereForAddends, IsThereForCounts, IsThereForConnectives, IsThereForDisjunctions, IsThereForDifferences, IsThereForKinds, sees_ends, sees_ends_if_any}
 
 pub made_with : (core : Core) (c : Fact) (f : OwnFilter) → IsOwnFilter core c f → IsMadeWith core f
 made_with core c (own.Linear f) i = i.comparison.difference.made
@@ -34,8 +34,8 @@ pub own_is : (core : Core) (c : Fact) (form : Option OwnFilter) (f : OwnFilter) 
 own_is core c form f i e = subst (IsOwnFilterIfAny core c) e i
 
 -- it stays the filter of the same constraints
-pub keeps : (form : Option OwnFilter) (old new : OwnFilter) → form ≡ Some old → ((core : Core) (c : Fact) → IsOwnFilter core c old → IsOwnFilter core c new) → sees_ends new ≡ sees_ends old → KeepsConstraints form (Some new)
-keeps form old new e k s = record { constraint = λ core c i. k core c (own_is core c form old i e); ends = s ∙ sym (ap sees_ends_if_any e) }
+pub keeps : (form : Option OwnFilter) (old new : OwnFilter) → form ≡ Some old → ((core : Core) (c : Fact) → IsOwnFilter core c old → IsOwnFilter core c new) → ((core : Core) (facts : ℕ → Fact) (n : ℕ) → means_own core old facts n → means_own core new facts n) → sees_ends new ≡ sees_ends old → KeepsConstraints form (Some new)
+keeps form old new e k m s = record { constraint = λ core c i. k core c (own_is core c form old i e); means = λ core facts n i. m core facts n (subst (λ o. means_if_any core o facts n) e i); ends = s ∙ sym (ap sees_ends_if_any e) }
 
 pub reify_is : (core : Core) (c : Fact) (s : OwnFilter) (f : ReifyFilter) → s ≡ own.Reify f → IsOwnFilter core c s → IsDisjunctionFor core c f
 reify_is core c s f e i = subst (IsOwnFilter core c) e i

@@ -17,6 +17,7 @@ pub declared_same : (m : Member) (k : ℕ) (xs : List ℕ) (old new : Option Own
 declared_same m k xs old new e keep = subst (λ z. IsSameMember z (member.Declared k xs new)) (sym e) (record {
   constraint = λ core. refl;
   made = λ core i. (i.0, (i.1.0, keep.constraint core (fact_at core (slice_get core.cons k)) i.1.1));
+  means = keep.means;
   woken = λ x. ap (λ b. cond b false (lists xs x)) keep.ends;
   woken_by_ends = λ x. ap (λ b. cond b (lists xs x) false) keep.ends;
   kind = refl;
@@ -26,6 +27,7 @@ pub posted_same : (m : Member) (c : Rc Cons Global) (xs : List ℕ) (old new : O
 posted_same m c xs old new e keep = subst (λ z. IsSameMember z (member.Posted c xs new)) (sym e) (record {
   constraint = λ core. refl;
   made = λ core i. (i.0, keep.constraint core (fact core.tables core.resources c.value) i.1);
+  means = keep.means;
   woken = λ x. ap (λ b. cond b false (lists xs x)) keep.ends;
   woken_by_ends = λ x. ap (λ b. cond b (lists xs x) false) keep.ends;
   kind = refl;

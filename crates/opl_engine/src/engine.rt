@@ -117,7 +117,10 @@ impl Engine {
     {
         let variables = variables_of(alloc, self.core.as_ref(), c.as_ref())?;
         let form = OwnFilter::new(alloc, self.core.as_ref(), c.as_ref())?;
-        self.members.add(Member::Posted(c, variables, form))?;
+        let mut member = Member::Posted(c, variables, form);
+        // Notes have places for the constraints of the core alone.
+        member.take_places(0, 0);
+        self.members.add(member)?;
         Ok(())
     }
 

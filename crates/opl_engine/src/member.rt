@@ -1,5 +1,5 @@
 //! The members of an engine.
-ghost use Rattle.std.specs.Prelude.{◌≡◌, ℕ, true, Some};
+ghost use Rattle.std.specs.Prelude.{◌≡◌, ◌≤◌, ℕ, true, Some};
 ghost use Rattle.opl_domain.specs.Family.{Below};
 ghost use Rattle.opl_expr.specs.Forms.{Fact, fact};
 ghost use Rattle.opl_expr.specs.Solutions.{declared};
@@ -82,26 +82,31 @@ impl Member {
         &[]
     }
 
-    /// Gives its filter the places of notes that it wants, from `first` on, and tells the first place behind them.
-    pub fn take_places(&mut self, first: u32) -> u32
-        ensures { GivesMemberPlaces self.old self.new first result }
+    /// Gives its filter the places of notes that it wants, from `first` on as far as there are any before `end`, and tells the first
+    /// place behind them.
+    pub fn take_places(&mut self, first: u32, end: u32) -> u32
+        requires { first ≤ end }
+        ensures places { GivesMemberPlaces self.old self.new first result }
+        ensures within { result ≤ end }
     {
         match self {
             Member::Bound(_best, _variables, _form) => first,
-            Member::Declared(_place, _variables, form) => filter_takes_places(form, first),
-            Member::Posted(_constraint, _variables, form) => filter_takes_places(form, first),
+            Member::Declared(_place, _variables, form) => filter_takes_places(form, first, end),
+            Member::Posted(_constraint, _variables, form) => filter_takes_places(form, first, end),
             Member::Value(_x, _v) => first,
         }
     }
 }
 
-/// Gives a filter, if there is one, the places of notes that it wants, from `first` on, and tells the first place behind them.
-fn filter_takes_places(form: &mut Option<OwnFilter>, first: u32) -> u32
-    ensures { GivesPlacesIfAny form.old form.new first result }
+/// Gives a filter, if there is one, the places of notes that it wants, likewise.
+fn filter_takes_places(form: &mut Option<OwnFilter>, first: u32, end: u32) -> u32
+    requires { first ≤ end }
+    ensures places { GivesPlacesIfAny form.old form.new first result }
+    ensures within { result ≤ end }
 {
     match form {
         None => first,
-        Some(filter) => filter.take_places(first),
+        Some(filter) => filter.take_places(first, end),
     }
 }
 

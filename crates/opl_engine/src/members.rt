@@ -221,7 +221,7 @@ fn take_places(members: &mut [Member]) -> u32
 {
     let mut behind = 0;
     for at in 0..members.len() {
-        behind = members[at].take_places(behind);
+        behind = members[at].take_places(behind, u32::MAX);
     }
     behind
 }

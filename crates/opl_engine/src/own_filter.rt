@@ -1,5 +1,5 @@
 //! Filters of their own that some kinds of constraints have.
-ghost use Rattle.std.specs.Prelude.{◌≡◌, ℕ, ◌<◌, ◌^◌, length, IfOk};
+ghost use Rattle.std.specs.Prelude.{◌≡◌, ℕ, ◌<◌, ◌≤◌, ◌^◌, length, IfOk};
 ghost use Rattle.opl_domain.specs.Family.{Below};
 ghost use Rattle.opl_expr.specs.declared.model.Core.{Core};
 ghost use Rattle.opl_expr.specs.Forms.{Fact, fact};
@@ -135,16 +135,19 @@ impl OwnFilter {
         }
     }
 
-    /// Gives it the places of notes that it wants, from `first` on, and tells the first place behind them.
-    pub fn take_places(&mut self, first: u32) -> u32
-        ensures { GivesOwnPlaces self.old self.new first result }
+    /// Gives it the places of notes that it wants, from `first` on as far as there are any before `end`, and tells the first place
+    /// behind them.
+    pub fn take_places(&mut self, first: u32, end: u32) -> u32
+        requires { first ≤ end }
+        ensures places { GivesOwnPlaces self.old self.new first result }
+        ensures within { result ≤ end }
     {
         match self {
             OwnFilter::Linear(_filter) => first,
             OwnFilter::Different(_filter) => first,
             OwnFilter::Reify(_filter) => first,
             OwnFilter::Connective(_filter) => first,
-            OwnFilter::Count(filter) => filter.take_places(first),
+            OwnFilter::Count(filter) => filter.take_places(first, end),
             OwnFilter::Addends(_filter) => first,
         }
     }

@@ -10,4 +10,4 @@ add-requires c = λ x h. let l = member_there c.args.core.now c.args.member x c.
 pub returns : goal.returns
 returns c = λ P g.
     subst (IsGrown c.args.core.now (P ++ fact_of c.args.core.now c.args.member ∷ [])) (sym c.in_ok-add.ensures.ok)
-    (grown_added c.args.core.now P c.args.members.now c.args.member (c.args.members.now.waits ++ true ∷ []) g c.requires.member)
+    (grown_added c.args.core.now P c.args.members.now c.args.member (c.args.members.now.waits ++ true ∷ []) c.args.members.now.notes g c.requires.member)

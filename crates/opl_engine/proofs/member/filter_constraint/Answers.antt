@@ -21,4 +21,4 @@ returns-in-Some-clause-outcome g c =
     c.filter.ensures.outcome d (own_is core d c.args.form.now c.in-Some.filter c.requires.form c.in-Some.is)
 
 pub returns-in-Some-clause-form : goal.returns-in-Some-clause-form
-returns-in-Some-clause-form g c = keeps c.args.form.now c.in-Some.filter c.filter.new.self c.in-Some.is c.filter.ensures.constraint c.filter.ensures.ends
+returns-in-Some-clause-form g c = keeps c.args.form.now c.in-Some.filter c.filter.new.self c.in-Some.is c.filter.ensures.constraint c.filter.ensures.means c.filter.ensures.ends

@@ -33,16 +33,16 @@ pub returns-clause-ok : goal.returns-clause-ok
 returns-clause-ok c =
     let s = c.self.inside in
     let fits : FitsSigned w64 c.args.v = search rules in
-    (posts s.core.value s.best s.members c.add.new.self (reverse s.openings.items) (member.Value c.args.x c.args.v) (seen c.args.self.now) c.self.invariant (ap seen c.self.view_is) (rw (to_z-of_z w64 c.args.v fits) at c.in_ok-add.ensures.ok) c.add.ensures.long).posted
+    (posts s.core.value s.best s.members c.add.new.self (reverse s.openings.items) (member.Value c.args.x c.args.v) (seen c.args.self.now) c.self.invariant (ap seen c.self.view_is) (rw (to_z-of_z w64 c.args.v fits) at c.in_ok-add.ensures.ok) c.add.ensures.long (λ fs n. tt)).posted
 
 pub returns-clause-same : goal.returns-clause-same
 returns-clause-same c =
     let s = c.self.inside in
     let fits : FitsSigned w64 c.args.v = search rules in
-    (posts s.core.value s.best s.members c.add.new.self (reverse s.openings.items) (member.Value c.args.x c.args.v) (seen c.args.self.now) c.self.invariant (ap seen c.self.view_is) (rw (to_z-of_z w64 c.args.v fits) at c.in_ok-add.ensures.ok) c.add.ensures.long).same
+    (posts s.core.value s.best s.members c.add.new.self (reverse s.openings.items) (member.Value c.args.x c.args.v) (seen c.args.self.now) c.self.invariant (ap seen c.self.view_is) (rw (to_z-of_z w64 c.args.v fits) at c.in_ok-add.ensures.ok) c.add.ensures.long (λ fs n. tt)).same
 
 pub returns-clause-fits : goal.returns-clause-fits
 returns-clause-fits c =
     let s = c.self.inside in
     let fits : FitsSigned w64 c.args.v = search rules in
-    (posts s.core.value s.best s.members c.add.new.self (reverse s.openings.items) (member.Value c.args.x c.args.v) (seen c.args.self.now) c.self.invariant (ap seen c.self.view_is) (rw (to_z-of_z w64 c.args.v fits) at c.in_ok-add.ensures.ok) c.add.ensures.long).fits
+    (posts s.core.value s.best s.members c.add.new.self (reverse s.openings.items) (member.Value c.args.x c.args.v) (seen c.args.self.now) c.self.invariant (ap seen c.self.view_is) (rw (to_z-of_z w64 c.args.v fits) at c.in_ok-add.ensures.ok) c.add.ensures.long (λ fs n. tt)).fits

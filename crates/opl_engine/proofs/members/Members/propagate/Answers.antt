@@ -1,14 +1,39 @@
-use Rattle.std.proofs.Common.{◌≡◌, ◌∙◌, List, Bool, map, ap, subst, sym, refl}
+use Rattle.std.proofs.Common.{◌≡◌, ◌∙◌, ℕ, List, Bool, map, ap, subst, sym}
 use Rattle.opl_domain.specs.Family.{Family}
 use Rattle.opl_trace.specs.Removals.{Kept}
 use Rattle.opl_closure.specs.Members.{refutes_one, WaitOrAreStable, Closes}
 use Rattle.opl_engine.specs.declared.member.Member.{Member}
 use Rattle.opl_engine.specs.Crowds.{Crowd}
-use Rattle.opl_engine.specs.Members.{fact_of}
+use Rattle.opl_expr.specs.Forms.{Fact}
+use Rattle.opl_trail.specs.Levels.{Levels}
+use Rattle.opl_notes.specs.Noted.{Knows, Tells}
+use Rattle.opl_engine.specs.Members.{fact_of, means_members}
 use Rattle.opl_engine.proofs.members.Members.propagate.Goals as goal
 
-pub propagate-requires-clause-fresh : goal.propagate-requires-clause-fresh
-propagate-requires-clause-fresh g c = λ i a h. record { family = g.N.View.family c.args.n.now; full = c.vars-vars.ensures.sets.full; same = refl; fresh = tt }
+pub propagate-requires-clause-knows : goal.propagate-requires-clause-knows
+propagate-requires-clause-knows g c =
+    let core = c.args.core.now in
+    let F = g.N.View.family c.args.n.now in
+    let e : c.as_mut_slice.result.now ≡ c.args.self.now.members = c.as_mut_slice.ensures.value ∙ ap (λ (k : Crowd). k.members) c.self.view_is in
+    let w : c.self.inside.notes ≡ c.args.self.now.notes = ap (λ (k : Crowd). k.notes) c.self.view_is in
+    subst (λ (ms : List Member). Knows (means_members core ms) c.self.inside.notes.top F) (sym e)
+    (subst (λ (ns : Levels). Knows (means_members core c.args.self.now.members) ns.top F) (sym w) c.requires.knows)
+
+pub returns-clause-tells : goal.returns-clause-tells
+returns-clause-tells g c =
+    let core = c.args.core.now in
+    let F = g.N.View.family c.args.n.now in
+    let G = g.N.View.family c.propagate.new.n in
+    let e : c.as_mut_slice.result.now ≡ c.args.self.now.members = c.as_mut_slice.ensures.value ∙ ap (λ (k : Crowd). k.members) c.self.view_is in
+    let w : c.self.inside.notes ≡ c.args.self.now.notes = ap (λ (k : Crowd). k.notes) c.self.view_is in
+    subst (λ (ns : Levels). Tells (means_members core c.args.self.now.members) ns F c.propagate.new.notes G) w
+    (subst (λ (ms : List Member). Tells (means_members core ms) c.self.inside.notes F c.propagate.new.notes G) e c.propagate.ensures.tells)
+
+pub returns-clause-means : goal.returns-clause-means
+returns-clause-means g c =
+    let core = c.args.core.now in
+    let e : c.as_mut_slice.result.now ≡ c.args.self.now.members = c.as_mut_slice.ensures.value ∙ ap (λ (k : Crowd). k.members) c.self.view_is in
+    subst (λ (ms : List Member). (fs : ℕ → Fact) (n : ℕ) → means_members core ms fs n → means_members core c.propagate.new.filters fs n) e c.propagate.ensures.means
 
 pub propagate-requires-clause-wait : goal.propagate-requires-clause-wait
 propagate-requires-clause-wait g c =
