@@ -1,5 +1,5 @@
 -- What each call makes of an engine.
-use Rattle.std.proofs.Common.{◌≡◌, ◌∙◌, ◌≢◌, ℕ, zero, suc, ◌+◌, ◌<◌, ◌≤◌, Bool, true, false, refl, List, [], ◌∷◌, ◌++◌, length, map, take, drop, set, reverse, ℤ, ap, sym, subst, arith}
+use Rattle.std.proofs.Common.{◌≡◌, ◌∙◌, ◌≢◌, ℕ, suc, ◌+◌, ◌<◌, ◌≤◌, Bool, true, false, refl, List, [], ◌∷◌, ◌++◌, length, map, take, drop, set, reverse, ℤ, ap, sym, subst, arith}
 use Rattle.std.specs.Prelude.{Option, Some, None, min, not, ◌-◌}
 use Rattle.std.proofs.lemmas.List.{length-append, length-take, reverse-append}
 use Rattle.opl_domain.specs.Family.{Family, IsFamily, Below}
@@ -23,7 +23,7 @@ use Rattle.opl_engine.specs.Members.{fact_of, means_member, means_members, IsMem
 use Rattle.opl_engine.specs.Crowds.{Crowd, kind_of}
 use Rattle.opl_engine.specs.Engines.{IsBounded, IsEngine, IsBase}
 use Rattle.opl_engine.specs.States.{Level, State, Parts, seen, posted_below, closed_after, SameBeside, CanClose, Closes, Fits, state_of, level_of, AreOpenings}
-use Rattle.opl_engine.proofs.Lists.{length_map, map_added, map_take, drop_added, map_set_first, drop_set, levels_added, levels_kept, levels_set, openings_more}
+use Rattle.opl_engine.proofs.Lists.{length_map, take_all, map_added, map_take, drop_added, map_set_first, drop_set, levels_added, levels_kept, levels_set, openings_more}
 use Rattle.opl_engine.proofs.Made.{some_members, bounded_added, bounded_taken, bounded_set, bounded_worked, bounded_facts, made_added}
 use Rattle.opl_engine.proofs.Crowds.{each_taken, each_set}
 use Rattle.opl_engine.proofs.Fitting.{fits_added, fits_better, fits_opened, fits_closed, fits_narrowed, fits_new}
@@ -150,12 +150,6 @@ module _ (core : Core) where
 
   abbrev level_with : List Fact → Bool → Bool → Option ℤ → Level
   level_with P calm bounded best = record { posted = P; calm = calm; bounded = bounded; best = best }
-
-  take_all : {A : Type 0} (n : ℕ) (xs : List A) → n ≡ length xs → take n xs ≡ xs
-  take_all zero [] e = refl
-  take_all zero (x ∷ xs) e = absurd (omega (arith, e))
-  take_all (suc n) [] e = refl
-  take_all (suc n) (x ∷ xs) e = ap (λ ys. x ∷ ys) (take_all n xs (omega (arith, e)))
 
   -- the notes have one level more
   abbrev pub deeper : Crowd → Crowd

@@ -29,6 +29,16 @@ take_first zero xs ys l = refl
 take_first (suc a) [] ys l = absurd (omega arith)
 take_first (suc a) (x ∷ xs) ys l = ap (λ zs. x ∷ zs) (take_first a xs ys (omega arith))
 
+pub take_all : {A : Type 0} (n : ℕ) (xs : List A) → n ≡ length xs → take n xs ≡ xs
+take_all zero [] e = refl
+take_all zero (x ∷ xs) e = absurd (omega (arith, e))
+take_all (suc n) [] e = refl
+take_all (suc n) (x ∷ xs) e = ap (λ ys. x ∷ ys) (take_all n xs (omega (arith, e)))
+
+-- what stands in front of others is what was written there
+pub written_back : {A : Type 0} (xs ys : List A) (n : ℕ) → n ≡ length xs → take n (xs ++ drop (length xs) ys) ≡ xs
+written_back xs ys n e = take_first n xs (drop (length xs) ys) (omega (arith, e)) ∙ take_all n xs e
+
 pub map_take : {A B : Type 0} (f : A → B) (n : ℕ) (xs : List A) → map f (take n xs) ≡ take n (map f xs)
 map_take f zero xs = refl
 map_take f (suc n) [] = refl

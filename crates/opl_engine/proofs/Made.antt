@@ -1,6 +1,6 @@
 -- Members of a core as they are made.
 use Rattle.std.proofs.Common.{append-nil, add-one, get_or, ℤ, ◌≡◌, ◌∙◌, ℕ, zero, suc, ◌+◌, ◌<◌, ◌≤◌, ◌||◌, Bool, true, false, refl, List, [], ◌∷◌, ◌++◌, length, map, take, drop, set, ap, sym, subst, arith, inl, inr}
-use Rattle.std.specs.Prelude.{Option, Some, None, slice_get}
+use Rattle.std.specs.Prelude.{◌^◌, Option, Some, None, slice_get}
 use Rattle.std.specs.List.{All}
 use Rattle.std.proofs.lemmas.Bool.{cases_lt}
 use Rattle.std.proofs.lemmas.Option.{slice_get-map, slice_get-get_or}
@@ -31,10 +31,11 @@ use Rattle.opl_engine.specs.declared.member.Member.{Member}
 use Rattle.opl_engine.specs.declared.member.Member.TheVariants as member
 use Rattle.opl_objective_filter.specs.declared.objective_filter.ObjectiveFilter.{ObjectiveFilter}
 use Rattle.opl_objective_filter.specs.ObjectiveFilters.{goal_in, IsThereFor}
-use Rattle.opl_engine.specs.Members.{bound_fact, fact_of, fact_at, names, AreVariablesOf, IsListed, IsConstraint, IsGoal, IsObjectiveFilterIfAny, IsMember}
+use Rattle.opl_closure.specs.Waits.{waits}
+use Rattle.opl_engine.specs.Members.{bound_fact, fact_of, means_members, fact_at, names, AreVariablesOf, IsListed, IsConstraint, IsGoal, IsObjectiveFilterIfAny, IsMember}
 use Rattle.opl_trail.specs.Levels.{Levels}
 use Rattle.opl_engine.specs.Crowds.{Crowd, kind_of, PlacesNotes}
-use Rattle.opl_engine.specs.Engines.{IsBounded, IsFirst, IsGrown, HasPlaces}
+use Rattle.opl_engine.specs.Engines.{IsBounded, IsFirst, IsGrown, HasPlaces, IsBase}
 use Rattle.opl_engine.proofs.Lists.{the_one, length_map, map_added, drop_added, there, get_first}
 
 pub compared_same : (core : Core) (op : Op) (l r e : Expr) → l ≡ e → r ≡ e → fact core.tables core.resources (C.Cmp op l r) ≡ compared op (term core.tables core.resources e) (term core.tables core.resources e)
@@ -285,3 +286,20 @@ grown_placed core P old new g p = record {
 
 pub has_places : (core : Core) (old new : Crowd) → PlacesNotes old new → HasPlaces core new
 has_places core old new p = let f = p.given.places core in record { places = p.places; notes = p.notes; facts = f.0; meant = f.1 }
+
+pub base_made : (core : Core) (old placed new : Crowd) → length core.sets < 2 ^ 32 → IsGrown core (base core) old → PlacesNotes old placed → new.variables ≡ placed.variables → new.members ≡ placed.members → new.notes ≡ placed.notes →
+    ((i : ℕ) → i < length placed.members → waits new.waits i ≡ true) → IsBase core new
+base_made core old placed new few g p v m z w =
+    let h = grown_placed core (base core) old placed g p in
+    let k = has_places core old placed p in
+    record {
+      few = few;
+      grown = record {
+        bounded = subst (IsBounded core None) (sym m) h.bounded;
+        variables = v ∙ h.variables;
+        made = subst (λ ms. Each (λ i a. IsMember core a) ms) (sym m) h.made;
+        posted = ap (λ ms. drop 1 (map (fact_of core) ms)) m ∙ h.posted;
+      };
+      waiting = λ i l. w i (omega (arith, l, ap length m));
+      placed = record { places = k.places; notes = z ∙ k.notes; facts = k.facts; meant = subst (λ ms. means_members core ms k.facts k.places) (sym m) k.meant };
+    }

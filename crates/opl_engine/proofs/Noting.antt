@@ -1,16 +1,15 @@
 -- What notes tell as an engine works.
-use Rattle.std.proofs.Common.{◌≡◌, ◌∙◌, ℕ, refl, List, [], ◌∷◌, ◌++◌, length, take, set, replicate, ap, sym, subst}
+use Rattle.std.proofs.Common.{◌≡◌, ℕ, refl, List, [], ◌∷◌, ◌++◌, length, take, set, sym, subst}
 use Rattle.std.proofs.lemmas.List.{length-replicate}
-use Rattle.std.specs.Prelude.{slice_get, Some}
 use Rattle.opl_domain.specs.Family.{Family}
 use Rattle.opl_expr.specs.declared.model.Core.{Core}
 use Rattle.opl_expr.specs.Forms.{Fact}
 use Rattle.opl_trail.specs.Levels.{Levels}
-use Rattle.opl_notes.specs.Noted.{AreRight, Knows, Tells}
+use Rattle.opl_notes.specs.Noted.{Knows, Tells}
 use Rattle.opl_notes.proofs.Rightness.{right_new}
 use Rattle.opl_engine.specs.declared.member.Member.{Member}
 use Rattle.opl_engine.specs.Members.{means_member, means_members}
-use Rattle.opl_engine.specs.Crowds.{Crowd, no_notes}
+use Rattle.opl_engine.specs.Crowds.{Crowd}
 use Rattle.opl_engine.specs.Engines.{HasPlaces}
 use Rattle.opl_engine.specs.States.{AreRightBelow, FitNotes}
 use Rattle.opl_engine.proofs.Made.{each_added}

@@ -5,9 +5,9 @@ use Rattle.opl_expr.specs.declared.model.Core.{Core}
 use Rattle.opl_expr.specs.declared.forms.Cons.{Cons}
 use Rattle.opl_expr.specs.Forms.{Fact}
 use Rattle.opl_linear_filter.specs.declared.linear_filter.LinearFilter.{LinearFilter}
-use Rattle.opl_linear_filter.specs.LinearForms.{ComparesLinear, IsThereFor as IsComparisonThere}
+use Rattle.opl_linear_filter.specs.LinearForms.{ComparesLinear, IsFilterOf, IsThereFor as IsComparisonThere}
 use Rattle.opl_all_different.specs.declared.different_filter.DifferentFilter.{DifferentFilter}
-use Rattle.opl_all_different.specs.DifferentForms.{SeparatesVariables, IsThereFor as IsDifferenceThere}
+use Rattle.opl_all_different.specs.DifferentForms.{SeparatesVariables, IsFilterOf as IsDifferenceFor, IsThereFor as IsDifferenceThere}
 use Rattle.opl_reify.specs.declared.reify_filter.ReifyFilter.{ReifyFilter}
 use Rattle.opl_reify.specs.Disjunctions.{IsDisjunction, IsDisjunctionFor, IsThereFor as IsDisjunctionThere}
 use Rattle.opl_connective.specs.declared.connective_filter.ConnectiveFilter.{ConnectiveFilter}
@@ -36,6 +36,12 @@ own_is core c form f i e = subst (IsOwnFilterIfAny core c) e i
 -- it stays the filter of the same constraints
 pub keeps : (form : Option OwnFilter) (old new : OwnFilter) → form ≡ Some old → ((core : Core) (c : Fact) → IsOwnFilter core c old → IsOwnFilter core c new) → ((core : Core) (facts : ℕ → Fact) (n : ℕ) → means_own core old facts n → means_own core new facts n) → sees_ends new ≡ sees_ends old → KeepsConstraints form (Some new)
 keeps form old new e k m s = record { constraint = λ core c i. k core c (own_is core c form old i e); means = λ core facts n i. m core facts n (subst (λ o. means_if_any core o facts n) e i); ends = s ∙ sym (ap sees_ends_if_any e) }
+
+pub linear_is : (core : Core) (c : Fact) (s : OwnFilter) (f : LinearFilter) → s ≡ own.Linear f → IsOwnFilter core c s → IsFilterOf core c f
+linear_is core c s f e i = subst (IsOwnFilter core c) e i
+
+pub different_is : (core : Core) (c : Fact) (s : OwnFilter) (f : DifferentFilter) → s ≡ own.Different f → IsOwnFilter core c s → IsDifferenceFor core c f
+different_is core c s f e i = subst (IsOwnFilter core c) e i
 
 pub reify_is : (core : Core) (c : Fact) (s : OwnFilter) (f : ReifyFilter) → s ≡ own.Reify f → IsOwnFilter core c s → IsDisjunctionFor core c f
 reify_is core c s f e i = subst (IsOwnFilter core c) e i

@@ -1,5 +1,5 @@
 -- Places of notes, as members are given them.
-use Rattle.std.proofs.Common.{◌≡◌, ◌∙◌, ℕ, ◌+◌, ◌<◌, ◌≤◌, true, false, cond, refl, List, length, get_or, map, set, ap, sym, subst, arith}
+use Rattle.std.proofs.Common.{◌≡◌, ◌∙◌, ℕ, ◌+◌, ◌<◌, ◌≤◌, true, false, cond, refl, List, length, get_or, map, set, ap, sym, subst, arith, length-set}
 use Rattle.std.specs.Prelude.{Option, Some, None, slice_get}
 use Rattle.std.specs.declared.alloc.Global.{Global}
 use Rattle.std.specs.declared.rc.Rc.{Rc}
@@ -9,15 +9,14 @@ use Rattle.opl_expr.specs.Forms.{Fact, fact}
 use Rattle.opl_filter.specs.Mentions.{lists}
 use Rattle.opl_closure.proofs.Turns.{same_after, same_test, each_set, each_at}
 use Rattle.opl_count.specs.declared.count_filter.CountFilter.{CountFilter}
-use Rattle.opl_count.specs.Places.{Extends, GivesPlaces, means_counts}
+use Rattle.opl_count.specs.Places.{Extends, GivesPlaces}
 use Rattle.opl_count.proofs.Known.{means_on}
-use Rattle.opl_objective_filter.specs.declared.objective_filter.ObjectiveFilter.{ObjectiveFilter}
 use Rattle.opl_engine.specs.declared.own_filter.OwnFilter.{OwnFilter}
 use Rattle.opl_engine.specs.declared.own_filter.OwnFilter.TheVariants as own
-use Rattle.opl_engine.specs.OwnFilters.{IsOwnFilter, IsOwnFilterIfAny, means_own, means_if_any, GivesOwnPlaces, GivesPlacesIfAny}
+use Rattle.opl_engine.specs.OwnFilters.{means_own, means_if_any, GivesOwnPlaces, GivesPlacesIfAny}
 use Rattle.opl_engine.specs.declared.member.Member.{Member}
 use Rattle.opl_engine.specs.declared.member.Member.TheVariants as member
-use Rattle.opl_engine.specs.Members.{fact_of, fact_at, means_member, means_members, wakes_on, wakes_by_ends, IsMember}
+use Rattle.opl_engine.specs.Members.{fact_of, fact_at, means_member, wakes_on, wakes_by_ends, IsMember}
 use Rattle.opl_engine.specs.Crowds.{kind_of, GivesMemberPlaces, GivesAllPlaces}
 use Rattle.opl_engine.proofs.Lists.{there}
 
@@ -27,21 +26,27 @@ nowhere means h facts first = record { wider = facts; same = λ p l. refl; meant
 
 -- ---- a filter
 
-pub own_nowhere : (f : OwnFilter) (first : ℕ) → ((core : Core) (facts : ℕ → Fact) (n : ℕ) → means_own core f facts n) → GivesOwnPlaces f f first first
+own_nowhere : (f : OwnFilter) (first : ℕ) → ((core : Core) (facts : ℕ → Fact) (n : ℕ) → means_own core f facts n) → GivesOwnPlaces f f first first
 own_nowhere f first h = record { more = omega arith; constraint = λ core c i. i; ends = refl; places = λ core facts. nowhere (means_own core f) (h core) facts first }
+
+pub own_none : (s f : OwnFilter) (first : ℕ) → s ≡ f → ((core : Core) (facts : ℕ → Fact) (n : ℕ) → means_own core f facts n) → GivesOwnPlaces s f first first
+own_none s f first e h = subst (λ z. GivesOwnPlaces z f first first) (sym e) (own_nowhere f first h)
 
 pub own_counts : (s : OwnFilter) (f g : CountFilter) (first n : ℕ) → s ≡ own.Count f → GivesPlaces f g first n → GivesOwnPlaces s (own.Count g) first n
 own_counts s f g first n e p = subst (λ z. GivesOwnPlaces z (own.Count g) first n) (sym e) (record { more = p.more; constraint = p.filter; ends = refl; places = p.places })
 
-pub none_given : (first : ℕ) → GivesPlacesIfAny None None first first
+none_given : (first : ℕ) → GivesPlacesIfAny None None first first
 none_given first = record { more = omega arith; constraint = λ core c i. i; ends = refl; places = λ core facts. nowhere (means_if_any core None) (λ fs n. tt) facts first }
+
+pub none_there : (o : Option OwnFilter) (first : ℕ) → o ≡ None → GivesPlacesIfAny o o first first
+none_there o first e = subst (λ z. GivesPlacesIfAny z z first first) (sym e) (none_given first)
 
 pub some_given : (o : Option OwnFilter) (f g : OwnFilter) (first n : ℕ) → o ≡ Some f → GivesOwnPlaces f g first n → GivesPlacesIfAny o (Some g) first n
 some_given o f g first n e p = subst (λ z. GivesPlacesIfAny z (Some g) first n) (sym e) (record { more = p.more; constraint = p.constraint; ends = p.ends; places = p.places })
 
 -- ---- a member
 
-pub member_nowhere : (m : Member) (first : ℕ) → ((core : Core) (facts : ℕ → Fact) (n : ℕ) → means_member core m facts n) → GivesMemberPlaces m m first first
+member_nowhere : (m : Member) (first : ℕ) → ((core : Core) (facts : ℕ → Fact) (n : ℕ) → means_member core m facts n) → GivesMemberPlaces m m first first
 member_nowhere m first h = record {
   more = omega arith;
   constraint = λ core. refl;
@@ -51,6 +56,9 @@ member_nowhere m first h = record {
   kind = refl;
   places = λ core facts. nowhere (means_member core m) (h core) facts first;
 }
+
+pub member_none : (s m : Member) (first : ℕ) → s ≡ m → ((core : Core) (facts : ℕ → Fact) (n : ℕ) → means_member core m facts n) → GivesMemberPlaces s m first first
+member_none s m first e h = subst (λ z. GivesMemberPlaces z m first first) (sym e) (member_nowhere m first h)
 
 pub declared_given : (m : Member) (k : ℕ) (xs : List ℕ) (old new : Option OwnFilter) (first n : ℕ) → m ≡ member.Declared k xs old → GivesPlacesIfAny old new first n → GivesMemberPlaces m (member.Declared k xs new) first n
 declared_given m k xs old new first n e g = subst (λ z. GivesMemberPlaces z (member.Declared k xs new) first n) (sym e) (record {
@@ -97,6 +105,12 @@ member_on core (member.Declared j xs form) facts wider k n l h m = if_any_on cor
 member_on core (member.Posted c xs form) facts wider k n l h m = if_any_on core form facts wider k n l h m
 member_on core (member.Value x v) facts wider k n l h m = tt
 
+-- a member without places takes none to stand for anything
+pub means_nothing : (old new : Member) (n : ℕ) → n ≤ 0 → GivesMemberPlaces old new 0 n → (core : Core) (facts : ℕ → Fact) (k : ℕ) → means_member core new facts k
+means_nothing old new n l g core facts k =
+    let x = g.places core facts in
+    member_on core new x.wider facts n k (omega (arith, l)) (λ p q. absurd (omega (arith, l, q))) x.meant
+
 -- the first k members have places below n; all are as they were, but for their places
 pub record HasGiven (old new : List Member) (k n : ℕ) : Type 0 where
   pub constraints : (core : Core) → map (fact_of core) new ≡ map (fact_of core) old
@@ -127,14 +141,11 @@ given_next old ms k n b d y l h g = record {
   woken = same_after wakes_on ms k d y (same_test _ _ g.woken) ∙ h.woken;
   woken_by_ends = same_after wakes_by_ends ms k d y (same_test _ _ g.woken_by_ends) ∙ h.woken_by_ends;
   kinds = same_after kind_of ms k d y g.kind ∙ h.kinds;
-  long = set_length ms k y ∙ h.long;
+  long = length-set ms k y ∙ h.long;
   facts = λ core. (g.places core (h.facts core)).wider;
   meant = λ core i m j e. each_set (λ a z. a < k + 1 → means_member core z (g.places core (h.facts core)).wider b) ms k y (λ q. (g.places core (h.facts core)).meant)
       (λ a z u s q. member_on core z (h.facts core) (g.places core (h.facts core)).wider n b g.more (g.places core (h.facts core)).same (h.meant core a z (omega (arith, u, q)) s)) i m e j;
 }
-  where
-    set_length : (xs : List Member) (i : ℕ) (x : Member) → length (set xs i x) ≡ length xs
-    set_length xs i x = grind arith
 
 pub given_all : (old ms : List Member) (k n : ℕ) → length old ≤ k → HasGiven old ms k n → GivesAllPlaces old ms n
 given_all old ms k n l h = record {

@@ -181,12 +181,7 @@ fn filter_constraint<N: Narrow>(
 }
 
 /// What a member's filter does.
-fn filter_by<N: Narrow>(
-    member: &mut Member,
-    core: &Core,
-    notes: &mut Notes,
-    n: &mut N,
-) -> Outcome
+fn filter_by<N: Narrow>(member: &mut Member, core: &Core, notes: &mut Notes, n: &mut N) -> Outcome
     requires made { IsMember core.now member.old }
     requires declared { Below (N.family n.old) (declared core.now) }
     requires knows { Knows (means_member core.now member.old) notes.old.top (N.family n.old) }

@@ -1,13 +1,13 @@
-use Rattle.std.proofs.Common.{◌≡◌, ◌∙◌, ℕ, List, Bool, map, ap, subst, sym}
+use Rattle.std.proofs.Common.{◌≡◌, ◌∙◌, List, Bool, length, map, ap, subst, sym}
 use Rattle.opl_domain.specs.Family.{Family}
 use Rattle.opl_trace.specs.Removals.{Kept}
 use Rattle.opl_closure.specs.Members.{refutes_one, WaitOrAreStable, Closes}
 use Rattle.opl_engine.specs.declared.member.Member.{Member}
 use Rattle.opl_engine.specs.Crowds.{Crowd}
-use Rattle.opl_expr.specs.Forms.{Fact}
 use Rattle.opl_trail.specs.Levels.{Levels}
 use Rattle.opl_notes.specs.Noted.{Knows, Tells}
 use Rattle.opl_engine.specs.Members.{fact_of, means_members}
+use Rattle.opl_engine.proofs.Lists.{length_map, written_back}
 use Rattle.opl_engine.proofs.members.Members.propagate.Goals as goal
 
 pub propagate-requires-clause-knows : goal.propagate-requires-clause-knows
@@ -33,7 +33,10 @@ pub returns-clause-means : goal.returns-clause-means
 returns-clause-means g c =
     let core = c.args.core.now in
     let e : c.as_mut_slice.result.now ≡ c.args.self.now.members = c.as_mut_slice.ensures.value ∙ ap (λ (k : Crowd). k.members) c.self.view_is in
-    subst (λ (ms : List Member). (fs : ℕ → Fact) (n : ℕ) → means_members core ms fs n → means_members core c.propagate.new.filters fs n) e c.propagate.ensures.means
+    let xs = c.self.inside.members.items in
+    let ks = c.propagate.new.filters in
+    let n : c.self.inside.members.len ≡ length ks = c.self.inside.members.ok.0 ∙ sym (ap length c.as_mut_slice.ensures.value) ∙ sym (length_map (fact_of core) c.as_mut_slice.result.now) ∙ sym (ap length c.propagate.ensures.same) ∙ length_map (fact_of core) ks in
+    λ fs k h. subst (λ (ms : List Member). means_members core ms fs k) (sym (written_back ks xs c.self.inside.members.len n)) (c.propagate.ensures.means fs k (subst (λ (ms : List Member). means_members core ms fs k) (sym e) h))
 
 pub propagate-requires-clause-wait : goal.propagate-requires-clause-wait
 propagate-requires-clause-wait g c =
