@@ -32,3 +32,21 @@ walk_statements-loop-statement-preserved g t c = grind (arith, statements_marks,
 
 pub walk_statements-returns-in-Empty : goal.walk_statements-returns-in-Empty
 walk_statements-returns-in-Empty g t c = grind (arith, statements_marks, telling, lists)
+
+pub walk_statement-returns-after-loop-alternative : goal.walk_statement-returns-after-loop-alternative
+walk_statement-returns-after-loop-alternative g t c = grind (arith, statement_marks, telling, lists)
+
+pub walk_statement-returns-in_ok-sign-in-Branch : goal.walk_statement-returns-in_ok-sign-in-Branch
+walk_statement-returns-in_ok-sign-in-Branch g t c = grind (arith, statement_marks, telling)
+
+pub walk_statement-returns-in_ok-word-in-While : goal.walk_statement-returns-in_ok-word-in-While
+walk_statement-returns-in_ok-word-in-While g t c = grind (arith, statement_marks, telling)
+
+pub walk_statement-returns-after-fails : goal.walk_statement-returns-after-fails
+walk_statement-returns-after-fails g t c = grind (arith, statement_marks, telling)
+
+pub walk_statement-returns-in_ok-walk_post-in-Label : goal.walk_statement-returns-in_ok-walk_post-in-Label
+walk_statement-returns-in_ok-walk_post-in-Label g t c = grind (arith, statement_marks, telling)
+
+pub walk_statements-returns-after-is_closed : goal.walk_statements-returns-after-is_closed
+walk_statements-returns-after-is_closed g t c = grind (arith, statements_marks, telling, lists)

@@ -1,0 +1,7 @@
+use Rattle.std.proofs.Common.{arith}
+use Rattle.opl_tree.proofs.Marks.{ordered_params_marks}
+use Rattle.opl_walk.proofs.Telling.{telling}
+use Rattle.opl_walk.proofs.search.walk_ordered_params.Goals as goal
+
+pub returns : goal.returns
+returns g c = grind (arith, ordered_params_marks, telling)
