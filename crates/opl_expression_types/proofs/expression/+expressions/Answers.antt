@@ -1,12 +1,13 @@
-use Rattle.std.proofs.Common.{Err, Ok, Some, [], ap, arith, drop, map, refl, rules, subst, sym, ◌++◌, ◌+◌, ◌∙◌, ◌∷◌}
+use Rattle.std.proofs.Common.{Err, Ok, Some, [], ap, arith, drop, map, refl, subst, sym, ◌++◌, ◌+◌, ◌∙◌, ◌∷◌}
+use Rattle.std.proofs.lemmas.Grind.{common_steps}
 use Rattle.std.specs.Option.{option_map}
 use Rattle.opl_expression_types.proofs.Loops.{back_alone, back_made, back_wrong, cell_fault, cell_wrong, chain_made, chain_wrong, first_fault, first_typed, front_wrong, key_fault, key_wrong, last_added, last_fault, last_wrong, none_left, pair_added, pairs_end, part_added, part_fault, part_wrong, parts_end}
 use Rattle.opl_expression_types.proofs.Opening.{condition_fault, condition_taken, condition_wrong, described_fault, described_made, described_wrong, ended_with, group_fault, group_here, group_made, group_opened, groups_begin, groups_end, link_added, link_fault, link_wrong, no_condition, params_fault, post_fault, suffix_added, suffix_element, suffix_fault, suffix_field, suffixes_end, wrongly}
-use Rattle.opl_expression_types.proofs.Typing.{rules_of_forms, rules_of_parts, rules_of_sets, typing-arithmetic, typing-connected}
+use Rattle.opl_expression_types.proofs.Typing.{rules_of_forms, rules_of_pairs, rules_of_parts, rules_of_sets, typing-arithmetic, typing-connected}
 use Rattle.opl_expression_types.specs.Values.{opened_in}
 use Rattle.opl_tree.specs.declared.expression.CompareTree.TheViews.{out-AddTree, out-AndTree, out-ExprTree, out-GroupStep, out-GroupTree, out-KeyedTree, out-LastStep, out-OrTree, out-ParamsTree, out-PostTree, out-SubscriptsTree}
 use Rattle.opl_type_rules.proofs.Chains.{gives-same}
-use Rattle.opl_type_rules.proofs.Forms.{add_forms, add_step_forms, and_forms, compare_forms, expr_forms, form_add-is, form_and-is, form_expr-is, form_group-is, form_group_step-is, form_keyed-is, form_last_step-is, form_mul-Product, form_or-is, form_params-is, form_post-is, form_subscripts-is, form_suffix-Field, form_suffix-Subscripts, imp_forms, mul_forms, mul_step_forms, neg_forms, open_forms, or_forms, prim_forms, set_forms, sign_forms}
+use Rattle.opl_type_rules.proofs.Forms.{add_forms, add_step_forms, and_forms, compare_forms, expr_forms, form_add-is, form_and-is, form_expr-is, form_group-is, form_group_step-is, form_keyed-is, form_last_step-is, form_mul-Product, form_or-is, form_params-is, form_post-is, form_subscripts-is, form_suffix-Field, form_suffix-Subscripts, group_forms, imp_forms, keyed_forms, mul_forms, mul_step_forms, neg_forms, open_forms, or_forms, params_forms, post_forms, prim_forms, set_forms, sign_forms, suffix_forms}
 use Rattle.opl_type_rules.proofs.Steps.{typing-suffixes}
 use Rattle.opl_type_rules.specs.Expressions.{all_sorts, made, open_groups, open_params, typed_parts, typing}
 use Rattle.opl_type_rules.specs.Expressions.Need.{data_alone}
@@ -22,7 +23,7 @@ use Rattle.opl_expression_types.proofs.expression.+expressions.Goals as goal
 pub expr-returns-in_err-parts : goal.expr-returns-in_err-parts
 expr-returns-in_err-parts t c =
     let h = chain_wrong (within c.args.model.now c.args.locals.now) (connected (out-ExprTree c.args.t.now).at) (λ ns. made (out-ExprTree c.args.t.now).at bool ns (all_sorts is_truth ns)) (typing-connected _ (out-ExprTree c.args.t.now).at) (form_expr c.args.t.now) (form_imp (out-ExprTree c.args.t.now).first) (map form_imp (out-ExprTree c.args.t.now).rest) (map form_imp c.as_slice.result.now) (form_expr-is c.args.t.now) (ap (map form_imp) c.as_slice.ensures) (none_left form_imp (out-ExprTree c.args.t.now).rest c.if-is_empty.ensures.1) c.in_ok-first.first c.in_ok-first.ensures c.in_err-parts.field-0.0 c.in_err-parts.ensures in
-    search rules
+    grind (arith)
 
 pub expr-returns : goal.expr-returns
 expr-returns t c =
@@ -31,12 +32,12 @@ expr-returns t c =
 pub imps-returns-in_err-imp : goal.imps-returns-in_err-imp
 imps-returns-in_err-imp t c =
     let h = part_fault (within c.args.model.now c.args.locals.now) form_imp _ c.args.rest.now c.loop-t.t-index c.loop-t.found c.loop-t.invariant c.t-item.result c.loop-t-test.true c.t-item.is c.in_err-imp.field-0.0 c.in_err-imp.ensures in
-    search rules
+    grind (arith)
 
 pub imps-returns-in_err-part-2 : goal.imps-returns-in_err-part-2
 imps-returns-in_err-part-2 t c =
     let h = part_wrong (within c.args.model.now c.args.locals.now) form_imp _ c.args.rest.now c.loop-t.t-index c.loop-t.found c.loop-t.invariant c.t-item.result c.loop-t-test.true c.t-item.is c.in_ok-imp.field-0 c.in_ok-imp.ensures c.in_err-part-2.field-0.0 c.in_err-part-2.ensures in
-    search rules
+    grind (arith)
 
 pub imps-loop-t-preserved : goal.imps-loop-t-preserved
 imps-loop-t-preserved t c =
@@ -49,7 +50,7 @@ imps-returns t c =
 pub or-returns-in_err-parts : goal.or-returns-in_err-parts
 or-returns-in_err-parts t c =
     let h = chain_wrong (within c.args.model.now c.args.locals.now) (connected (out-OrTree c.args.t.now).at) (λ ns. made (out-OrTree c.args.t.now).at bool ns (all_sorts is_truth ns)) (typing-connected _ (out-OrTree c.args.t.now).at) (form_or c.args.t.now) (form_and (out-OrTree c.args.t.now).first) (map form_and (out-OrTree c.args.t.now).rest) (map form_and c.as_slice.result.now) (form_or-is c.args.t.now) (ap (map form_and) c.as_slice.ensures) (none_left form_and (out-OrTree c.args.t.now).rest c.if-is_empty.ensures.1) c.in_ok-first.first c.in_ok-first.ensures c.in_err-parts.field-0.0 c.in_err-parts.ensures in
-    search rules
+    grind (arith)
 
 pub or-returns : goal.or-returns
 or-returns t c =
@@ -58,12 +59,12 @@ or-returns t c =
 pub ands-returns-in_err-and : goal.ands-returns-in_err-and
 ands-returns-in_err-and t c =
     let h = part_fault (within c.args.model.now c.args.locals.now) form_and _ c.args.rest.now c.loop-t.t-index c.loop-t.found c.loop-t.invariant c.t-item.result c.loop-t-test.true c.t-item.is c.in_err-and.field-0.0 c.in_err-and.ensures in
-    search rules
+    grind (arith)
 
 pub ands-returns-in_err-part-2 : goal.ands-returns-in_err-part-2
 ands-returns-in_err-part-2 t c =
     let h = part_wrong (within c.args.model.now c.args.locals.now) form_and _ c.args.rest.now c.loop-t.t-index c.loop-t.found c.loop-t.invariant c.t-item.result c.loop-t-test.true c.t-item.is c.in_ok-and.field-0 c.in_ok-and.ensures c.in_err-part-2.field-0.0 c.in_err-part-2.ensures in
-    search rules
+    grind (arith)
 
 pub ands-loop-t-preserved : goal.ands-loop-t-preserved
 ands-loop-t-preserved t c =
@@ -76,7 +77,7 @@ ands-returns t c =
 pub and-returns-in_err-parts : goal.and-returns-in_err-parts
 and-returns-in_err-parts t c =
     let h = chain_wrong (within c.args.model.now c.args.locals.now) (connected (out-AndTree c.args.t.now).at) (λ ns. made (out-AndTree c.args.t.now).at bool ns (all_sorts is_truth ns)) (typing-connected _ (out-AndTree c.args.t.now).at) (form_and c.args.t.now) (form_neg (out-AndTree c.args.t.now).first) (map form_neg (out-AndTree c.args.t.now).rest) (map form_neg c.as_slice.result.now) (form_and-is c.args.t.now) (ap (map form_neg) c.as_slice.ensures) (none_left form_neg (out-AndTree c.args.t.now).rest c.if-is_empty.ensures.1) c.in_ok-first.first c.in_ok-first.ensures c.in_err-parts.field-0.0 c.in_err-parts.ensures in
-    search rules
+    grind (arith)
 
 pub and-returns : goal.and-returns
 and-returns t c =
@@ -85,12 +86,12 @@ and-returns t c =
 pub negs-returns-in_err-neg : goal.negs-returns-in_err-neg
 negs-returns-in_err-neg t c =
     let h = part_fault (within c.args.model.now c.args.locals.now) form_neg _ c.args.rest.now c.loop-t.t-index c.loop-t.found c.loop-t.invariant c.t-item.result c.loop-t-test.true c.t-item.is c.in_err-neg.field-0.0 c.in_err-neg.ensures in
-    search rules
+    grind (arith)
 
 pub negs-returns-in_err-part-2 : goal.negs-returns-in_err-part-2
 negs-returns-in_err-part-2 t c =
     let h = part_wrong (within c.args.model.now c.args.locals.now) form_neg _ c.args.rest.now c.loop-t.t-index c.loop-t.found c.loop-t.invariant c.t-item.result c.loop-t-test.true c.t-item.is c.in_ok-neg.field-0 c.in_ok-neg.ensures c.in_err-part-2.field-0.0 c.in_err-part-2.ensures in
-    search rules
+    grind (arith)
 
 pub negs-loop-t-preserved : goal.negs-loop-t-preserved
 negs-loop-t-preserved t c =
@@ -103,7 +104,7 @@ negs-returns t c =
 pub add-returns-in_err-parts : goal.add-returns-in_err-parts
 add-returns-in_err-parts t c =
     let h = chain_wrong (within c.args.model.now c.args.locals.now) (arithmetic (out-AddTree c.args.t.now).at) (λ ns. made (out-AddTree c.args.t.now).at int ns (all_sorts is_number ns)) (typing-arithmetic _ (out-AddTree c.args.t.now).at) (form_add c.args.t.now) (form_mul (out-AddTree c.args.t.now).first) (map form_add_step (out-AddTree c.args.t.now).rest) (map form_add_step c.as_slice.result.now) (form_add-is c.args.t.now) (ap (map form_add_step) c.as_slice.ensures) (none_left form_add_step (out-AddTree c.args.t.now).rest c.if-is_empty.ensures.1) c.in_ok-first.first c.in_ok-first.ensures c.in_err-parts.field-0.0 c.in_err-parts.ensures in
-    search rules
+    grind (arith)
 
 pub add-returns : goal.add-returns
 add-returns t c =
@@ -112,12 +113,12 @@ add-returns t c =
 pub add_steps-returns-in_err-add_step : goal.add_steps-returns-in_err-add_step
 add_steps-returns-in_err-add_step t c =
     let h = part_fault (within c.args.model.now c.args.locals.now) form_add_step _ c.args.rest.now c.loop-t.t-index c.loop-t.found c.loop-t.invariant c.t-item.result c.loop-t-test.true c.t-item.is c.in_err-add_step.field-0.0 c.in_err-add_step.ensures in
-    search rules
+    grind (arith)
 
 pub add_steps-returns-in_err-part-2 : goal.add_steps-returns-in_err-part-2
 add_steps-returns-in_err-part-2 t c =
     let h = part_wrong (within c.args.model.now c.args.locals.now) form_add_step _ c.args.rest.now c.loop-t.t-index c.loop-t.found c.loop-t.invariant c.t-item.result c.loop-t-test.true c.t-item.is c.in_ok-add_step.field-0 c.in_ok-add_step.ensures c.in_err-part-2.field-0.0 c.in_err-part-2.ensures in
-    search rules
+    grind (arith)
 
 pub add_steps-loop-t-preserved : goal.add_steps-loop-t-preserved
 add_steps-loop-t-preserved t c =
@@ -130,7 +131,7 @@ add_steps-returns t c =
 pub mul-returns-in_err-parts-in-Product : goal.mul-returns-in_err-parts-in-Product
 mul-returns-in_err-parts-in-Product t c =
     let h = front_wrong (within c.args.model.now c.args.locals.now) (arithmetic c.in-Product.at) (λ ns. made c.in-Product.at int ns (all_sorts is_number ns)) (typing-arithmetic _ c.in-Product.at) (form_mul c.args.t.now) (form_sign c.in-Product.first) (map form_mul_step c.in-Product.steps) (map form_mul_step c.as_slice-in-Product.result.now) (or_none (option_map form_last_step c.in-Product.last)) (ap form_mul c.in-Product.is ∙ form_mul-Product c.in-Product.at c.in-Product.first c.in-Product.steps c.in-Product.last) (ap (map form_mul_step) c.as_slice-in-Product.ensures) (λ e. c.if-is_alone.ensures.1 (ap (λ ss. map form_mul_step ss ++ or_none (option_map form_last_step c.in-Product.last)) c.as_slice.ensures ∙ e)) c.in_ok-first-in-Product.first c.in_ok-first-in-Product.ensures c.in_err-parts-in-Product.field-0.0 c.in_err-parts-in-Product.ensures in
-    search rules
+    grind (arith)
 
 pub mul-returns-in-None : goal.mul-returns-in-None
 mul-returns-in-None t c =
@@ -143,7 +144,7 @@ mul-returns-in_err-all-in-Some t c =
     (gives-same (map node_of) (and_then (typed_parts (within c.args.model.now c.args.locals.now) (forms_of (or_none (option_map form_last_step c.in-Product.last)))) (λ ns. Ok (map node_of c.in_ok-parts-in-Product.parts ++ ns))) _ (Err c.in_err-all-in-Some.field-0.0)
     (ap (λ gs. and_then (typed_parts (within c.args.model.now c.args.locals.now) (forms_of gs)) (λ ns. Ok (map node_of c.in_ok-parts-in-Product.parts ++ ns))) (ap (λ o. or_none (option_map form_last_step o)) c.in-Some.is))
     c.in_err-all-in-Some.ensures) in
-    search rules
+    grind (arith)
 
 pub mul-returns-in_ok-all-in-Some : goal.mul-returns-in_ok-all-in-Some
 mul-returns-in_ok-all-in-Some t c =
@@ -154,12 +155,12 @@ mul-returns-in_ok-all-in-Some t c =
 pub with_last-returns-in_err-open : goal.with_last-returns-in_err-open
 with_last-returns-in_err-open t c =
     let h = last_fault (within c.args.model.now c.args.locals.now) _ c.args.parts (form_open (out-LastStep c.args.last.now).factor) (ap (λ f. and_then (typed_parts (within c.args.model.now c.args.locals.now) (forms_of (f ∷ []))) (λ ns. Ok (map node_of c.args.parts ++ ns))) (form_last_step-is c.args.last.now)) c.in_err-open.field-0.0 c.in_err-open.ensures in
-    search rules
+    grind (arith)
 
 pub with_last-returns-in_err-part : goal.with_last-returns-in_err-part
 with_last-returns-in_err-part t c =
     let h = last_wrong (within c.args.model.now c.args.locals.now) _ c.args.parts (form_open (out-LastStep c.args.last.now).factor) (ap (λ f. and_then (typed_parts (within c.args.model.now c.args.locals.now) (forms_of (f ∷ []))) (λ ns. Ok (map node_of c.args.parts ++ ns))) (form_last_step-is c.args.last.now)) c.in_ok-open.field-0 c.in_ok-open.ensures c.in_err-part.field-0.0 c.in_err-part.ensures in
-    search rules
+    grind (arith)
 
 pub with_last-returns : goal.with_last-returns
 with_last-returns t c =
@@ -168,12 +169,12 @@ with_last-returns t c =
 pub mul_steps-returns-in_err-mul_step : goal.mul_steps-returns-in_err-mul_step
 mul_steps-returns-in_err-mul_step t c =
     let h = part_fault (within c.args.model.now c.args.locals.now) form_mul_step _ c.args.rest.now c.loop-t.t-index c.loop-t.found c.loop-t.invariant c.t-item.result c.loop-t-test.true c.t-item.is c.in_err-mul_step.field-0.0 c.in_err-mul_step.ensures in
-    search rules
+    grind (arith)
 
 pub mul_steps-returns-in_err-part-2 : goal.mul_steps-returns-in_err-part-2
 mul_steps-returns-in_err-part-2 t c =
     let h = part_wrong (within c.args.model.now c.args.locals.now) form_mul_step _ c.args.rest.now c.loop-t.t-index c.loop-t.found c.loop-t.invariant c.t-item.result c.loop-t-test.true c.t-item.is c.in_ok-mul_step.field-0 c.in_ok-mul_step.ensures c.in_err-part-2.field-0.0 c.in_err-part-2.ensures in
-    search rules
+    grind (arith)
 
 pub mul_steps-loop-t-preserved : goal.mul_steps-loop-t-preserved
 mul_steps-loop-t-preserved t c =
@@ -186,7 +187,7 @@ mul_steps-returns t c =
 pub post-returns-in_err-first : goal.post-returns-in_err-first
 post-returns-in_err-first t c =
     let h = post_fault (within c.args.model.now c.args.locals.now) (out-PostTree c.args.t.now).at (form_post c.args.t.now) (form_prim (out-PostTree c.args.t.now).prim) (map form_suffix (out-PostTree c.args.t.now).suffixes) (form_post-is c.args.t.now) c.in_err-first.field-0.0 c.in_err-first.ensures in
-    search rules
+    grind (arith)
 
 pub post-loop-suffix-init : goal.post-loop-suffix-init
 post-loop-suffix-init t c =
@@ -197,12 +198,12 @@ post-loop-suffix-init t c =
 pub post-returns-in_err-base : goal.post-returns-in_err-base
 post-returns-in_err-base t c =
     let h = suffix_fault (within c.args.model.now c.args.locals.now) (out-PostTree c.args.t.now).at form_suffix (typing (within c.args.model.now c.args.locals.now) (form_post c.args.t.now)) c.as_slice-suffix-items.result.now c.loop-suffix.suffix-index (chained c.loop-suffix.chain) c.loop-suffix.invariant c.suffix-item.result c.loop-suffix-test.true c.suffix-item.is c.in_err-base.field-0.0 (link_wrong (within c.args.model.now c.args.locals.now) (out-PostTree c.args.t.now).at c.loop-suffix.chain (form_suffix c.suffix-item.result) c.bare.result c.bare.ensures c.in_err-base.field-0.0 c.in_err-base.ensures) in
-    search rules
+    grind (arith)
 
 pub post-returns-in_err-next : goal.post-returns-in_err-next
 post-returns-in_err-next t c =
     let h = suffix_fault (within c.args.model.now c.args.locals.now) (out-PostTree c.args.t.now).at form_suffix (typing (within c.args.model.now c.args.locals.now) (form_post c.args.t.now)) c.as_slice-suffix-items.result.now c.loop-suffix.suffix-index (chained c.loop-suffix.chain) c.loop-suffix.invariant c.suffix-item.result c.loop-suffix-test.true c.suffix-item.is c.in_err-next.field-0.0 (link_fault (within c.args.model.now c.args.locals.now) (out-PostTree c.args.t.now).at c.loop-suffix.chain (form_suffix c.suffix-item.result) c.bare.result c.bare.ensures c.in_ok-base.base c.in_ok-base.ensures c.in_err-next.field-0.0 c.in_err-next.ensures) in
-    search rules
+    grind (arith)
 
 pub post-loop-suffix-preserved : goal.post-loop-suffix-preserved
 post-loop-suffix-preserved t c =
@@ -225,7 +226,7 @@ with_suffix-returns-in-Field t c =
 pub subscripts-returns-in_err-first : goal.subscripts-returns-in_err-first
 subscripts-returns-in_err-first t c =
     let h = first_fault (within c.args.model.now c.args.locals.now) form_add (form_subscripts c.args.t.now) (form_add c.get.result.now) (out-SubscriptsTree c.args.t.now).rest (out-SubscriptsTree c.args.t.now).rest (form_subscripts-is c.args.t.now ∙ ap (λ x. form_add x ∷ map form_add (out-SubscriptsTree c.args.t.now).rest) (sym c.get.ensures)) c.in_err-first.field-0.0 c.in_err-first.ensures in
-    search rules
+    grind (arith)
 
 pub subscripts-returns : goal.subscripts-returns
 subscripts-returns t c =
@@ -236,12 +237,12 @@ subscripts-returns t c =
 pub adds-returns-in_err-add : goal.adds-returns-in_err-add
 adds-returns-in_err-add t c =
     let h = part_fault (within c.args.model.now c.args.locals.now) form_add _ c.args.rest.now c.loop-t.t-index c.loop-t.found c.loop-t.invariant c.t-item.result c.loop-t-test.true c.t-item.is c.in_err-add.field-0.0 c.in_err-add.ensures in
-    search rules
+    grind (arith)
 
 pub adds-returns-in_err-part-2 : goal.adds-returns-in_err-part-2
 adds-returns-in_err-part-2 t c =
     let h = part_wrong (within c.args.model.now c.args.locals.now) form_add _ c.args.rest.now c.loop-t.t-index c.loop-t.found c.loop-t.invariant c.t-item.result c.loop-t-test.true c.t-item.is c.in_ok-add.field-0 c.in_ok-add.ensures c.in_err-part-2.field-0.0 c.in_err-part-2.ensures in
-    search rules
+    grind (arith)
 
 pub adds-loop-t-preserved : goal.adds-loop-t-preserved
 adds-loop-t-preserved t c =
@@ -254,12 +255,12 @@ adds-returns t c =
 pub all_adds-returns-in_err-add : goal.all_adds-returns-in_err-add
 all_adds-returns-in_err-add t c =
     let h = part_fault (within c.args.model.now c.args.locals.now) form_add _ c.args.parts.now c.loop-t.t-index c.loop-t.found c.loop-t.invariant c.t-item.result c.loop-t-test.true c.t-item.is c.in_err-add.field-0.0 c.in_err-add.ensures in
-    search rules
+    grind (arith)
 
 pub all_adds-returns-in_err-part : goal.all_adds-returns-in_err-part
 all_adds-returns-in_err-part t c =
     let h = part_wrong (within c.args.model.now c.args.locals.now) form_add _ c.args.parts.now c.loop-t.t-index c.loop-t.found c.loop-t.invariant c.t-item.result c.loop-t-test.true c.t-item.is c.in_ok-add.field-0 c.in_ok-add.ensures c.in_err-part.field-0.0 c.in_err-part.ensures in
-    search rules
+    grind (arith)
 
 pub all_adds-loop-t-preserved : goal.all_adds-loop-t-preserved
 all_adds-loop-t-preserved t c =
@@ -272,22 +273,22 @@ all_adds-returns t c =
 pub pairs-returns-in_err-add : goal.pairs-returns-in_err-add
 pairs-returns-in_err-add t c =
     let h = key_fault (within c.args.model.now c.args.locals.now) form_keyed _ c.args.parts.now c.loop-t.t-index c.loop-t.found c.loop-t.invariant c.t-item.result c.loop-t-test.true c.t-item.is (form_add (out-KeyedTree c.t-item.result).key) (form_add (out-KeyedTree c.t-item.result).value) (form_keyed-is c.t-item.result) c.in_err-add.field-0.0 c.in_err-add.ensures in
-    search rules
+    grind (arith)
 
 pub pairs-returns-in_err-part : goal.pairs-returns-in_err-part
 pairs-returns-in_err-part t c =
     let h = key_wrong (within c.args.model.now c.args.locals.now) form_keyed _ c.args.parts.now c.loop-t.t-index c.loop-t.found c.loop-t.invariant c.t-item.result c.loop-t-test.true c.t-item.is (form_add (out-KeyedTree c.t-item.result).key) (form_add (out-KeyedTree c.t-item.result).value) (form_keyed-is c.t-item.result) c.in_ok-add.field-0 c.in_ok-add.ensures c.in_err-part.field-0.0 c.in_err-part.ensures in
-    search rules
+    grind (arith)
 
 pub pairs-returns-in_err-add-2 : goal.pairs-returns-in_err-add-2
 pairs-returns-in_err-add-2 t c =
     let h = cell_fault (within c.args.model.now c.args.locals.now) form_keyed _ c.args.parts.now c.loop-t.t-index c.loop-t.found c.loop-t.invariant c.t-item.result c.loop-t-test.true c.t-item.is (form_add (out-KeyedTree c.t-item.result).key) (form_add (out-KeyedTree c.t-item.result).value) (form_keyed-is c.t-item.result) c.in_ok-add.field-0 c.in_ok-part.field-0 c.in_ok-add.ensures c.in_ok-part.ensures c.in_err-add-2.field-0.0 c.in_err-add-2.ensures in
-    search rules
+    grind (arith)
 
 pub pairs-returns-in_err-part-2 : goal.pairs-returns-in_err-part-2
 pairs-returns-in_err-part-2 t c =
     let h = cell_wrong (within c.args.model.now c.args.locals.now) form_keyed _ c.args.parts.now c.loop-t.t-index c.loop-t.found c.loop-t.invariant c.t-item.result c.loop-t-test.true c.t-item.is (form_add (out-KeyedTree c.t-item.result).key) (form_add (out-KeyedTree c.t-item.result).value) (form_keyed-is c.t-item.result) c.in_ok-add.field-0 c.in_ok-part.field-0 c.in_ok-add.ensures c.in_ok-part.ensures c.in_ok-add-2.field-0 c.in_ok-add-2.ensures c.in_err-part-2.field-0.0 c.in_err-part-2.ensures in
-    search rules
+    grind (arith)
 
 pub pairs-loop-t-preserved : goal.pairs-loop-t-preserved
 pairs-loop-t-preserved t c =
@@ -300,12 +301,12 @@ pairs-returns t c =
 pub described_set-returns-in_err-add-in-Ok : goal.described_set-returns-in_err-add-in-Ok
 described_set-returns-in_err-add-in-Ok t c =
     let h = described_fault (within c.args.model.now c.args.locals.now) c.args.at (form_add c.args.value.now) (form_params c.args.params.now) (opened_in c.args.model.now c.in-Ok.opened) (subst (Gives (opened_in c.args.model.now) (open_params data_alone (within c.args.model.now c.args.locals.now) (form_params c.args.params.now))) c.in-Ok.is c.requires) (within c.args.model.now c.in-Ok.opened.locals) refl c.in_err-add-in-Ok.field-0.0 c.in_err-add-in-Ok.ensures in
-    search rules
+    grind (arith)
 
 pub described_set-returns-in_err-value-in-Ok : goal.described_set-returns-in_err-value-in-Ok
 described_set-returns-in_err-value-in-Ok t c =
     let h = described_wrong (within c.args.model.now c.args.locals.now) c.args.at (form_add c.args.value.now) (form_params c.args.params.now) (opened_in c.args.model.now c.in-Ok.opened) (subst (Gives (opened_in c.args.model.now) (open_params data_alone (within c.args.model.now c.args.locals.now) (form_params c.args.params.now))) c.in-Ok.is c.requires) (within c.args.model.now c.in-Ok.opened.locals) refl c.in_ok-add-in-Ok.field-0 c.in_ok-add-in-Ok.ensures c.in_err-value-in-Ok.field-0.0 c.in_err-value-in-Ok.ensures in
-    search rules
+    grind (arith)
 
 pub described_set-returns-in_ok-value-in-Ok : goal.described_set-returns-in_ok-value-in-Ok
 described_set-returns-in_ok-value-in-Ok t c =
@@ -327,7 +328,7 @@ open_group-returns t c =
 pub open_groups-returns-in_err-open_group : goal.open_groups-returns-in_err-open_group
 open_groups-returns-in_err-open_group t c =
     let h = group_fault (λ (u : Unit {0}). opened_in c.args.model.now c.open_group.new.opened) (opened_in c.args.model.now) (open_groups (within c.args.model.now c.args.locals.now) (groups_of (form_group (out-ParamsTree c.args.t.now).first ∷ map form_group_step (out-ParamsTree c.args.t.now).rest))) (opened_in c.args.model.now (record { locals = c.in_ok-copied.field-0; kinds = c.new.result })) (form_group (out-ParamsTree c.args.t.now).first) (map form_group_step (out-ParamsTree c.args.t.now).rest) (groups_begin c.args.model.now c.args.locals.now c.in_ok-copied.field-0 c.new.result c.in_ok-copied.ensures c.new.ensures (form_group (out-ParamsTree c.args.t.now).first ∷ map form_group_step (out-ParamsTree c.args.t.now).rest)) c.in_err-open_group.field-0.0 c.in_err-open_group.ensures in
-    search rules
+    grind (arith)
 
 pub open_groups-loop-step-init : goal.open_groups-loop-step-init
 open_groups-loop-step-init t c =
@@ -337,7 +338,7 @@ open_groups-loop-step-init t c =
 pub open_groups-returns-in_err-open_group-2 : goal.open_groups-returns-in_err-open_group-2
 open_groups-returns-in_err-open_group-2 t c =
     let h = group_fault (λ (u : Unit {0}). opened_in c.args.model.now c.open_group-in-loop-step.new.opened) (opened_in c.args.model.now) (open_groups (within c.args.model.now c.args.locals.now) (groups_of (form_group (out-ParamsTree c.args.t.now).first ∷ map form_group_step (out-ParamsTree c.args.t.now).rest))) (opened_in c.args.model.now c.loop-step.opened) (form_group (out-GroupStep c.step-item.result).group) (map form_group_step (drop (c.loop-step.step-index + 1) c.as_slice-step-items.result.now)) (group_here form_group_step (open_groups (within c.args.model.now c.args.locals.now) (groups_of (form_group (out-ParamsTree c.args.t.now).first ∷ map form_group_step (out-ParamsTree c.args.t.now).rest))) (opened_in c.args.model.now c.loop-step.opened) c.as_slice-step-items.result.now c.loop-step.step-index c.loop-step.invariant c.step-item.result c.loop-step-test.true c.step-item.is (form_group (out-GroupStep c.step-item.result).group) (form_group_step-is c.step-item.result)) c.in_err-open_group-2.field-0.0 c.in_err-open_group-2.ensures in
-    search rules
+    grind (arith)
 
 pub open_groups-loop-step-preserved : goal.open_groups-loop-step-preserved
 open_groups-loop-step-preserved t c =
@@ -350,7 +351,7 @@ open_groups-returns t c =
 pub open_params-returns-in_err-opened : goal.open_params-returns-in_err-opened
 open_params-returns-in_err-opened t c =
     let h = params_fault (opened_in c.args.model.now) (within c.args.model.now c.args.locals.now) (need_of c.args.need) (form_params c.args.t.now) (form_group (out-ParamsTree c.args.t.now).first ∷ map form_group_step (out-ParamsTree c.args.t.now).rest) (form_group (out-ParamsTree c.args.t.now).first ∷ map form_group_step (out-ParamsTree c.args.t.now).rest) (option_map form_expr (out-ParamsTree c.args.t.now).condition) (form_params-is c.args.t.now) refl c.in_err-opened.field-0.0 c.in_err-opened.ensures in
-    search rules
+    grind (arith)
 
 pub open_params-returns-in-None : goal.open_params-returns-in-None
 open_params-returns-in-None t c =
@@ -359,12 +360,12 @@ open_params-returns-in-None t c =
 pub open_params-returns-in_err-node-in-Some : goal.open_params-returns-in_err-node-in-Some
 open_params-returns-in_err-node-in-Some t c =
     let h = condition_fault (within c.args.model.now c.args.locals.now) (need_of c.args.need) (form_params c.args.t.now) (form_group (out-ParamsTree c.args.t.now).first ∷ map form_group_step (out-ParamsTree c.args.t.now).rest) (form_group (out-ParamsTree c.args.t.now).first ∷ map form_group_step (out-ParamsTree c.args.t.now).rest) (option_map form_expr (out-ParamsTree c.args.t.now).condition) (form_params-is c.args.t.now) refl (form_expr c.get.result.now) (ap (option_map form_expr) c.in-Some.is ∙ ap (λ x. Some (form_expr x)) (sym c.get.ensures)) (opened_in c.args.model.now c.in_ok-opened.opened) c.in_ok-opened.ensures (within c.args.model.now c.in_ok-opened.opened.locals) refl (opened_in c.args.model.now) c.in_err-node-in-Some.field-0.0 c.in_err-node-in-Some.ensures in
-    search rules
+    grind (arith)
 
 pub open_params-returns-in_err-settled-in-Some : goal.open_params-returns-in_err-settled-in-Some
 open_params-returns-in_err-settled-in-Some t c =
     let h = condition_wrong (within c.args.model.now c.args.locals.now) (need_of c.args.need) (form_params c.args.t.now) (form_group (out-ParamsTree c.args.t.now).first ∷ map form_group_step (out-ParamsTree c.args.t.now).rest) (form_group (out-ParamsTree c.args.t.now).first ∷ map form_group_step (out-ParamsTree c.args.t.now).rest) (option_map form_expr (out-ParamsTree c.args.t.now).condition) (form_params-is c.args.t.now) refl (form_expr c.get.result.now) (ap (option_map form_expr) c.in-Some.is ∙ ap (λ x. Some (form_expr x)) (sym c.get.ensures)) (opened_in c.args.model.now c.in_ok-opened.opened) c.in_ok-opened.ensures (within c.args.model.now c.in_ok-opened.opened.locals) refl c.in_ok-node-in-Some.node c.in_ok-node-in-Some.ensures c.is_truth-is_taken.result (c.is_truth-is_taken.ensures ∙ ap (λ x. is_truth (sort x)) c.get-in-Some.ensures) (opened_in c.args.model.now) c.in_err-settled-in-Some.field-0.0 c.in_err-settled-in-Some.ensures in
-    search rules
+    grind (arith)
 
 pub open_params-returns-in_ok-add_kinds-in-Some : goal.open_params-returns-in_ok-add_kinds-in-Some
 open_params-returns-in_ok-add_kinds-in-Some t c =
@@ -639,3 +640,126 @@ prim-returns-in_err-argument-in-Question t c = grind (arith, prim_forms, rules_o
 
 pub prim-returns-in_ok-argument-in-Question : goal.prim-returns-in_ok-argument-in-Question
 prim-returns-in_ok-argument-in-Question t c = grind (arith, prim_forms, rules_of_forms, rules_of_parts)
+
+pub add_steps-loop-t-init : goal.add_steps-loop-t-init
+add_steps-loop-t-init t c = grind (arith, rules_of_parts, common_steps)
+
+pub add_steps-returns-in_err-push : goal.add_steps-returns-in_err-push
+add_steps-returns-in_err-push t c = grind (arith, rules_of_parts)
+
+pub add_steps-returns-in_err-push-2 : goal.add_steps-returns-in_err-push-2
+add_steps-returns-in_err-push-2 t c = grind (arith, rules_of_parts)
+
+pub adds-loop-t-init : goal.adds-loop-t-init
+adds-loop-t-init t c = grind (arith, rules_of_parts, common_steps)
+
+pub adds-returns-in_err-push : goal.adds-returns-in_err-push
+adds-returns-in_err-push t c = grind (arith, rules_of_parts)
+
+pub adds-returns-in_err-push-2 : goal.adds-returns-in_err-push-2
+adds-returns-in_err-push-2 t c = grind (arith, rules_of_parts)
+
+pub all_adds-loop-t-init : goal.all_adds-loop-t-init
+all_adds-loop-t-init t c = grind (arith, rules_of_parts, common_steps)
+
+pub all_adds-returns-in_err-push : goal.all_adds-returns-in_err-push
+all_adds-returns-in_err-push t c = grind (arith, rules_of_parts)
+
+pub ands-loop-t-init : goal.ands-loop-t-init
+ands-loop-t-init t c = grind (arith, rules_of_parts, common_steps)
+
+pub ands-returns-in_err-push : goal.ands-returns-in_err-push
+ands-returns-in_err-push t c = grind (arith, rules_of_parts)
+
+pub ands-returns-in_err-push-2 : goal.ands-returns-in_err-push-2
+ands-returns-in_err-push-2 t c = grind (arith, rules_of_parts)
+
+pub described_set-returns-then-is_memory : goal.described_set-returns-then-is_memory
+described_set-returns-then-is_memory t c = grind (arith, common_steps)
+
+pub imp-returns-in_err-two-in-Some : goal.imp-returns-in_err-two-in-Some
+imp-returns-in_err-two-in-Some t c = grind (arith, imp_forms, rules_of_forms, rules_of_parts)
+
+pub imps-loop-t-init : goal.imps-loop-t-init
+imps-loop-t-init t c = grind (arith, rules_of_parts, common_steps)
+
+pub imps-returns-in_err-push : goal.imps-returns-in_err-push
+imps-returns-in_err-push t c = grind (arith, rules_of_parts)
+
+pub imps-returns-in_err-push-2 : goal.imps-returns-in_err-push-2
+imps-returns-in_err-push-2 t c = grind (arith, rules_of_parts)
+
+pub mul_steps-loop-t-init : goal.mul_steps-loop-t-init
+mul_steps-loop-t-init t c = grind (arith, rules_of_parts, common_steps)
+
+pub mul_steps-returns-in_err-push : goal.mul_steps-returns-in_err-push
+mul_steps-returns-in_err-push t c = grind (arith, rules_of_parts)
+
+pub mul_steps-returns-in_err-push-2 : goal.mul_steps-returns-in_err-push-2
+mul_steps-returns-in_err-push-2 t c = grind (arith, rules_of_parts)
+
+pub neg-returns-in_err-one-in-Not : goal.neg-returns-in_err-one-in-Not
+neg-returns-in_err-one-in-Not t c = grind (arith, neg_forms, rules_of_forms, rules_of_parts)
+
+pub negs-loop-t-init : goal.negs-loop-t-init
+negs-loop-t-init t c = grind (arith, rules_of_parts, common_steps)
+
+pub negs-returns-in_err-push : goal.negs-returns-in_err-push
+negs-returns-in_err-push t c = grind (arith, rules_of_parts)
+
+pub negs-returns-in_err-push-2 : goal.negs-returns-in_err-push-2
+negs-returns-in_err-push-2 t c = grind (arith, rules_of_parts)
+
+pub open_group-returns-in_err-all_fresh : goal.open_group-returns-in_err-all_fresh
+open_group-returns-in_err-all_fresh t c = grind (arith, group_forms)
+
+pub open_group-returns-in_err-append : goal.open_group-returns-in_err-append
+open_group-returns-in_err-append t c = grind (arith, group_forms)
+
+pub open_group-returns-in_err-bind_patterns : goal.open_group-returns-in_err-bind_patterns
+open_group-returns-in_err-bind_patterns t c = grind (arith, group_forms)
+
+pub open_group-returns-in_err-element : goal.open_group-returns-in_err-element
+open_group-returns-in_err-element t c = grind (arith, group_forms)
+
+pub open_group-returns-in_err-kinds_in : goal.open_group-returns-in_err-kinds_in
+open_group-returns-in_err-kinds_in t c = grind (arith, group_forms)
+
+pub open_group-returns-in_err-over : goal.open_group-returns-in_err-over
+open_group-returns-in_err-over t c = grind (arith, group_forms)
+
+pub open_groups-returns-in_err-copied : goal.open_groups-returns-in_err-copied
+open_groups-returns-in_err-copied t c = grind (arith, common_steps)
+
+pub open_params-returns-in_err-add_kinds-in-Some : goal.open_params-returns-in_err-add_kinds-in-Some
+open_params-returns-in_err-add_kinds-in-Some t c = grind (arith, params_forms)
+
+pub pairs-loop-t-init : goal.pairs-loop-t-init
+pairs-loop-t-init t c = grind (arith, keyed_forms, rules_of_pairs, common_steps)
+
+pub pairs-returns-in_err-push : goal.pairs-returns-in_err-push
+pairs-returns-in_err-push t c = grind (arith, keyed_forms, rules_of_pairs)
+
+pub pairs-returns-in_err-push-2 : goal.pairs-returns-in_err-push-2
+pairs-returns-in_err-push-2 t c = grind (arith, keyed_forms, rules_of_pairs)
+
+pub post-returns-in_err-chain : goal.post-returns-in_err-chain
+post-returns-in_err-chain t c = grind (arith, post_forms)
+
+pub with_last-returns-in_err-push : goal.with_last-returns-in_err-push
+with_last-returns-in_err-push t c = grind (arith, common_steps)
+
+pub with_suffix-returns-in_err-parts-in-Subscripts : goal.with_suffix-returns-in_err-parts-in-Subscripts
+with_suffix-returns-in_err-parts-in-Subscripts t c = grind (arith, suffix_forms)
+
+pub wrongly_described-returns : goal.wrongly_described-returns
+wrongly_described-returns t c = grind (arith, common_steps)
+
+pub wrongly_described-returns-in_err-add : goal.wrongly_described-returns-in_err-add
+wrongly_described-returns-in_err-add t c = grind (arith, common_steps)
+
+pub wrongly_described-returns-in_err-part : goal.wrongly_described-returns-in_err-part
+wrongly_described-returns-in_err-part t c = grind (arith, common_steps)
+
+pub wrongly_described-returns-in_err-unknown : goal.wrongly_described-returns-in_err-unknown
+wrongly_described-returns-in_err-unknown t c = grind (arith, common_steps)
