@@ -57,9 +57,9 @@ told-joined-end f g level m xs i v h = ap (λ ys. told f g level (joined (map m 
 pub told-behind-end : {V A : Type 0} (f : Part → V → V) (g : ℕ → V → V) (level : ℕ) (s : Sign) (m : A → Marks) (xs : List A) (i : ℕ) (v : V) → length xs ≤ i → told f g level (behind s (map m (drop i xs))) v ≡ v
 told-behind-end f g level s m xs i v h = ap (λ ys. told f g level (behind s (map m ys)) v) (drop_all i xs h)
 
--- the parts of a list before one are told
-abbrev pub ToldTo : {V A : Type 0} → (Part → V → V) → (ℕ → V → V) → ℕ → (List A → Marks) → List A → ℕ → V → V → Type 0
-ToldTo f g level ms xs i before v = told f g level (ms (drop i xs)) v ≡ told f g level (ms xs) before
+-- the parts of a list before one are told, if the visitor is whole
+abbrev pub ToldTo : {V A : Type 0} → (V → Bool) → (Part → V → V) → (ℕ → V → V) → ℕ → (List A → Marks) → List A → ℕ → V → V → Type 0
+ToldTo is_whole f g level ms xs i before v = is_whole v ≡ true → (is_whole before ≡ true) × (told f g level (ms (drop i xs)) v ≡ told f g level (ms xs) before)
 
 pub ruleset telling = (told-append, told-raised, raised-append, capped-more)
 

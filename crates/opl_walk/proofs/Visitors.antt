@@ -1,5 +1,5 @@
 -- What the two visitors are once marks are told to them.
-use Rattle.std.proofs.Common.{◌≡◌, ◌<◌, ℕ, ◌+◌, max, [], ◌∷◌, ◌++◌, refl, ap, ◌∙◌, sym, append_assoc, append-nil, arith}
+use Rattle.std.proofs.Common.{◌≡◌, ◌<◌, ℕ, ◌+◌, max, [], ◌∷◌, ◌++◌, ◌∙◌, sym, append_assoc, append-nil, arith}
 use Rattle.opl_tree.specs.Marks.{place, token, unbraced, opens, Marks}
 use Rattle.opl_tree.specs.Spelling.{kind_of, kinds_of}
 use Rattle.opl_tree.specs.Depth.{depth_of}

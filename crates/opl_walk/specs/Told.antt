@@ -1,5 +1,5 @@
 -- What a visitor becomes when marks are told to it.
-use Rattle.std.specs.Prelude.{ℕ, ◌+◌, min, Bool, true, false, List, [], ◌∷◌}
+use Rattle.std.specs.Prelude.{◌≡◌, ℕ, ◌+◌, min, Bool, true, false, List, [], ◌∷◌}
 use Rattle.opl_token.specs.declared.sign.Sign.{Sign}
 use Rattle.opl_tree.specs.Marks.{Part, place, token, unbraced, opens, Marks, behind, several}
 
@@ -19,3 +19,7 @@ told on_token on_level level (opens k ∷ ms) v = told on_token on_level level m
 abbrev pub listed : Bool → Sign → List Marks → Marks
 listed true s ms = several s ms
 listed false s ms = behind s ms
+
+-- if a visitor is whole now, it was before, and has become what f makes of it
+abbrev pub Follows : {V : Type 0} → (V → Bool) → V → (V → V) → V → Type 0
+Follows is_whole old f new = is_whole new ≡ true → (is_whole old ≡ true) × (new ≡ f old)

@@ -1,5 +1,5 @@
 //! How deep trees nest.
-ghost use Rattle.std.specs.Prelude.{◌≡◌, ◌<◌, ◌^◌};
+ghost use Rattle.std.specs.Prelude.{◌≡◌, ◌<◌, ◌^◌, true};
 ghost use Rattle.opl_data.specs.Marks.{marks_file};
 ghost use Rattle.opl_tree.specs.Depth.{depth_of};
 ghost use Rattle.opl_tree.specs.Marks.{marks_model};
@@ -11,7 +11,6 @@ use crate::visitor::Visitor;
 use opl_data::DataTree;
 use opl_token::Sign;
 use opl_tree::{Keyword, ModelTree};
-use std::convert::Infallible;
 
 /// Remembers the greatest level that it is told.
 #[derive(Drop)]
@@ -20,37 +19,26 @@ struct Depth {
 }
 
 impl Visitor for Depth {
-    type Fault = Infallible;
+    ghost is_whole = { λ depth. true };
 
     ghost token = { λ p depth. depth };
 
     ghost opens = { deepened };
 
-    fn word(&mut self, _word: Keyword) -> Result<(), Infallible> {
-        Ok(())
-    }
+    fn word(&mut self, _word: Keyword) {}
 
-    fn sign(&mut self, _sign: Sign) -> Result<(), Infallible> {
-        Ok(())
-    }
+    fn sign(&mut self, _sign: Sign) {}
 
-    fn name(&mut self, _text: &[u8]) -> Result<(), Infallible> {
-        Ok(())
-    }
+    fn name(&mut self, _text: &[u8]) {}
 
-    fn field(&mut self, _text: &[u8]) -> Result<(), Infallible> {
-        Ok(())
-    }
+    fn field(&mut self, _text: &[u8]) {}
 
-    fn number(&mut self, _number: i128) -> Result<(), Infallible> {
-        Ok(())
-    }
+    fn number(&mut self, _number: i128) {}
 
-    fn opens(&mut self, level: u32) -> Result<(), Infallible> {
+    fn opens(&mut self, level: u32) {
         if self.greatest < level {
             self.greatest = level;
         }
-        Ok(())
     }
 }
 
@@ -61,10 +49,8 @@ pub fn depth_model(t: &ModelTree) -> u32
     ensures { result ≡ depth_of (marks_model t.now) }
 {
     let mut depth = Depth { greatest: 0 };
-    match walk_model(t, &mut depth) {
-        Ok(()) => depth.greatest,
-        Err(never) => match never {},
-    }
+    walk_model(t, &mut depth);
+    depth.greatest
 }
 
 /// How many levels a data file nests.
@@ -74,8 +60,6 @@ pub fn depth_data(t: &DataTree) -> u32
     ensures { result ≡ depth_of (marks_file t.now) }
 {
     let mut depth = Depth { greatest: 0 };
-    match walk_data(t, &mut depth) {
-        Ok(()) => depth.greatest,
-        Err(never) => match never {},
-    }
+    walk_data(t, &mut depth);
+    depth.greatest
 }

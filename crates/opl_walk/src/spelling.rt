@@ -1,8 +1,9 @@
 //! How trees are spelt.
-ghost use Rattle.std.specs.Prelude.{◌≡◌, IfOk};
+ghost use Rattle.std.specs.Prelude.{◌≡◌, [], true, IfOk};
 ghost use Rattle.opl_data.specs.Marks as files;
 ghost use Rattle.opl_tree.specs.Spelling.{spelling};
-ghost use Rattle.opl_walk.specs.Visitors.{written};
+ghost use Rattle.opl_walk.specs.Told.{Follows};
+ghost use Rattle.opl_walk.specs.Visitors.{added, has_all, written};
 
 use crate::data::walk_data;
 use crate::model::walk_model;
@@ -18,39 +19,51 @@ use std::alloc::{AllocError, Global};
 struct Spelling {
     alloc: Global,
     kinds: Seq<Kind>,
+    lacks_memory: bool,
+}
+
+impl Spelling {
+    /// Writes a token down.
+    fn write(&mut self, kind: Kind)
+        ensures { Follows has_all self.old (added kind) self.new }
+    {
+        if self.kinds.push(kind).is_err() {
+            self.lacks_memory = true;
+        }
+    }
 }
 
 impl Visitor for Spelling {
-    type Fault = AllocError;
+    ghost is_whole = { has_all };
 
     ghost token = { written };
 
     ghost opens = { λ k spelling. spelling };
 
-    fn word(&mut self, word: Keyword) -> Result<(), AllocError> {
-        self.name(word.text())
+    fn word(&mut self, word: Keyword) {
+        self.name(word.text());
     }
 
-    fn sign(&mut self, sign: Sign) -> Result<(), AllocError> {
-        self.kinds.push(Kind::Sign(sign))
+    fn sign(&mut self, sign: Sign) {
+        self.write(Kind::Sign(sign));
     }
 
-    fn name(&mut self, text: &[u8]) -> Result<(), AllocError> {
-        self.kinds
-            .push(Kind::Word(Seq::from_slice(self.alloc, text)?))
+    fn name(&mut self, text: &[u8]) {
+        match Seq::from_slice(self.alloc, text) {
+            Ok(word) => self.write(Kind::Word(word)),
+            Err(AllocError) => self.lacks_memory = true,
+        }
     }
 
-    fn field(&mut self, text: &[u8]) -> Result<(), AllocError> {
-        self.name(text)
+    fn field(&mut self, text: &[u8]) {
+        self.name(text);
     }
 
-    fn number(&mut self, number: i128) -> Result<(), AllocError> {
-        self.kinds.push(Kind::Number(number))
+    fn number(&mut self, number: i128) {
+        self.write(Kind::Number(number));
     }
 
-    fn opens(&mut self, _level: u32) -> Result<(), AllocError> {
-        Ok(())
-    }
+    fn opens(&mut self, _level: u32) {}
 }
 
 /// The tokens of a model's tree.
@@ -58,12 +71,9 @@ impl Visitor for Spelling {
 pub fn spell_model(alloc: Global, t: &ModelTree) -> Result<Seq<Kind>, AllocError>
     ensures { IfOk result (λ kinds. kinds ≡ spelling t.now) }
 {
-    let mut spelling = Spelling {
-        alloc,
-        kinds: Seq::new(alloc),
-    };
-    walk_model(t, &mut spelling)?;
-    Ok(spelling.kinds)
+    let mut spelling = nothing_yet(alloc);
+    walk_model(t, &mut spelling);
+    all_kinds(spelling)
 }
 
 /// The tokens of a data file's tree.
@@ -71,10 +81,28 @@ pub fn spell_model(alloc: Global, t: &ModelTree) -> Result<Seq<Kind>, AllocError
 pub fn spell_data(alloc: Global, t: &DataTree) -> Result<Seq<Kind>, AllocError>
     ensures { IfOk result (λ kinds. kinds ≡ files.spelling t.now) }
 {
-    let mut spelling = Spelling {
+    let mut spelling = nothing_yet(alloc);
+    walk_data(t, &mut spelling);
+    all_kinds(spelling)
+}
+
+/// No token so far.
+fn nothing_yet(alloc: Global) -> Spelling
+    ensures { result.kinds ≡ [] }
+{
+    Spelling {
         alloc,
         kinds: Seq::new(alloc),
-    };
-    walk_data(t, &mut spelling)?;
+        lacks_memory: false,
+    }
+}
+
+/// The tokens that were written down, if there was memory for all of them.
+fn all_kinds(spelling: Spelling) -> Result<Seq<Kind>, AllocError>
+    ensures { IfOk result (λ kinds. (has_all spelling ≡ true) × (kinds ≡ spelling.kinds)) }
+{
+    if spelling.lacks_memory {
+        return Err(AllocError);
+    }
     Ok(spelling.kinds)
 }

@@ -21,20 +21,20 @@ walk_value-returns-in-Number g t c = grind (arith, value_marks, telling)
 pub walk_value-returns-in-Named : goal.walk_value-returns-in-Named
 walk_value-returns-in-Named g t c = grind (arith, value_marks, telling)
 
-pub walk_value-returns-in_ok-walk_values-in-Record :
-    goal.walk_value-returns-in_ok-walk_values-in-Record
-walk_value-returns-in_ok-walk_values-in-Record g t c = grind (arith, value_marks, telling)
+pub walk_value-returns-in-Record :
+    goal.walk_value-returns-in-Record
+walk_value-returns-in-Record g t c = grind (arith, value_marks, telling)
 
-pub walk_value-returns-in_ok-walk_values-in-Set : goal.walk_value-returns-in_ok-walk_values-in-Set
-walk_value-returns-in_ok-walk_values-in-Set g t c = grind (arith, value_marks, telling)
+pub walk_value-returns-in-Set : goal.walk_value-returns-in-Set
+walk_value-returns-in-Set g t c = grind (arith, value_marks, telling)
 
-pub walk_value-returns-in_ok-walk_values-in-Array :
-    goal.walk_value-returns-in_ok-walk_values-in-Array
-walk_value-returns-in_ok-walk_values-in-Array g t c = grind (arith, value_marks, telling)
+pub walk_value-returns-in-Array :
+    goal.walk_value-returns-in-Array
+walk_value-returns-in-Array g t c = grind (arith, value_marks, telling)
 
-pub walk_value-returns-in_ok-walk_pairs-in-KeyedArray :
-    goal.walk_value-returns-in_ok-walk_pairs-in-KeyedArray
-walk_value-returns-in_ok-walk_pairs-in-KeyedArray g t c = grind (arith, value_marks, telling)
+pub walk_value-returns-in-KeyedArray :
+    goal.walk_value-returns-in-KeyedArray
+walk_value-returns-in-KeyedArray g t c = grind (arith, value_marks, telling)
 
 pub walk_values-loop-value-init : goal.walk_values-loop-value-init
 walk_values-loop-value-init g t c = grind (arith, separated)

@@ -9,5 +9,5 @@ returns-in-Int g t c = grind (arith, type_marks, telling)
 pub returns-in-Named : goal.returns-in-Named
 returns-in-Named g t c = grind (arith, type_marks, telling)
 
-pub returns-in_ok-walk_type-in-Set : goal.returns-in_ok-walk_type-in-Set
-returns-in_ok-walk_type-in-Set g t c = grind (arith, type_marks, telling)
+pub returns-in-Set : goal.returns-in-Set
+returns-in-Set g t c = grind (arith, type_marks, telling)

@@ -5,4 +5,4 @@ use Rattle.opl_walk.proofs.Telling.{ToldTo}
 use Rattle.opl_walk.proofs.declaration.walk_dims.Given as goal
 
 abbrev pub invariant-loop-dim : goal.invariant-loop-dim
-invariant-loop-dim g l = ToldTo g.V.Visitor.token g.V.Visitor.opens l.inner (λ ts. behind signs.Comma (map marks_dim ts)) l.dim-items l.dim-index l.initial.visitor l.visitor
+invariant-loop-dim g l = ToldTo g.V.Visitor.is_whole g.V.Visitor.token g.V.Visitor.opens l.inner (λ ts. behind signs.Comma (map marks_dim ts)) l.dim-items l.dim-index l.initial.visitor l.visitor

@@ -36,11 +36,11 @@ walk_and-returns g t c = grind (arith, and_marks, telling, lists)
 pub walk_compare-returns-in-Single : goal.walk_compare-returns-in-Single
 walk_compare-returns-in-Single g t c = grind (arith, compare_marks, telling)
 
-pub walk_compare-returns-in_ok-sign-in-Related : goal.walk_compare-returns-in_ok-sign-in-Related
-walk_compare-returns-in_ok-sign-in-Related g t c = grind (arith, compare_marks, telling)
+pub walk_compare-returns-in-Related : goal.walk_compare-returns-in-Related
+walk_compare-returns-in-Related g t c = grind (arith, compare_marks, telling)
 
-pub walk_compare-returns-in_ok-word-in-Member : goal.walk_compare-returns-in_ok-word-in-Member
-walk_compare-returns-in_ok-word-in-Member g t c = grind (arith, compare_marks, telling)
+pub walk_compare-returns-in-Member : goal.walk_compare-returns-in-Member
+walk_compare-returns-in-Member g t c = grind (arith, compare_marks, telling)
 
 pub walk_expr-loop-imp-init : goal.walk_expr-loop-imp-init
 walk_expr-loop-imp-init g t c = grind (arith, expr_marks, telling, lists)
@@ -63,8 +63,11 @@ walk_group-returns g t c = grind (arith, group_marks, telling, lists)
 pub walk_group_step-returns : goal.walk_group_step-returns
 walk_group_step-returns g t c = grind (arith, group_step_marks, telling)
 
-pub walk_imp-returns : goal.walk_imp-returns
-walk_imp-returns g t c = grind (arith, imp_marks, telling)
+pub walk_imp-returns-in-Some : goal.walk_imp-returns-in-Some
+walk_imp-returns-in-Some g t c = grind (arith, imp_marks, telling)
+
+pub walk_imp-returns-in_default : goal.walk_imp-returns-in_default
+walk_imp-returns-in_default g t c = grind (arith, imp_marks, telling)
 
 pub walk_keyed-returns : goal.walk_keyed-returns
 walk_keyed-returns g t c = grind (arith, keyed_marks, telling)
@@ -81,24 +84,27 @@ walk_mul-loop-step-preserved g t c = grind (arith, mul_marks, telling, lists)
 pub walk_mul-returns-in-Opened : goal.walk_mul-returns-in-Opened
 walk_mul-returns-in-Opened g t c = grind (arith, mul_marks, telling, lists)
 
-pub walk_mul-returns-after-last : goal.walk_mul-returns-after-last
-walk_mul-returns-after-last g t c = grind (arith, mul_marks, telling, lists)
+pub walk_mul-returns-in-Some : goal.walk_mul-returns-in-Some
+walk_mul-returns-in-Some g t c = grind (arith, mul_marks, telling, lists)
+
+pub walk_mul-returns-in_default : goal.walk_mul-returns-in_default
+walk_mul-returns-in_default g t c = grind (arith, mul_marks, telling, lists)
 
 pub walk_mul_step-returns : goal.walk_mul_step-returns
 walk_mul_step-returns g t c = grind (arith, mul_step_marks, telling)
 
-pub walk_neg-returns-in_ok-inner-in-Not : goal.walk_neg-returns-in_ok-inner-in-Not
-walk_neg-returns-in_ok-inner-in-Not g t c = grind (arith, neg_marks, telling)
+pub walk_neg-returns-in-Not : goal.walk_neg-returns-in-Not
+walk_neg-returns-in-Not g t c = grind (arith, neg_marks, telling)
 
 pub walk_neg-returns-in-Compare : goal.walk_neg-returns-in-Compare
 walk_neg-returns-in-Compare g t c = grind (arith, neg_marks, telling)
 
-pub walk_open-returns-in_ok-inner-in-NegativeOpen :
-    goal.walk_open-returns-in_ok-inner-in-NegativeOpen
-walk_open-returns-in_ok-inner-in-NegativeOpen g t c = grind (arith, open_marks, telling)
+pub walk_open-returns-in-NegativeOpen :
+    goal.walk_open-returns-in-NegativeOpen
+walk_open-returns-in-NegativeOpen g t c = grind (arith, open_marks, telling)
 
-pub walk_open-returns-in_ok-sign-in-Aggregate : goal.walk_open-returns-in_ok-sign-in-Aggregate
-walk_open-returns-in_ok-sign-in-Aggregate g t c = grind (arith, open_marks, telling)
+pub walk_open-returns-in-Aggregate : goal.walk_open-returns-in-Aggregate
+walk_open-returns-in-Aggregate g t c = grind (arith, open_marks, telling)
 
 pub walk_or-loop-and-init : goal.walk_or-loop-and-init
 walk_or-loop-and-init g t c = grind (arith, or_marks, telling, lists)
@@ -124,8 +130,11 @@ walk_params-loop-step-init g t c = grind (arith, params_marks, telling, lists)
 pub walk_params-loop-step-preserved : goal.walk_params-loop-step-preserved
 walk_params-loop-step-preserved g t c = grind (arith, params_marks, telling, lists)
 
-pub walk_params-returns : goal.walk_params-returns
-walk_params-returns g t c = grind (arith, params_marks, telling, lists)
+pub walk_params-returns-in-Some : goal.walk_params-returns-in-Some
+walk_params-returns-in-Some g t c = grind (arith, params_marks, telling, lists)
+
+pub walk_params-returns-in_default : goal.walk_params-returns-in_default
+walk_params-returns-in_default g t c = grind (arith, params_marks, telling, lists)
 
 pub walk_post-loop-suffix-init : goal.walk_post-loop-suffix-init
 walk_post-loop-suffix-init g t c = grind (arith, post_marks, telling, lists)
@@ -142,43 +151,46 @@ walk_prim-returns-in-Number g t c = grind (arith, prim_marks, telling)
 pub walk_prim-returns-in-Named : goal.walk_prim-returns-in-Named
 walk_prim-returns-in-Named g t c = grind (arith, prim_marks, telling)
 
-pub walk_prim-returns-in_ok-walk_expr-in-Bracket :
-    goal.walk_prim-returns-in_ok-walk_expr-in-Bracket
-walk_prim-returns-in_ok-walk_expr-in-Bracket g t c = grind (arith, prim_marks, telling)
+pub walk_prim-returns-in-Bracket :
+    goal.walk_prim-returns-in-Bracket
+walk_prim-returns-in-Bracket g t c = grind (arith, prim_marks, telling)
 
-pub walk_prim-returns-in_ok-walk_adds-in-Record : goal.walk_prim-returns-in_ok-walk_adds-in-Record
-walk_prim-returns-in_ok-walk_adds-in-Record g t c = grind (arith, prim_marks, telling)
+pub walk_prim-returns-in-Record : goal.walk_prim-returns-in-Record
+walk_prim-returns-in-Record g t c = grind (arith, prim_marks, telling)
 
-pub walk_prim-returns-in_ok-walk_adds-in-Listed : goal.walk_prim-returns-in_ok-walk_adds-in-Listed
-walk_prim-returns-in_ok-walk_adds-in-Listed g t c = grind (arith, prim_marks, telling)
+pub walk_prim-returns-in-Listed : goal.walk_prim-returns-in-Listed
+walk_prim-returns-in-Listed g t c = grind (arith, prim_marks, telling)
 
-pub walk_prim-returns-in_ok-walk_params-in-Described :
-    goal.walk_prim-returns-in_ok-walk_params-in-Described
-walk_prim-returns-in_ok-walk_params-in-Described g t c = grind (arith, prim_marks, telling)
+pub walk_prim-returns-in-Described :
+    goal.walk_prim-returns-in-Described
+walk_prim-returns-in-Described g t c = grind (arith, prim_marks, telling)
 
-pub walk_prim-returns-in_ok-walk_adds-in-Array : goal.walk_prim-returns-in_ok-walk_adds-in-Array
-walk_prim-returns-in_ok-walk_adds-in-Array g t c = grind (arith, prim_marks, telling)
+pub walk_prim-returns-in-Array : goal.walk_prim-returns-in-Array
+walk_prim-returns-in-Array g t c = grind (arith, prim_marks, telling)
 
-pub walk_prim-returns-in_ok-walk_pairs-in-KeyedArray :
-    goal.walk_prim-returns-in_ok-walk_pairs-in-KeyedArray
-walk_prim-returns-in_ok-walk_pairs-in-KeyedArray g t c = grind (arith, prim_marks, telling)
+pub walk_prim-returns-in-KeyedArray :
+    goal.walk_prim-returns-in-KeyedArray
+walk_prim-returns-in-KeyedArray g t c = grind (arith, prim_marks, telling)
 
-pub walk_prim-returns-in_ok-walk_expr-in-Call : goal.walk_prim-returns-in_ok-walk_expr-in-Call
-walk_prim-returns-in_ok-walk_expr-in-Call g t c = grind (arith, prim_marks, telling)
+pub walk_prim-returns-in-Call : goal.walk_prim-returns-in-Call
+walk_prim-returns-in-Call g t c = grind (arith, prim_marks, telling)
 
-pub walk_prim-returns-in_ok-walk_add-in-AllDifferent :
-    goal.walk_prim-returns-in_ok-walk_add-in-AllDifferent
-walk_prim-returns-in_ok-walk_add-in-AllDifferent g t c = grind (arith, prim_marks, telling)
+pub walk_prim-returns-in-AllDifferent :
+    goal.walk_prim-returns-in-AllDifferent
+walk_prim-returns-in-AllDifferent g t c = grind (arith, prim_marks, telling)
 
-pub walk_prim-returns-in_ok-walk_post-in-Question :
-    goal.walk_prim-returns-in_ok-walk_post-in-Question
-walk_prim-returns-in_ok-walk_post-in-Question g t c = grind (arith, prim_marks, telling)
+pub walk_prim-returns-in-Question :
+    goal.walk_prim-returns-in-Question
+walk_prim-returns-in-Question g t c = grind (arith, prim_marks, telling)
 
-pub walk_set-returns : goal.walk_set-returns
-walk_set-returns g t c = grind (arith, set_marks, telling)
+pub walk_set-returns-in-Some : goal.walk_set-returns-in-Some
+walk_set-returns-in-Some g t c = grind (arith, set_marks, telling)
 
-pub walk_sign-returns-in_ok-inner-in-Negative : goal.walk_sign-returns-in_ok-inner-in-Negative
-walk_sign-returns-in_ok-inner-in-Negative g t c = grind (arith, sign_marks, telling)
+pub walk_set-returns-in_default : goal.walk_set-returns-in_default
+walk_set-returns-in_default g t c = grind (arith, set_marks, telling)
+
+pub walk_sign-returns-in-Negative : goal.walk_sign-returns-in-Negative
+walk_sign-returns-in-Negative g t c = grind (arith, sign_marks, telling)
 
 pub walk_sign-returns-in-Postfix : goal.walk_sign-returns-in-Postfix
 walk_sign-returns-in-Postfix g t c = grind (arith, sign_marks, telling)
@@ -189,5 +201,5 @@ walk_subscripts-returns g t c = grind (arith, subscripts_marks, telling)
 pub walk_suffix-returns-in-Subscripts : goal.walk_suffix-returns-in-Subscripts
 walk_suffix-returns-in-Subscripts g t c = grind (arith, suffix_marks, telling)
 
-pub walk_suffix-returns-in_ok-sign-in-Field : goal.walk_suffix-returns-in_ok-sign-in-Field
-walk_suffix-returns-in_ok-sign-in-Field g t c = grind (arith, suffix_marks, telling)
+pub walk_suffix-returns-in-Field : goal.walk_suffix-returns-in-Field
+walk_suffix-returns-in-Field g t c = grind (arith, suffix_marks, telling)

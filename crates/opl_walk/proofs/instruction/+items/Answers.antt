@@ -27,11 +27,14 @@ walk_items-loop-item-preserved g t c = grind (arith, items_marks, telling, lists
 pub walk_items-returns-in-Empty : goal.walk_items-returns-in-Empty
 walk_items-returns-in-Empty g t c = grind (arith, items_marks, telling, lists)
 
-pub walk_item-returns-in_ok-sign-in-ForAll : goal.walk_item-returns-in_ok-sign-in-ForAll
-walk_item-returns-in_ok-sign-in-ForAll g t c = grind (arith, item_marks, telling)
+pub walk_item-returns-in-ForAll : goal.walk_item-returns-in-ForAll
+walk_item-returns-in-ForAll g t c = grind (arith, item_marks, telling)
 
 pub walk_item-returns-after-fails : goal.walk_item-returns-after-fails
 walk_item-returns-after-fails g t c = grind (arith, item_marks, telling)
 
-pub walk_items-returns-after-is_closed : goal.walk_items-returns-after-is_closed
-walk_items-returns-after-is_closed g t c = grind (arith, items_marks, telling, lists)
+pub walk_items-returns-then-is_closed : goal.walk_items-returns-then-is_closed
+walk_items-returns-then-is_closed g t c = grind (arith, items_marks, telling, lists)
+
+pub walk_items-returns-else-is_closed : goal.walk_items-returns-else-is_closed
+walk_items-returns-else-is_closed g t c = grind (arith, items_marks, telling, lists)

@@ -9,5 +9,8 @@ loop-decl-init g c = grind (arith, model_marks, telling, lists)
 pub loop-decl-preserved : goal.loop-decl-preserved
 loop-decl-preserved g c = grind (arith, model_marks, telling, lists)
 
-pub returns : goal.returns
-returns g c = grind (arith, model_marks, telling, lists)
+pub returns-in-Some : goal.returns-in-Some
+returns-in-Some g c = grind (arith, model_marks, telling, lists)
+
+pub returns-in_default : goal.returns-in_default
+returns-in_default g c = grind (arith, model_marks, telling, lists)

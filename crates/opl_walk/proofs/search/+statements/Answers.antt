@@ -15,8 +15,8 @@ walk_statement-loop-alternative-preserved g t c = grind (arith, statement_marks,
 pub walk_statement-returns-in-Block : goal.walk_statement-returns-in-Block
 walk_statement-returns-in-Block g t c = grind (arith, statement_marks, telling, lists)
 
-pub walk_statement-returns-in_ok-inner-in-Once : goal.walk_statement-returns-in_ok-inner-in-Once
-walk_statement-returns-in_ok-inner-in-Once g t c = grind (arith, statement_marks, telling, lists)
+pub walk_statement-returns-in-Once : goal.walk_statement-returns-in-Once
+walk_statement-returns-in-Once g t c = grind (arith, statement_marks, telling, lists)
 
 pub walk_statement-returns-in-Precedes : goal.walk_statement-returns-in-Precedes
 walk_statement-returns-in-Precedes g t c = grind (arith, statement_marks, telling, lists)
@@ -36,17 +36,20 @@ walk_statements-returns-in-Empty g t c = grind (arith, statements_marks, telling
 pub walk_statement-returns-after-loop-alternative : goal.walk_statement-returns-after-loop-alternative
 walk_statement-returns-after-loop-alternative g t c = grind (arith, statement_marks, telling, lists)
 
-pub walk_statement-returns-in_ok-sign-in-Branch : goal.walk_statement-returns-in_ok-sign-in-Branch
-walk_statement-returns-in_ok-sign-in-Branch g t c = grind (arith, statement_marks, telling)
+pub walk_statement-returns-in-Branch : goal.walk_statement-returns-in-Branch
+walk_statement-returns-in-Branch g t c = grind (arith, statement_marks, telling)
 
-pub walk_statement-returns-in_ok-word-in-While : goal.walk_statement-returns-in_ok-word-in-While
-walk_statement-returns-in_ok-word-in-While g t c = grind (arith, statement_marks, telling)
+pub walk_statement-returns-in-While : goal.walk_statement-returns-in-While
+walk_statement-returns-in-While g t c = grind (arith, statement_marks, telling)
 
 pub walk_statement-returns-after-fails : goal.walk_statement-returns-after-fails
 walk_statement-returns-after-fails g t c = grind (arith, statement_marks, telling)
 
-pub walk_statement-returns-in_ok-walk_post-in-Label : goal.walk_statement-returns-in_ok-walk_post-in-Label
-walk_statement-returns-in_ok-walk_post-in-Label g t c = grind (arith, statement_marks, telling)
+pub walk_statement-returns-in-Label : goal.walk_statement-returns-in-Label
+walk_statement-returns-in-Label g t c = grind (arith, statement_marks, telling)
 
-pub walk_statements-returns-after-is_closed : goal.walk_statements-returns-after-is_closed
-walk_statements-returns-after-is_closed g t c = grind (arith, statements_marks, telling, lists)
+pub walk_statements-returns-then-is_closed : goal.walk_statements-returns-then-is_closed
+walk_statements-returns-then-is_closed g t c = grind (arith, statements_marks, telling, lists)
+
+pub walk_statements-returns-else-is_closed : goal.walk_statements-returns-else-is_closed
+walk_statements-returns-else-is_closed g t c = grind (arith, statements_marks, telling, lists)
