@@ -16,6 +16,7 @@ use opl_expr::Core;
 use opl_notes::Notes;
 
 /// Whether a literal is refuted: as it is noted at a place, or else as the literal tells, which is noted then.
+#[inline(always)]
 fn is_refuted_at<V: View>(
     core: &Core,
     literal: &Literal,
@@ -41,6 +42,7 @@ fn is_refuted_at<V: View>(
 }
 
 /// Whether the literal at a place of the list is refuted, by its note if it has a place for one.
+#[inline(always)]
 pub fn is_refuted_as_noted<V: View>(
     core: &Core,
     literals: &[Literal],
@@ -63,6 +65,7 @@ pub fn is_refuted_as_noted<V: View>(
 }
 
 /// What is paid for the literal at a place of the list.
+#[inline(always)]
 fn price_as_noted<V: View>(
     core: &Core,
     literals: &[Literal],

@@ -32,6 +32,7 @@ impl Notes {
     }
 
     /// Whether something is noted at a place.
+    #[inline(always)]
     pub fn has(&self, place: u32) -> bool
         requires { place < length self.now.top }
         ensures { result ≡ is_noted self.now.top place }
@@ -40,6 +41,7 @@ impl Notes {
     }
 
     /// Notes something at a place. It takes no memory.
+    #[inline(always)]
     pub fn note(&mut self, place: u32)
         requires within { place < length self.old.top }
         requires free { is_noted self.old.top place ≡ false }

@@ -1,12 +1,11 @@
 -- How deep a tree nests: the greatest level that its marks open.
 use Rattle.std.specs.Prelude.{ℕ, max, [], ◌∷◌}
 use Rattle.opl_tree.specs.declared.model.ModelTree.{ModelTree}
-use Rattle.opl_tree.specs.declared.model.TheConstants.{MAX_NESTING}
 use Rattle.opl_tree.specs.Marks.{place, token, unbraced, opens, Marks, marks_model}
 
 -- how many levels a text may open one in another
 abbrev pub max_nesting : ℕ
-max_nesting = MAX_NESTING
+max_nesting = 256
 
 -- how deep marks nest: the greatest level that a token opens
 abbrev pub depth_of : Marks → ℕ
