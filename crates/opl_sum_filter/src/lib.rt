@@ -3,6 +3,7 @@
 #![tactic(auto)]
 
 ghost use Rattle.std.specs.Prelude.{◌≡◌, ◌<◌, ◌^◌, length};
+ghost use Rattle.opl_domain.specs.Family.{Family};
 ghost use Rattle.opl_expr.specs.declared.model.Core.{Core};
 ghost use Rattle.opl_sum_filter.specs.Sums.{total_most, at_most_limit, IsMost, AreAmong};
 
@@ -56,6 +57,7 @@ impl<F: Filter> SumFilter<F> {
         requires few { length variables < 2 ^ 32 }
         ensures constraint { (d : Core) → ⟦<SumFilter<F> as Filter>⟧.constraint result d ≡ F.constraint inner d }
         ensures core { (d : Core) → F.is_made_with inner d → F.constraint inner d ≡ at_most_limit variables limit → ⟦<SumFilter<F> as Filter>⟧.is_made_with result d }
+        ensures fresh { (G : Family) → F.fresh inner G → ⟦<SumFilter<F> as Filter>⟧.fresh result G }
     {
         SumFilter {
             inner,
