@@ -3,7 +3,7 @@ use opl_expr::Expr;
 use opl_list::{Boxed, Seq};
 
 /// What a sum is to be.
-#[derive(Debug, Drop, Clone, Copy, PartialEq, Eq)]
+#[derive(Drop, Clone, Copy)]
 pub enum Demand {
     /// At most 0.
     AtMost,

@@ -1,7 +1,7 @@
 //! The expressions that are to differ.
 
 /// A multiple of a variable, and a constant. With the factor 0 it is the constant alone.
-#[derive(Debug, Drop, Clone, Copy)]
+#[derive(Drop, Clone, Copy)]
 pub struct Part {
     pub variable: u32,
     pub factor: i128,

@@ -10,7 +10,7 @@ use std::collections::VecDeque;
 use std::marker::Model;
 
 /// For each member, whether it waits. Those who wait are taken in the order in which they were woken.
-#[derive(Debug, Drop)]
+#[derive(Drop)]
 pub struct Waiting {
     flags: Vec<bool>,
     /// Who stands in the queue; who waits does.

@@ -11,7 +11,7 @@ use std::marker::Model;
 
 /// For each variable a list of the members that watch it. Nobody is taken from a list as long as it doesn't grow: who is there
 /// no longer is passed over, and goes when a member before them is added.
-#[derive(Debug, Drop)]
+#[derive(Drop)]
 pub struct Watchers {
     lists: Vec<Vec<u32>>,
 }

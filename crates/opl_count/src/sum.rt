@@ -18,7 +18,7 @@ pub struct Costs {
 }
 
 /// How a literal hangs together with others.
-#[derive(Debug, Drop, Clone, Copy)]
+#[derive(Drop, Clone, Copy)]
 pub struct Tie {
     /// No variable of the literal can change more of what is paid.
     pub reach: u128,

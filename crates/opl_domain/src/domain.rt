@@ -8,7 +8,7 @@ use std::alloc::Global;
 use std::marker::Model;
 
 /// A set of at least 1 and at most 1,048,576 values, which contracts see as the rising list of them.
-#[derive(Debug, Drop)]
+#[derive(Drop)]
 pub struct Domain {
     values: Vec<i64>,
 }

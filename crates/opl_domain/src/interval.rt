@@ -6,7 +6,7 @@ ghost use Rattle.opl_domain.specs.Arithmetic.{span_add, span_neg, span_mul, span
 use std::marker::Model;
 
 /// The whole numbers from `lo` to `hi`; `lo` is at most `hi`.
-#[derive(Debug, Clone, Copy, PartialEq, Eq)]
+#[derive(Clone, Copy)]
 pub struct Interval {
     lo: i128,
     hi: i128,

@@ -4,7 +4,7 @@ ghost use Rattle.std.specs.Prelude.{◌≡◌, ◌+◌, ◌-◌, ◌^◌, min};
 use std::marker::Model;
 
 /// A count that stands still at the greatest `u64`.
-#[derive(Debug, Drop)]
+#[derive(Drop)]
 pub struct Steps {
     count: u64,
 }

@@ -1,7 +1,7 @@
 //! How closing ends.
 
 /// How closing ends.
-#[derive(Debug, Drop, Clone, Copy, PartialEq, Eq)]
+#[derive(Drop, Clone, Copy)]
 pub enum Closed {
     /// The sets are the closure of what is posted.
     Stable,

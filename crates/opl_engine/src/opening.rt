@@ -1,7 +1,7 @@
 //! What stood when a level was opened.
 
 /// What stood when a level was opened.
-#[derive(Debug, Drop, Clone, Copy)]
+#[derive(Drop, Clone, Copy)]
 pub struct Opening {
     /// The number of members.
     pub members: u32,

@@ -2,7 +2,7 @@
 use opl_list::{Boxed, Seq};
 
 /// What a search may ask of the set of a variable.
-#[derive(Debug, Drop, Clone, Copy, PartialEq, Eq)]
+#[derive(Drop, Clone, Copy)]
 pub enum Ask {
     /// The number of values.
     Size,
@@ -13,7 +13,7 @@ pub enum Ask {
 }
 
 /// How a comparison compares its sides.
-#[derive(Debug, Drop, Clone, Copy, PartialEq, Eq)]
+#[derive(Drop, Clone, Copy)]
 pub enum Op {
     Eq,
     Ne,
@@ -24,7 +24,7 @@ pub enum Op {
 }
 
 /// A ground expression. Variables, tables and resources are named by their numbers in the core.
-#[derive(Debug, Drop)]
+#[derive(Drop)]
 #[cycle(forms)]
 pub enum Expr {
     Const(i128),
@@ -48,7 +48,7 @@ pub enum Expr {
 }
 
 /// A ground constraint.
-#[derive(Debug, Drop)]
+#[derive(Drop)]
 #[cycle(forms)]
 pub enum Cons {
     Fixed(bool),

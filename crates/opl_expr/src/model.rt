@@ -6,7 +6,7 @@ use opl_list::Seq;
 use opl_token::Name;
 
 /// The objective.
-#[derive(Debug, Drop)]
+#[derive(Drop)]
 pub struct Goal {
     /// Whether the greatest value is the best.
     pub maximize: bool,
@@ -14,7 +14,7 @@ pub struct Goal {
 }
 
 /// The variables with their declared sets, the tables and resources, the constraints, the objective and the search section.
-#[derive(Debug, Drop)]
+#[derive(Drop)]
 pub struct Core {
     /// The name of each variable.
     pub names: Seq<Name>,

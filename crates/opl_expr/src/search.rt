@@ -3,7 +3,7 @@ use crate::forms::{Cons, Expr};
 use opl_list::{Boxed, Seq};
 
 /// One alternative of a statement: what it does where its condition holds, and the key that orders it.
-#[derive(Debug, Drop)]
+#[derive(Drop)]
 #[cycle(steps)]
 pub struct Branch {
     pub when: Cons,
@@ -14,7 +14,7 @@ pub struct Branch {
 }
 
 /// A statement of a search section.
-#[derive(Debug, Drop)]
+#[derive(Drop)]
 #[cycle(steps)]
 pub enum Step {
     Post(Cons),

@@ -3,14 +3,14 @@ use opl_list::Seq;
 use opl_token::Name;
 
 /// A cell of a table: a number, or the value of a variable.
-#[derive(Debug, Drop, Clone, Copy, PartialEq, Eq)]
+#[derive(Drop, Clone, Copy)]
 pub enum Cell {
     Const(i128),
     Var(u32),
 }
 
 /// An array whose elements are reached by subscripts with variables.
-#[derive(Debug, Drop)]
+#[derive(Drop)]
 pub struct Table {
     pub name: Name,
     /// The indices of each dimension.
@@ -20,7 +20,7 @@ pub struct Table {
 }
 
 /// An activity's use of a resource. `start` and `duration` are variables.
-#[derive(Debug, Drop, Clone, Copy, PartialEq, Eq)]
+#[derive(Drop, Clone, Copy)]
 pub struct Use {
     pub demand: i128,
     pub start: u32,
@@ -28,7 +28,7 @@ pub struct Use {
 }
 
 /// A discrete resource, with the times at which its capacity is asked: `from` to `to - 1`.
-#[derive(Debug, Drop)]
+#[derive(Drop)]
 pub struct Resource {
     pub name: Name,
     pub capacity: i128,

@@ -60,7 +60,7 @@ pub fn sweep<N: Narrow>(core: &Core, c: &Cons, variables: &[u32], n: &mut N) -> 
 }
 
 /// A filter for any constraint.
-#[derive(Debug, Drop)]
+#[derive(Drop)]
 pub struct GenericFilter {
     constraint: Cons,
     variables: Seq<u32>,

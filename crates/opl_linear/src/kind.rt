@@ -1,7 +1,7 @@
 //! What a linear form is to be.
 
 /// What a linear form is to be: the sum of some variables, each with a factor, and a constant.
-#[derive(Debug, Drop, Clone, Copy, PartialEq, Eq)]
+#[derive(Drop, Clone, Copy)]
 pub enum Kind {
     /// At most 0.
     AtMost,

@@ -8,7 +8,7 @@ use std::alloc::Global;
 use std::marker::Model;
 
 /// For each of some places, whether something is noted there: its word is 1, and 0 else. A level that is closed takes its notes along.
-#[derive(Debug, Drop)]
+#[derive(Drop)]
 pub struct Notes {
     words: Trail,
 }

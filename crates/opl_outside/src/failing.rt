@@ -7,7 +7,7 @@ use opl_list::Seq;
 use std::alloc::{AllocError, Global};
 
 /// The numbers, from 1, of the calls that fail, and how many calls were made.
-#[derive(Debug, Drop)]
+#[derive(Drop)]
 pub(crate) struct FailingCalls {
     numbers: Seq<u64>,
     made: u64,

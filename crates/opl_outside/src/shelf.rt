@@ -11,7 +11,7 @@ use std::alloc::Global;
 pub const MAX_BYTES: usize = 16_777_216;
 
 /// What a read finds of a file.
-#[derive(Debug, Drop)]
+#[derive(Drop)]
 pub enum Found {
     /// All bytes of the file, at most [`MAX_BYTES`].
     Bytes(Seq<u8>),

@@ -4,7 +4,7 @@ use opl_domain::View;
 use opl_expr::{Cons, Core};
 
 /// Ranges as they are defined.
-#[derive(Debug, Drop, Clone, Copy)]
+#[derive(Drop, Clone, Copy)]
 pub struct CoreRanges;
 
 impl Ranges for CoreRanges {

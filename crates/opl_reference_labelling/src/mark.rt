@@ -3,7 +3,7 @@ use opl_expr::Cons;
 use opl_list::Seq;
 
 /// A mark of a search.
-#[derive(Debug, Drop)]
+#[derive(Drop)]
 pub enum Mark {
     /// An alternative is entered, with the variable and its value where it is one of labelling.
     Choice(Option<(u32, i64)>),

@@ -9,7 +9,7 @@ use opl_list::Seq;
 use std::alloc::Global;
 
 /// The marks that were made but the Cut, the best value after them, the choices left, and whether a Cut ends the whole.
-#[derive(Debug, Drop)]
+#[derive(Drop)]
 pub struct Outcome {
     pub marks: Seq<Mark>,
     pub best: Option<i128>,

@@ -18,14 +18,14 @@ use std::marker::Model;
 use std::rc::Rc;
 
 /// How a core is searched.
-#[derive(Debug, Drop, Clone, Copy, PartialEq, Eq)]
+#[derive(Drop, Clone, Copy)]
 pub struct Way {
     /// Whether the search section, if there is one, is left out.
     pub default_search: bool,
 }
 
 /// What a machine answered last.
-#[derive(Debug, Drop, Clone, Copy, PartialEq, Eq)]
+#[derive(Drop, Clone, Copy)]
 pub enum Last {
     Nothing,
     Solution,

@@ -24,7 +24,7 @@ use std::alloc::Global;
 use std::rc::Rc;
 
 /// An answer of a search.
-#[derive(Debug, Drop, Clone, Copy, PartialEq, Eq)]
+#[derive(Drop, Clone, Copy)]
 pub enum Step1 {
     /// A solution: each variable has one value.
     Solution,
@@ -36,7 +36,7 @@ pub enum Step1 {
 
 /// An open place: the values of a variable after the last one are still to be tried, each before labelling the variables of a
 /// list from a place on and what follows that. `level` is how many levels were open before the place.
-#[derive(Debug, Drop)]
+#[derive(Drop)]
 pub struct Open {
     pub level: u64,
     pub variable: u32,
@@ -47,7 +47,7 @@ pub struct Open {
 }
 
 /// Where a search is: before the sets of a moment, at a moment, behind a path, or at an answer.
-#[derive(Debug, Drop)]
+#[derive(Drop)]
 pub enum Turn {
     Down(Tail),
     At(Tail),

@@ -9,7 +9,7 @@ use opl_domain::{OutOfMemory, Steps, View};
 use std::alloc::Global;
 
 /// How closing ends.
-#[derive(Debug, Drop, Clone, Copy, PartialEq, Eq)]
+#[derive(Drop, Clone, Copy)]
 pub enum Closed {
     Stable,
     Failed,

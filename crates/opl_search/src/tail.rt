@@ -10,7 +10,7 @@ use std::alloc::Global;
 use std::rc::Rc;
 
 /// Tasks one after another; what follows a task is shared.
-#[derive(Debug, Drop)]
+#[derive(Drop)]
 #[cycle(tails)]
 pub enum Tail {
     End,

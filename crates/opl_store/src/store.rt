@@ -14,7 +14,7 @@ use std::marker::Model;
 
 /// A non-empty stack of families, which is a view of the top one. Each level that is opened has a copy of the family
 /// below it, and is kept by what its cuts have changed.
-#[derive(Debug, Drop)]
+#[derive(Drop)]
 pub struct Store {
     shapes: Vec<Shape>,
     trail: Trail,

@@ -7,7 +7,7 @@ use thiserror::Error;
 
 /// Why a text has no tokens. A place is the byte offset, from 0, of the first byte that no token, blank or comment
 /// takes.
-#[derive(Clone, Copy, Debug, Error, PartialEq, Eq)]
+#[derive(Clone, Copy, Debug, Error)]
 pub enum ScanFault {
     /// No lexeme begins with this byte.
     #[error("no lexeme begins at byte {0}")]

@@ -15,7 +15,7 @@ use opl_list::Seq;
 use std::alloc::{AllocError, Global};
 
 /// A lexeme, and how many bytes it has.
-#[derive(Debug, Drop)]
+#[derive(Drop)]
 struct Lexeme {
     kind: Kind,
     len: usize,

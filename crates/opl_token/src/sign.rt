@@ -3,7 +3,7 @@ ghost use Rattle.opl_token.specs.Lexeme.{sign_text};
 ghost use Rattle.std.specs.Prelude.{◌≡◌};
 
 /// A sign of the language. A sign whose text begins with another's stands before that one.
-#[derive(Clone, Copy, Debug, PartialEq, Eq)]
+#[derive(Clone, Copy, Debug)]
 pub enum Sign {
     /// `<=>`
     Equivalent,

@@ -10,7 +10,7 @@ use std::alloc::{AllocError, Global};
 pub type Name = Seq<u8>;
 
 /// What a token is.
-#[derive(Debug, Drop)]
+#[derive(Drop)]
 pub enum Kind {
     /// A letter or `_`, and the letters, digits and `_` behind it.
     Word(Name),
@@ -22,7 +22,7 @@ pub enum Kind {
 }
 
 /// A token of a text, with the byte offset, from 0, of its first byte.
-#[derive(Debug, Drop)]
+#[derive(Drop)]
 pub struct Token {
     pub kind: Kind,
     pub at: u32,

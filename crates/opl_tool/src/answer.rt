@@ -1,7 +1,7 @@
 //! What a call answers.
 
 /// What a call answers. Its line, for every answer but `Done` and `NoSolution`, stands on the sink of errors.
-#[derive(Clone, Copy, Debug, PartialEq, Eq)]
+#[derive(Clone, Copy)]
 pub enum Answer {
     /// The command ended; of `solve`, with a solution.
     Done,

@@ -9,7 +9,7 @@ use std::alloc::Global;
 use std::marker::Model;
 
 /// A set for each variable, which contracts see as a family.
-#[derive(Debug, Drop)]
+#[derive(Drop)]
 pub struct Sets {
     domains: Vec<Domain>,
 }

@@ -11,7 +11,7 @@ use std::alloc::Global;
 use std::marker::Model;
 
 /// What the word at a place was, and the place's stamp then.
-#[derive(Debug, Drop, Clone, Copy)]
+#[derive(Drop, Clone, Copy)]
 pub struct Saved {
     pub place: u32,
     pub at: u32,
@@ -19,7 +19,7 @@ pub struct Saved {
 }
 
 /// Words, and what is needed to give back those of each open level.
-#[derive(Debug, Drop)]
+#[derive(Drop)]
 pub struct Trail {
     bits: Bits,
     /// The stamp of each place: how long the trail was when its word was last saved, that save included; 0 if it is not in the trail.

@@ -162,7 +162,7 @@ pub struct ScheduleTree {
 }
 
 /// Which end of the schedule is given.
-#[derive(Clone, Copy, PartialEq, Eq)]
+#[derive(Clone, Copy)]
 pub enum ScheduleEnd {
     /// `scheduleOrigin`
     Origin,

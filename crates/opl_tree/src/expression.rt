@@ -225,7 +225,7 @@ pub enum PatternTree {
 }
 
 /// The sign of a comparison.
-#[derive(Clone, Copy, PartialEq, Eq)]
+#[derive(Clone, Copy)]
 pub enum Relation {
     /// `=`
     Equal,
@@ -242,7 +242,7 @@ pub enum Relation {
 }
 
 /// The sign of a sum's step.
-#[derive(Clone, Copy, PartialEq, Eq)]
+#[derive(Clone, Copy)]
 pub enum AddOp {
     /// `+`
     Plus,
@@ -251,7 +251,7 @@ pub enum AddOp {
 }
 
 /// The sign of a product's step.
-#[derive(Clone, Copy, PartialEq, Eq)]
+#[derive(Clone, Copy)]
 pub enum MulOp {
     /// `*`
     Times,
@@ -262,7 +262,7 @@ pub enum MulOp {
 }
 
 /// The word of an aggregate.
-#[derive(Clone, Copy, PartialEq, Eq)]
+#[derive(Clone, Copy)]
 pub enum AggregateOp {
     /// `sum`
     Sum,
@@ -275,7 +275,7 @@ pub enum AggregateOp {
 }
 
 /// A function of one expression.
-#[derive(Clone, Copy, PartialEq, Eq)]
+#[derive(Clone, Copy)]
 pub enum CallOp {
     /// `abs`
     Absolute,
@@ -284,7 +284,7 @@ pub enum CallOp {
 }
 
 /// A question on the set of a variable.
-#[derive(Clone, Copy, PartialEq, Eq)]
+#[derive(Clone, Copy)]
 pub enum QuestionOp {
     /// `dsize`
     Size,
@@ -297,7 +297,7 @@ pub enum QuestionOp {
 }
 
 /// What stands between two groups of parameters.
-#[derive(Clone, Copy, PartialEq, Eq)]
+#[derive(Clone, Copy)]
 pub enum GroupSeparator {
     /// `,`
     Comma,

@@ -12,7 +12,7 @@ pub enum InstrTree {
 }
 
 /// Which value of the objective is the best.
-#[derive(Clone, Copy, PartialEq, Eq)]
+#[derive(Clone, Copy)]
 pub enum Optimum {
     /// `minimize`
     Least,

@@ -3,7 +3,7 @@ ghost use Rattle.opl_tree.specs.Keywords as spec;
 ghost use Rattle.std.specs.Prelude.{◌≡◌};
 
 /// A word that a rule of the grammar names: of models, of data files or of scripts.
-#[derive(Clone, Copy, PartialEq, Eq)]
+#[derive(Clone, Copy)]
 pub enum Keyword {
     /// `Activity`
     Activity,

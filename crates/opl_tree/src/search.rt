@@ -48,7 +48,7 @@ pub enum StatementTree {
 }
 
 /// The word of a statement with parameters.
-#[derive(Clone, Copy, PartialEq, Eq)]
+#[derive(Clone, Copy)]
 pub enum BranchOp {
     /// `tryall`
     TryAll,
@@ -59,7 +59,7 @@ pub enum BranchOp {
 }
 
 /// The word of a statement that decides a whole item.
-#[derive(Clone, Copy, PartialEq, Eq)]
+#[derive(Clone, Copy)]
 pub enum LabelOp {
     /// `generate`
     Generate,

@@ -7,7 +7,7 @@ use opl_store::Store;
 use std::alloc::Global;
 
 /// Opening a level, closing one, and removing the values of a variable from one to another.
-#[derive(Debug, Drop, Clone, Copy)]
+#[derive(Drop, Clone, Copy)]
 pub enum Act {
     Open,
     Close,
