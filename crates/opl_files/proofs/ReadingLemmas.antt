@@ -23,7 +23,7 @@ use Rattle.opl_files.specs.declared.refusal.Refusal.{Refusal}
 use Rattle.opl_files.specs.declared.refusal.Refusal.TheVariants.{At}
 use Rattle.opl_files.specs.declared.scanning.Tokens.{Tokens}
 use Rattle.opl_files.specs.declared.stop.Stop.{Stop}
-use Rattle.opl_files.specs.Reading.{refusal_of_scan, Scanned, IsSyntaxFault, TreeOf, Parsed, DataParsed, HasTypes, refusal_of_type, Understood, Read}
+use Rattle.opl_files.specs.Reading.{refusal_of_scan, beside, Scanned, IsSyntaxFault, TreeOf, Parsed, DataParsed, HasTypes, refusal_of_type, Understood, Read}
 use Rattle.opl_files.specs.Stage.{Stage, Then, Only, Each, Gives}
 use Rattle.opl_files.proofs.StageLemmas.{IsOne, each_one, only_one, then_one, then-gives, then-stops}
 use Rattle.opl_tree.specs.Depth.{max_nesting}
@@ -54,6 +54,12 @@ understood-untyped tokens more tree files stop parsed trees h =
 pub understood-all : (tokens : Tokens) (more : List Tokens) (tree t : ModelTree) (files : List DataTree) → Parsed tokens (Ok tree) →
     Each DataParsed 1 more (Ok files) → HasTypes tree (Ok t) → Understood tokens more (Ok (t, files))
 understood-all tokens more tree t files parsed trees h = inl (tree, parsed, inl (files, trees, inl (t, h, refl)))
+
+-- all have trees, and typing came to this
+pub understood-beside : (tokens : Tokens) (more : List Tokens) (tree : ModelTree) (files : List DataTree) (r : Result ModelTree Stop) → Parsed tokens (Ok tree) →
+    Each DataParsed 1 more (Ok files) → Gives (HasTypes tree) r → Gives (Understood tokens more) (beside files r)
+understood-beside tokens more tree files (Ok t) parsed trees h = understood-all tokens more tree t files parsed trees h
+understood-beside tokens more tree files (Err stop) parsed trees h = understood-untyped tokens more tree files stop parsed trees h
 
 -- the same of their bytes and tokens
 pub read-gives : (bytes : List ℕ) (more : List (List ℕ)) (tokens : Tokens) (others these : List Tokens) (r : Result (ModelTree × List DataTree) Stop) → these ≡ others →

@@ -78,6 +78,11 @@ abbrev pub front_of : Result Front Stop → Result (ModelTree × List DataTree) 
 front_of (Ok front) = Ok (front.typed.tree, front.files)
 front_of (Err stop) = Err stop
 
+-- the model's tree, and those of the data files beside it
+abbrev pub beside : List DataTree → Result ModelTree Stop → Result (ModelTree × List DataTree) Stop
+beside files (Ok tree) = Ok (tree, files)
+beside files (Err stop) = Err stop
+
 -- the tree of the model's tokens, whose expressions have types, and those of the data files: the syntax of each comes first
 abbrev pub Understood : Tokens → List Tokens → Stage (ModelTree × List DataTree)
 Understood tokens more = Then (Parsed tokens) (λ tree. Then (Each DataParsed 1 more) (λ files. Then (HasTypes tree) (λ t. Only (t, files))))

@@ -9,3 +9,10 @@ pub struct Front {
     pub typed: Typed,
     pub files: Seq<DataTree>,
 }
+
+impl Front {
+    /// Lets go of the trees.
+    pub fn let_go(self) {
+        self.typed.let_go();
+    }
+}

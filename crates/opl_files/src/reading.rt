@@ -1,7 +1,7 @@
 //! Reading the files of a call: from their texts to their trees.
 ghost use Rattle.std.specs.Prelude.{◌≡◌, ◌≤◌, All, length};
 ghost use Rattle.opl_outside.specs.Files.{max_bytes};
-ghost use Rattle.opl_files.specs.Reading.{Parsed, HasTypes, front_of, tree_of, Understood, Read};
+ghost use Rattle.opl_files.specs.Reading.{Parsed, HasTypes, beside, front_of, tree_of, Understood, Read};
 ghost use Rattle.opl_files.specs.Stage.{Gives};
 
 use crate::data_files::data_trees;
@@ -9,6 +9,8 @@ use crate::front::Front;
 use crate::refusal::Fault;
 use crate::scanning::{Tokens, tokens_of, tokens_of_data};
 use crate::stop::{Stop, refused};
+use opl_data::DataTree;
+use opl_let_go::let_go;
 use opl_list::Seq;
 use opl_parse::parse_model;
 use opl_tree::{ModelTree, SyntaxFault};
@@ -41,14 +43,28 @@ fn typed(alloc: Global, tree: ModelTree) -> Result<Typed, Stop>
     }
 }
 
+/// The trees of all files, where the model has types.
+fn front(files: Seq<DataTree>, typed: Result<Typed, Stop>) -> Result<Front, Stop>
+    ensures { front_of result ≡ beside files (tree_of typed) }
+{
+    match typed {
+        Ok(typed) => Ok(Front { typed, files }),
+        Err(stop) => Err(stop),
+    }
+}
+
 /// The trees of the tokens of the model's file and of the data files.
 fn understand(alloc: Global, tokens: &Tokens, others: &[Tokens]) -> Result<Front, Stop>
     ensures { Gives (Understood tokens.now others.now) (front_of result) }
 {
     let tree = tree(alloc, tokens)?;
-    let files = data_trees(alloc, others)?;
-    let typed = typed(alloc, tree)?;
-    Ok(Front { typed, files })
+    match data_trees(alloc, others) {
+        Ok(files) => front(files, typed(alloc, tree)),
+        Err(stop) => {
+            let_go(tree);
+            Err(stop)
+        }
+    }
 }
 
 /// The trees of the bytes of the model's file and of the data files.

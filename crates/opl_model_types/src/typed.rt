@@ -8,6 +8,7 @@ ghost use Rattle.opl_type_rules.specs.Values.{Gives, scope_of};
 
 use opl_declaration_types::all_decls;
 use opl_item_types::{instr, search_block};
+use opl_let_go::let_go;
 use opl_list::Seq;
 use opl_tree::{ModelTree, SearchTree};
 use opl_type_rules::fault::TypeFault;
@@ -22,6 +23,13 @@ pub struct Typed {
     /// The types of the expressions in preorder.
     pub kinds: Seq<Ty>,
     pub ghost is_typed: { spec.model tree ≡ Ok (map sort kinds) } by { Checked-set (spec.model tree) (Ok (map sort kinds)) },
+}
+
+impl Typed {
+    /// Lets go of the model.
+    pub fn let_go(self) {
+        let_go(self.tree);
+    }
 }
 
 /// The names as the search section sees them.
@@ -72,6 +80,9 @@ pub fn with_kinds(model: ModelTree, found: Result<Seq<Ty>, TypeFault>) -> Result
 {
     match found {
         Ok(kinds) => Ok(Typed { tree: model, kinds }),
-        Err(fault) => Err(fault),
+        Err(fault) => {
+            let_go(model);
+            Err(fault)
+        }
     }
 }
