@@ -57,9 +57,9 @@ pub err-more : (g h : Gathered) (whole rest : Found (List Value)) (e : EvalFault
 err-more g h whole rest e k f n = more-fault g whole e (k ∙ ap (with_more h) (f n))
 
 -- all is found by what is ahead at the start
-pub begins : (v : Visit) (g : Gathered) (names env : Environment) (ts : List Turn) → env ≡ names → ts ≡ [] → with_more g (bodies_of v names) ≡ with_more g (pending (bodies_at v) env (ahead.Groups 0) ts)
-begins v g names env ts e h =
-    ap (with_more g) (ap (bodies_of v) (sym e) ∙ sym (none-behind (bodies_of v env)) ∙ ap (pending (bodies_at v) env (ahead.Groups 0)) (sym h))
+pub begins : (v : Visit) (names env : Environment) (ts : List Turn) → env ≡ names → ts ≡ [] → bodies_of v names ≡ pending (bodies_at v) env (ahead.Groups 0) ts
+begins v names env ts e h =
+    ap (bodies_of v) (sym e) ∙ sym (none-behind (bodies_of v env)) ∙ ap (pending (bodies_at v) env (ahead.Groups 0)) (sym h)
 
 -- a group's elements are found, or a body is gathered
 pub passes-groups : (inner : Inner) (env : Environment) (g h : Gathered) (old same : List Turn) (before next : Ahead) (place : ℕ) → before ≡ ahead.Groups place → same ≡ old →

@@ -34,6 +34,10 @@ truths : (f : List Value → Truth) (r : Found (List Value)) → truth (found f 
 truths f (Ok vs) = refl
 truths f (Err e) = refl
 
+numbers : {A : Type 0} (f : ℤ → A) (r : Found Value) → found (λ v. f (number v)) r ≡ found f (found number r)
+numbers f (Ok v) = refl
+numbers f (Err e) = refl
+
 each-step : (ss : List Step) (env : Environment) → all (map (λ s. s env) (map step_meaning ss)) ≡ operations_in ss env
 unfolding operations_in
 each-step [] env = refl
@@ -118,20 +122,20 @@ set-Whole t env = ap (λ m. m.value env) (by.set_meaning-Whole t)
 pub set-Between : (t u : Term) (env : Environment) → (set_meaning (sets.Between t u)).value env ≡ then (eval t env) (λ l. then (eval u env) (λ h. Ok (values.Range (number l) (number h))))
 set-Between t u env = ap (λ m. m.value env) (by.set_meaning-Between t u)
 
-pub step-Plus : (t : Term) (env : Environment) → step_meaning (steps.Plus t) env ≡ found (λ v. operations.Plus (number v)) (eval t env)
-step-Plus t env = by.step_meaning-Plus t env
+pub step-Plus : (t : Term) (env : Environment) → step_meaning (steps.Plus t) env ≡ found operations.Plus (found number (eval t env))
+step-Plus t env = by.step_meaning-Plus t env ∙ numbers operations.Plus (eval t env)
 
-pub step-Minus : (t : Term) (env : Environment) → step_meaning (steps.Minus t) env ≡ found (λ v. operations.Minus (number v)) (eval t env)
-step-Minus t env = by.step_meaning-Minus t env
+pub step-Minus : (t : Term) (env : Environment) → step_meaning (steps.Minus t) env ≡ found operations.Minus (found number (eval t env))
+step-Minus t env = by.step_meaning-Minus t env ∙ numbers operations.Minus (eval t env)
 
-pub step-Times : (t : Term) (env : Environment) → step_meaning (steps.Times t) env ≡ found (λ v. operations.Times (number v)) (eval t env)
-step-Times t env = by.step_meaning-Times t env
+pub step-Times : (t : Term) (env : Environment) → step_meaning (steps.Times t) env ≡ found operations.Times (found number (eval t env))
+step-Times t env = by.step_meaning-Times t env ∙ numbers operations.Times (eval t env)
 
-pub step-Quotient : (t : Term) (env : Environment) → step_meaning (steps.Quotient t) env ≡ found (λ v. operations.Quotient (number v)) (eval t env)
-step-Quotient t env = by.step_meaning-Quotient t env
+pub step-Quotient : (t : Term) (env : Environment) → step_meaning (steps.Quotient t) env ≡ found operations.Quotient (found number (eval t env))
+step-Quotient t env = by.step_meaning-Quotient t env ∙ numbers operations.Quotient (eval t env)
 
-pub step-Remainder : (t : Term) (env : Environment) → step_meaning (steps.Remainder t) env ≡ found (λ v. operations.Remainder (number v)) (eval t env)
-step-Remainder t env = by.step_meaning-Remainder t env
+pub step-Remainder : (t : Term) (env : Environment) → step_meaning (steps.Remainder t) env ≡ found operations.Remainder (found number (eval t env))
+step-Remainder t env = by.step_meaning-Remainder t env ∙ numbers operations.Remainder (eval t env)
 
 pub ruleset evals = (eval-Number, eval-Named, eval-Bracket, eval-Negative, eval-Chain, eval-Related, eval-Member, eval-Equivalent, eval-Implied, eval-Or, eval-And, eval-Not, eval-Call, eval-AllDifferent, eval-Question, eval-Element, eval-Fields, eval-Record, eval-Listed, eval-Array, eval-KeyedArray, eval-Aggregate)
 

@@ -58,14 +58,28 @@ fn with_value(before: Gathered, value: Value) -> Result<Gathered, AllocError>
     ensures { IfOk result (λ r. r ≡ gathered.put before value) }
 {
     match before {
-        Gathered::Listed(values) => Ok(Gathered::Listed(longer(values, value)?)),
-        Gathered::Sum(at, total) => Ok(Gathered::Sum(at, added(at, total, number(&value)))),
+        Gathered::Listed(values) => listed(values, value),
+        Gathered::Sum(at, total) => Ok(Gathered::Sum(at, added(at, total, counted(value)))),
         Gathered::Product(at, total) => {
-            Ok(Gathered::Product(at, multiplied(at, total, number(&value))))
+            Ok(Gathered::Product(at, multiplied(at, total, counted(value))))
         }
-        Gathered::Least(found) => Ok(Gathered::Least(Some(lesser(found, number(&value))))),
-        Gathered::Greatest(found) => Ok(Gathered::Greatest(Some(greater(found, number(&value))))),
+        Gathered::Least(found) => Ok(Gathered::Least(Some(lesser(found, counted(value))))),
+        Gathered::Greatest(found) => Ok(Gathered::Greatest(Some(greater(found, counted(value))))),
     }
+}
+
+/// The number that a value counts as.
+fn counted(value: Value) -> i128
+    ensures { result ≡ compare.number value }
+{
+    number(&value)
+}
+
+/// All values, and one more.
+fn listed(values: Seq<Value>, value: Value) -> Result<Gathered, AllocError>
+    ensures { IfOk result (λ r. r ≡ Gathered.Listed (values ++ value ∷ [])) }
+{
+    Ok(Gathered::Listed(longer(values, value)?))
 }
 
 /// A list, and a value behind it.

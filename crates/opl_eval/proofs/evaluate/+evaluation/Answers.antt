@@ -1,11 +1,12 @@
 use Rattle.std.proofs.lemmas.Grind.{common_steps}
 use Rattle.std.proofs.Common.{arith, ◌+◌, true, false, [], Ok, ap, refl, rules, subst, sym, ◌∙◌}
 use Rattle.opl_eval.specs.declared.gather.Gathered.TheVariants as made
-use Rattle.opl_eval.specs.Gathered.{with_more}
+use Rattle.opl_eval.specs.declared.turns.Ahead.TheVariants as ahead
+use Rattle.opl_eval.specs.Gathered.{Gathers, with_more}
 use Rattle.opl_eval.specs.Scopes.{names_in}
 use Rattle.opl_eval.specs.Turns.{Leads, left, pending, still}
 use Rattle.opl_eval.specs.Visible.{Gives, held, within}
-use Rattle.opl_eval.specs.Visits.{bodies_at, bodies_in, bodies_of, group_visits, operations_in, over_visits, values_in}
+use Rattle.opl_eval.specs.Visits.{bodies_at, bodies_in, group_visits, operations_in, over_visits, values_in}
 use Rattle.opl_eval.proofs.Aggregates.{aggregate-fault, aggregate-is, begins, err-both, err-more, err-same, listed-found, passes-back, passes-groups}
 use Rattle.opl_eval.proofs.Choices.{group-Ordered, group-Unordered, leads-same, over-faults, over-made, reaches, visits-more, visits-none}
 use Rattle.opl_eval.proofs.Evals.{descriptions, evals, sets_of, steps_of}
@@ -34,21 +35,26 @@ step-returns-in_ok-go_back-in-Back t c =
 
 -- ---- the loop
 
-pub visit_all-loop-init : goal.visit_all-loop-init
-visit_all-loop-init t c =
-    begins c.args.visit c.args.gathered.now (names_in c.args.scope) (within c.args.scope.environment.now c.as_slice.result.now) c.new-turns.result.chosen.items
-    (ap (within c.args.scope.environment.now) c.as_slice.ensures.value ∙ c.in_ok-known.ensures) c.new-turns.ensures
+pub walk-loop-init : goal.walk-loop-init
+walk-loop-init t c = refl
 
-pub visit_all-loop-preserved : goal.visit_all-loop-preserved
-visit_all-loop-preserved t c = c.loop.invariant ∙ (rw c.in-Some.is at c.in_ok-next.ensures)
+pub walk-loop-preserved : goal.walk-loop-preserved
+walk-loop-preserved t c = c.loop.invariant ∙ (rw c.in-Some.is at c.in_ok-next.ensures)
 
-pub visit_all-returns-in-None : goal.visit_all-returns-in-None
-visit_all-returns-in-None t c = c.loop.invariant ∙ (rw c.in-None.is at c.in_ok-next.ensures)
+pub walk-returns-in-None : goal.walk-returns-in-None
+walk-returns-in-None t c = c.loop.invariant ∙ (rw c.in-None.is at c.in_ok-next.ensures)
 
-pub visit_all-returns-in_err-next : goal.visit_all-returns-in_err-next
-visit_all-returns-in_err-next t c =
-    let h = err-more c.args.gathered.now c.loop.gathered (bodies_of c.args.visit (names_in c.args.scope)) _ _ c.loop.invariant c.in_err-next.ensures in
+pub walk-returns-in_err-next : goal.walk-returns-in_err-next
+walk-returns-in_err-next t c =
+    let h = err-more c.args.gathered.now c.loop.gathered (pending (bodies_at c.args.visit) (within c.args.base.environment.now c.args.base.parameters.now) (ahead.Groups 0) c.args.turns.now.chosen.items) _ _ c.loop.invariant c.in_err-next.ensures in
     search rules
+
+pub visit_all-returns : goal.visit_all-returns
+visit_all-returns t c =
+    subst (λ f. Gathers f c.args.gathered.now c.walk.new.gathered c.walk.result)
+    (sym (begins c.args.visit (names_in c.args.scope) (within c.args.scope.environment.now c.as_slice.result.now) c.new-turns.result.chosen.items
+    (ap (within c.args.scope.environment.now) c.as_slice.ensures.value ∙ c.in_ok-known.ensures) c.new-turns.ensures))
+    c.walk.ensures
 
 -- ---- bodies
 
@@ -143,140 +149,140 @@ pub evaluate-returns-in-Question : goal.evaluate-returns-in-Question
 evaluate-returns-in-Question t c = grind (arith, evals)
 
 -- src/evaluate.rt
-pub evaluate-returns-in_err-elements-in-Listed : goal.evaluate-returns-in_err-elements-in-Listed
-evaluate-returns-in_err-elements-in-Listed t c = grind (arith, evals)
+pub opposite-returns : goal.opposite-returns
+opposite-returns t c = grind (arith, evals)
 
 -- src/evaluate.rt
-pub evaluate-returns-in_err-evaluate-in-AllDifferent : goal.evaluate-returns-in_err-evaluate-in-AllDifferent
-evaluate-returns-in_err-evaluate-in-AllDifferent t c = grind (arith, evals)
+pub opposite-returns-in_err-operand : goal.opposite-returns-in_err-operand
+opposite-returns-in_err-operand t c = grind (arith, evals)
 
 -- src/evaluate.rt
-pub evaluate-returns-in_err-evaluate-in-Call : goal.evaluate-returns-in_err-evaluate-in-Call
-evaluate-returns-in_err-evaluate-in-Call t c = grind (arith, evals)
+pub chain-returns : goal.chain-returns
+chain-returns t c = grind (arith, evals)
 
 -- src/evaluate.rt
-pub evaluate-returns-in_err-evaluate-in-Negative : goal.evaluate-returns-in_err-evaluate-in-Negative
-evaluate-returns-in_err-evaluate-in-Negative t c = grind (arith, evals)
+pub chain-returns-in_err-first : goal.chain-returns-in_err-first
+chain-returns-in_err-first t c = grind (arith, evals)
 
 -- src/evaluate.rt
-pub evaluate-returns-in_err-first-in-Chain : goal.evaluate-returns-in_err-first-in-Chain
-evaluate-returns-in_err-first-in-Chain t c = grind (arith, evals)
+pub chain-returns-in_err-first-2 : goal.chain-returns-in_err-first-2
+chain-returns-in_err-first-2 t c = grind (arith, evals)
 
 -- src/evaluate.rt
-pub evaluate-returns-in_err-first-in-Chain-2 : goal.evaluate-returns-in_err-first-in-Chain-2
-evaluate-returns-in_err-first-in-Chain-2 t c = grind (arith, evals)
+pub comparison-returns : goal.comparison-returns
+comparison-returns t c = grind (arith, evals)
 
 -- src/evaluate.rt
-pub evaluate-returns-in_err-key-in-Element : goal.evaluate-returns-in_err-key-in-Element
-evaluate-returns-in_err-key-in-Element t c = grind (arith, evals)
+pub comparison-returns-in_err-left : goal.comparison-returns-in_err-left
+comparison-returns-in_err-left t c = grind (arith, evals)
 
 -- src/evaluate.rt
-pub evaluate-returns-in_err-left-in-Related : goal.evaluate-returns-in_err-left-in-Related
-evaluate-returns-in_err-left-in-Related t c = grind (arith, evals)
+pub comparison-returns-in_err-left-2 : goal.comparison-returns-in_err-left-2
+comparison-returns-in_err-left-2 t c = grind (arith, evals)
 
 -- src/evaluate.rt
-pub evaluate-returns-in_err-left-in-Related-2 : goal.evaluate-returns-in_err-left-in-Related-2
-evaluate-returns-in_err-left-in-Related-2 t c = grind (arith, evals)
+pub membership-returns : goal.membership-returns
+membership-returns t c = grind (arith, evals)
 
 -- src/evaluate.rt
-pub evaluate-returns-in_err-operand-in-Not : goal.evaluate-returns-in_err-operand-in-Not
-evaluate-returns-in_err-operand-in-Not t c = grind (arith, evals)
+pub membership-returns-in_err-value : goal.membership-returns-in_err-value
+membership-returns-in_err-value t c = grind (arith, evals)
 
 -- src/evaluate.rt
-pub evaluate-returns-in_err-parts-in-Record : goal.evaluate-returns-in_err-parts-in-Record
-evaluate-returns-in_err-parts-in-Record t c = grind (arith, evals)
+pub membership-returns-in_err-value-2 : goal.membership-returns-in_err-value-2
+membership-returns-in_err-value-2 t c = grind (arith, evals)
 
 -- src/evaluate.rt
-pub evaluate-returns-in_err-premise-in-Implied : goal.evaluate-returns-in_err-premise-in-Implied
-evaluate-returns-in_err-premise-in-Implied t c = grind (arith, evals)
+pub equivalence-returns : goal.equivalence-returns
+equivalence-returns t c = grind (arith, evals)
 
 -- src/evaluate.rt
-pub evaluate-returns-in_err-premise-in-Implied-2 : goal.evaluate-returns-in_err-premise-in-Implied-2
-evaluate-returns-in_err-premise-in-Implied-2 t c = grind (arith, evals)
+pub equivalence-returns-in_err-values : goal.equivalence-returns-in_err-values
+equivalence-returns-in_err-values t c = grind (arith, evals)
 
 -- src/evaluate.rt
-pub evaluate-returns-in_err-value-in-Member : goal.evaluate-returns-in_err-value-in-Member
-evaluate-returns-in_err-value-in-Member t c = grind (arith, evals)
+pub implication-returns : goal.implication-returns
+implication-returns t c = grind (arith, evals)
 
 -- src/evaluate.rt
-pub evaluate-returns-in_err-value-in-Member-2 : goal.evaluate-returns-in_err-value-in-Member-2
-evaluate-returns-in_err-value-in-Member-2 t c = grind (arith, evals)
+pub implication-returns-in_err-premise : goal.implication-returns-in_err-premise
+implication-returns-in_err-premise t c = grind (arith, evals)
 
 -- src/evaluate.rt
-pub evaluate-returns-in_err-values-in-And : goal.evaluate-returns-in_err-values-in-And
-evaluate-returns-in_err-values-in-And t c = grind (arith, evals)
+pub implication-returns-in_err-premise-2 : goal.implication-returns-in_err-premise-2
+implication-returns-in_err-premise-2 t c = grind (arith, evals)
 
 -- src/evaluate.rt
-pub evaluate-returns-in_err-values-in-Equivalent : goal.evaluate-returns-in_err-values-in-Equivalent
-evaluate-returns-in_err-values-in-Equivalent t c = grind (arith, evals)
+pub disjunction-returns : goal.disjunction-returns
+disjunction-returns t c = grind (arith, evals)
 
 -- src/evaluate.rt
-pub evaluate-returns-in_err-values-in-Or : goal.evaluate-returns-in_err-values-in-Or
-evaluate-returns-in_err-values-in-Or t c = grind (arith, evals)
+pub disjunction-returns-in_err-values : goal.disjunction-returns-in_err-values
+disjunction-returns-in_err-values t c = grind (arith, evals)
 
 -- src/evaluate.rt
-pub evaluate-returns-in_err-whole-in-Fields : goal.evaluate-returns-in_err-whole-in-Fields
-evaluate-returns-in_err-whole-in-Fields t c = grind (arith, evals)
+pub conjunction-returns : goal.conjunction-returns
+conjunction-returns t c = grind (arith, evals)
 
 -- src/evaluate.rt
-pub evaluate-returns-in_ok-elements-in-Listed : goal.evaluate-returns-in_ok-elements-in-Listed
-evaluate-returns-in_ok-elements-in-Listed t c = grind (arith, evals)
+pub conjunction-returns-in_err-values : goal.conjunction-returns-in_err-values
+conjunction-returns-in_err-values t c = grind (arith, evals)
 
 -- src/evaluate.rt
-pub evaluate-returns-in_ok-evaluate-in-AllDifferent : goal.evaluate-returns-in_ok-evaluate-in-AllDifferent
-evaluate-returns-in_ok-evaluate-in-AllDifferent t c = grind (arith, evals)
+pub negation-returns : goal.negation-returns
+negation-returns t c = grind (arith, evals)
 
 -- src/evaluate.rt
-pub evaluate-returns-in_ok-evaluate-in-Call : goal.evaluate-returns-in_ok-evaluate-in-Call
-evaluate-returns-in_ok-evaluate-in-Call t c = grind (arith, evals)
+pub negation-returns-in_err-operand : goal.negation-returns-in_err-operand
+negation-returns-in_err-operand t c = grind (arith, evals)
 
 -- src/evaluate.rt
-pub evaluate-returns-in_ok-evaluate-in-Negative : goal.evaluate-returns-in_ok-evaluate-in-Negative
-evaluate-returns-in_ok-evaluate-in-Negative t c = grind (arith, evals)
+pub call-returns : goal.call-returns
+call-returns t c = grind (arith, evals)
 
 -- src/evaluate.rt
-pub evaluate-returns-in_ok-first-in-Chain-2 : goal.evaluate-returns-in_ok-first-in-Chain-2
-evaluate-returns-in_ok-first-in-Chain-2 t c = grind (arith, evals)
+pub call-returns-in_err-operand : goal.call-returns-in_err-operand
+call-returns-in_err-operand t c = grind (arith, evals)
 
 -- src/evaluate.rt
-pub evaluate-returns-in_ok-key-in-Element : goal.evaluate-returns-in_ok-key-in-Element
-evaluate-returns-in_ok-key-in-Element t c = grind (arith, evals)
+pub difference-returns : goal.difference-returns
+difference-returns t c = grind (arith, evals)
 
 -- src/evaluate.rt
-pub evaluate-returns-in_ok-left-in-Related-2 : goal.evaluate-returns-in_ok-left-in-Related-2
-evaluate-returns-in_ok-left-in-Related-2 t c = grind (arith, evals)
+pub difference-returns-in_err-array : goal.difference-returns-in_err-array
+difference-returns-in_err-array t c = grind (arith, evals)
 
 -- src/evaluate.rt
-pub evaluate-returns-in_ok-operand-in-Not : goal.evaluate-returns-in_ok-operand-in-Not
-evaluate-returns-in_ok-operand-in-Not t c = grind (arith, evals)
+pub element_under-returns : goal.element_under-returns
+element_under-returns t c = grind (arith, evals)
 
 -- src/evaluate.rt
-pub evaluate-returns-in_ok-parts-in-Record : goal.evaluate-returns-in_ok-parts-in-Record
-evaluate-returns-in_ok-parts-in-Record t c = grind (arith, evals)
+pub element_under-returns-in_err-key : goal.element_under-returns-in_err-key
+element_under-returns-in_err-key t c = grind (arith, evals)
 
 -- src/evaluate.rt
-pub evaluate-returns-in_ok-premise-in-Implied-2 : goal.evaluate-returns-in_ok-premise-in-Implied-2
-evaluate-returns-in_ok-premise-in-Implied-2 t c = grind (arith, evals)
+pub field-returns : goal.field-returns
+field-returns t c = grind (arith, evals)
 
 -- src/evaluate.rt
-pub evaluate-returns-in_ok-value-in-Member-2 : goal.evaluate-returns-in_ok-value-in-Member-2
-evaluate-returns-in_ok-value-in-Member-2 t c = grind (arith, evals)
+pub field-returns-in_err-whole : goal.field-returns-in_err-whole
+field-returns-in_err-whole t c = grind (arith, evals)
 
 -- src/evaluate.rt
-pub evaluate-returns-in_ok-values-in-And : goal.evaluate-returns-in_ok-values-in-And
-evaluate-returns-in_ok-values-in-And t c = grind (arith, evals)
+pub record-returns : goal.record-returns
+record-returns t c = grind (arith, evals)
 
 -- src/evaluate.rt
-pub evaluate-returns-in_ok-values-in-Equivalent : goal.evaluate-returns-in_ok-values-in-Equivalent
-evaluate-returns-in_ok-values-in-Equivalent t c = grind (arith, evals)
+pub record-returns-in_err-parts : goal.record-returns-in_err-parts
+record-returns-in_err-parts t c = grind (arith, evals)
 
 -- src/evaluate.rt
-pub evaluate-returns-in_ok-values-in-Or : goal.evaluate-returns-in_ok-values-in-Or
-evaluate-returns-in_ok-values-in-Or t c = grind (arith, evals)
+pub listed-returns : goal.listed-returns
+listed-returns t c = grind (arith, evals)
 
 -- src/evaluate.rt
-pub evaluate-returns-in_ok-whole-in-Fields : goal.evaluate-returns-in_ok-whole-in-Fields
-evaluate-returns-in_ok-whole-in-Fields t c = grind (arith, evals)
+pub listed-returns-in_err-elements : goal.listed-returns-in_err-elements
+listed-returns-in_err-elements t c = grind (arith, evals)
 
 -- src/evaluate.rt
 pub evaluate_set-returns-in-Whole : goal.evaluate_set-returns-in-Whole
@@ -310,44 +316,44 @@ unfolding values_in
 key_of-returns t c = grind (arith, common_steps)
 
 -- src/evaluate.rt
-pub operation-returns-in_err-evaluate-in-Minus : goal.operation-returns-in_err-evaluate-in-Minus
-operation-returns-in_err-evaluate-in-Minus t c = grind (arith, steps_of)
+pub operation-returns-in_err-operand_of-in-Minus : goal.operation-returns-in_err-operand_of-in-Minus
+operation-returns-in_err-operand_of-in-Minus t c = grind (arith, steps_of)
 
 -- src/evaluate.rt
-pub operation-returns-in_err-evaluate-in-Plus : goal.operation-returns-in_err-evaluate-in-Plus
-operation-returns-in_err-evaluate-in-Plus t c = grind (arith, steps_of)
+pub operation-returns-in_err-operand_of-in-Plus : goal.operation-returns-in_err-operand_of-in-Plus
+operation-returns-in_err-operand_of-in-Plus t c = grind (arith, steps_of)
 
 -- src/evaluate.rt
-pub operation-returns-in_err-evaluate-in-Quotient : goal.operation-returns-in_err-evaluate-in-Quotient
-operation-returns-in_err-evaluate-in-Quotient t c = grind (arith, steps_of)
+pub operation-returns-in_err-operand_of-in-Quotient : goal.operation-returns-in_err-operand_of-in-Quotient
+operation-returns-in_err-operand_of-in-Quotient t c = grind (arith, steps_of)
 
 -- src/evaluate.rt
-pub operation-returns-in_err-evaluate-in-Remainder : goal.operation-returns-in_err-evaluate-in-Remainder
-operation-returns-in_err-evaluate-in-Remainder t c = grind (arith, steps_of)
+pub operation-returns-in_err-operand_of-in-Remainder : goal.operation-returns-in_err-operand_of-in-Remainder
+operation-returns-in_err-operand_of-in-Remainder t c = grind (arith, steps_of)
 
 -- src/evaluate.rt
-pub operation-returns-in_err-evaluate-in-Times : goal.operation-returns-in_err-evaluate-in-Times
-operation-returns-in_err-evaluate-in-Times t c = grind (arith, steps_of)
+pub operation-returns-in_err-operand_of-in-Times : goal.operation-returns-in_err-operand_of-in-Times
+operation-returns-in_err-operand_of-in-Times t c = grind (arith, steps_of)
 
 -- src/evaluate.rt
-pub operation-returns-in_ok-evaluate-in-Minus : goal.operation-returns-in_ok-evaluate-in-Minus
-operation-returns-in_ok-evaluate-in-Minus t c = grind (arith, steps_of)
+pub operation-returns-in_ok-operand_of-in-Minus : goal.operation-returns-in_ok-operand_of-in-Minus
+operation-returns-in_ok-operand_of-in-Minus t c = grind (arith, steps_of)
 
 -- src/evaluate.rt
-pub operation-returns-in_ok-evaluate-in-Plus : goal.operation-returns-in_ok-evaluate-in-Plus
-operation-returns-in_ok-evaluate-in-Plus t c = grind (arith, steps_of)
+pub operation-returns-in_ok-operand_of-in-Plus : goal.operation-returns-in_ok-operand_of-in-Plus
+operation-returns-in_ok-operand_of-in-Plus t c = grind (arith, steps_of)
 
 -- src/evaluate.rt
-pub operation-returns-in_ok-evaluate-in-Quotient : goal.operation-returns-in_ok-evaluate-in-Quotient
-operation-returns-in_ok-evaluate-in-Quotient t c = grind (arith, steps_of)
+pub operation-returns-in_ok-operand_of-in-Quotient : goal.operation-returns-in_ok-operand_of-in-Quotient
+operation-returns-in_ok-operand_of-in-Quotient t c = grind (arith, steps_of)
 
 -- src/evaluate.rt
-pub operation-returns-in_ok-evaluate-in-Remainder : goal.operation-returns-in_ok-evaluate-in-Remainder
-operation-returns-in_ok-evaluate-in-Remainder t c = grind (arith, steps_of)
+pub operation-returns-in_ok-operand_of-in-Remainder : goal.operation-returns-in_ok-operand_of-in-Remainder
+operation-returns-in_ok-operand_of-in-Remainder t c = grind (arith, steps_of)
 
 -- src/evaluate.rt
-pub operation-returns-in_ok-evaluate-in-Times : goal.operation-returns-in_ok-evaluate-in-Times
-operation-returns-in_ok-evaluate-in-Times t c = grind (arith, steps_of)
+pub operation-returns-in_ok-operand_of-in-Times : goal.operation-returns-in_ok-operand_of-in-Times
+operation-returns-in_ok-operand_of-in-Times t c = grind (arith, steps_of)
 
 -- src/evaluate.rt
 pub operations-loop-step-init : goal.operations-loop-step-init
