@@ -1,5 +1,6 @@
 pub mod ArrayCells
 pub mod Examples
+pub mod Found
 pub mod Inside
 pub mod Likeness
 pub mod Loops

@@ -15,23 +15,6 @@ use Rattle.opl_expression_types.proofs.Typing.{no-parts, more-parts, no-cells, m
 abbrev pub behind_nodes : List nodes.Node → Checked (List Node) → Checked (List Node)
 behind_nodes found c = and_then c (λ ns. Ok (map node_of found ++ ns))
 
--- one more in front of the others is one more behind those before
-joined : (before : List nodes.Node) (m : nodes.Node) (ns : List Node) → map node_of before ++ (node_of m ∷ ns) ≡ map node_of (before ++ m ∷ []) ++ ns
-joined [] m ns = refl
-joined (k ∷ ks) m ns = ap (λ rest. node_of k ∷ rest) (joined ks m ns)
-
-pushed : (before after : List nodes.Node) (m : nodes.Node) (c : Checked (List Node)) → after ≡ before ++ m ∷ [] →
-    behind_nodes before (and_then c (λ ns. Ok (node_of m ∷ ns))) ≡ behind_nodes after c
-pushed before after m (Err e) h = refl
-pushed before after m (Ok ns) h = ap (λ ms. Ok ms) (joined before m ns) ∙ ap (λ ms. Ok (map node_of ms ++ ns)) (sym h)
-
-pushed_two : (before between after : List nodes.Node) (m n : nodes.Node) (c : Checked (List Node)) → between ≡ before ++ m ∷ [] → after ≡ between ++ n ∷ [] →
-    behind_nodes before (and_then c (λ ns. Ok (node_of m ∷ node_of n ∷ ns))) ≡ behind_nodes after c
-pushed_two before between after m n (Err e) h g = refl
-pushed_two before between after m n (Ok ns) h g =
-    ap (λ ms. Ok ms) (joined before m (node_of n ∷ ns)) ∙ ap (λ ms. Ok (map node_of ms ++ (node_of n ∷ ns))) (sym h)
-    ∙ ap (λ ms. Ok ms) (joined between n ns) ∙ ap (λ ms. Ok (map node_of ms ++ ns)) (sym g)
-
 -- a part, where the expression itself has no fault
 typed_part : (sc : Scope) (f : Form) (n : nodes.Node) → typing sc f ≡ Ok (node_of n) → and_then (typing sc f) part ≡ part (node_of n)
 typed_part sc f n h = ap (λ c. and_then c part) h
@@ -43,32 +26,13 @@ module _ {T : Type 0} (sc : Scope) (form : T → Form) (whole : Checked (List No
       so_far ∙ ap (behind_nodes found) (at_drop_all (λ ys. typed_parts sc (forms_of (map form ys))) xs i all ∙ no-parts sc)
       ∙ ap (λ ns. Ok ns) (append-nil (map node_of found))
 
-  parts_here : (x : T) → i < length xs → x ≡ get_or xs i x →
+  pub parts_here : (x : T) → i < length xs → x ≡ get_or xs i x →
       whole ≡ behind_nodes found (and_then (and_then (typing sc (form x)) part) (λ n. and_then (typed_parts sc (forms_of (map form (drop (i + 1) xs)))) (λ ns. Ok (n ∷ ns))))
   parts_here x more here =
       so_far ∙ ap (behind_nodes found)
       (at_drop_more (λ ys. typed_parts sc (forms_of (map form ys))) xs i x more
       ∙ ap (λ y. typed_parts sc (forms_of (map form (y ∷ drop (i + 1) xs)))) (sym here)
       ∙ more-parts sc (form x) (forms_of (map form (drop (i + 1) xs))))
-
-  pub part_fault : (x : T) → i < length xs → x ≡ get_or xs i x → (e : TypeFault) → Gives node_of (typing sc (form x)) (Err e) → Gives (map node_of) whole (Err e)
-  part_fault x more here e h =
-      gives-same (map node_of) whole _ (Err e) (parts_here x more here)
-      (gives-fault (map node_of) (map node_of) _ _ e (gives-fault node_of (map node_of) _ _ e (gives-fault node_of node_of _ _ e h)))
-
-  pub part_wrong : (x : T) → i < length xs → x ≡ get_or xs i x → (n : nodes.Node) → typing sc (form x) ≡ Ok (node_of n) →
-      (e : TypeFault) → Gives node_of (part (node_of n)) (Err e) → Gives (map node_of) whole (Err e)
-  part_wrong x more here n t e h =
-      gives-same (map node_of) whole _ (Err e) (parts_here x more here)
-      (gives-fault (map node_of) (map node_of) _ _ e (gives-fault node_of (map node_of) _ _ e (gives-same node_of _ _ (Err e) (typed_part sc (form x) n t) h)))
-
-  pub part_added : (x : T) → i < length xs → x ≡ get_or xs i x → (n m : nodes.Node) → typing sc (form x) ≡ Ok (node_of n) → part (node_of n) ≡ Ok (node_of m) →
-      (more_found : List nodes.Node) → more_found ≡ found ++ m ∷ [] →
-      whole ≡ and_then (typed_parts sc (forms_of (map form (drop (i + 1) xs)))) (λ ns. Ok (map node_of more_found ++ ns))
-  part_added x more here n m t p more_found h =
-      parts_here x more here
-      ∙ ap (λ c. behind_nodes found (and_then c (λ k. and_then (typed_parts sc (forms_of (map form (drop (i + 1) xs)))) (λ ns. Ok (k ∷ ns))))) (typed_part sc (form x) n t ∙ p)
-      ∙ pushed found more_found m (typed_parts sc (forms_of (map form (drop (i + 1) xs)))) h
 
 module _ {T : Type 0} (sc : Scope) (form : T → Pair) (whole : Checked (List Node)) (xs : List T) (i : ℕ) (found : List nodes.Node)
     (so_far : whole ≡ and_then (typed_pairs sc (pairs_of (map form (drop i xs)))) (λ ns. Ok (map node_of found ++ ns))) where
@@ -79,50 +43,13 @@ module _ {T : Type 0} (sc : Scope) (form : T → Pair) (whole : Checked (List No
 
   -- the pair that stands next
   module _ (x : T) (more : i < length xs) (here : x ≡ get_or xs i x) (key cell : Form) (is : form x ≡ record { key = key; cell = cell }) where
-    pair_here : whole ≡ behind_nodes found (and_then (and_then (typing sc key) part) (λ m. and_then (and_then (typing sc cell) part) (λ n. and_then (typed_pairs sc (pairs_of (map form (drop (i + 1) xs)))) (λ ns. Ok (m ∷ n ∷ ns)))))
+    pub pair_here : whole ≡ behind_nodes found (and_then (and_then (typing sc key) part) (λ m. and_then (and_then (typing sc cell) part) (λ n. and_then (typed_pairs sc (pairs_of (map form (drop (i + 1) xs)))) (λ ns. Ok (m ∷ n ∷ ns)))))
     pair_here =
         so_far ∙ ap (behind_nodes found)
         (at_drop_more (λ ys. typed_pairs sc (pairs_of (map form ys))) xs i x more
         ∙ ap (λ y. typed_pairs sc (pairs_of (map form (y ∷ drop (i + 1) xs)))) (sym here)
         ∙ more-cells sc (form x).key (form x).cell (pairs_of (map form (drop (i + 1) xs)))
         ∙ ap (λ p. and_then (and_then (typing sc p.key) part) (λ m. and_then (and_then (typing sc p.cell) part) (λ n. and_then (typed_pairs sc (pairs_of (map form (drop (i + 1) xs)))) (λ ns. Ok (m ∷ n ∷ ns))))) is)
-
-    pub key_fault : (e : TypeFault) → Gives node_of (typing sc key) (Err e) → Gives (map node_of) whole (Err e)
-    key_fault e h =
-        gives-same (map node_of) whole _ (Err e) pair_here
-        (gives-fault (map node_of) (map node_of) _ _ e (gives-fault node_of (map node_of) _ _ e (gives-fault node_of node_of _ _ e h)))
-
-    pub key_wrong : (k : nodes.Node) → typing sc key ≡ Ok (node_of k) → (e : TypeFault) → Gives node_of (part (node_of k)) (Err e) → Gives (map node_of) whole (Err e)
-    key_wrong k t e h =
-        gives-same (map node_of) whole _ (Err e) pair_here
-        (gives-fault (map node_of) (map node_of) _ _ e (gives-fault node_of (map node_of) _ _ e (gives-same node_of _ _ (Err e) (typed_part sc key k t) h)))
-
-    cell_here : (k m : nodes.Node) → typing sc key ≡ Ok (node_of k) → part (node_of k) ≡ Ok (node_of m) →
-        whole ≡ behind_nodes found (and_then (and_then (typing sc cell) part) (λ n. and_then (typed_pairs sc (pairs_of (map form (drop (i + 1) xs)))) (λ ns. Ok (node_of m ∷ n ∷ ns))))
-    cell_here k m t p =
-        pair_here
-        ∙ ap (λ c. behind_nodes found (and_then c (λ m. and_then (and_then (typing sc cell) part) (λ n. and_then (typed_pairs sc (pairs_of (map form (drop (i + 1) xs)))) (λ ns. Ok (m ∷ n ∷ ns)))))) (typed_part sc key k t ∙ p)
-
-    pub cell_fault : (k m : nodes.Node) → typing sc key ≡ Ok (node_of k) → part (node_of k) ≡ Ok (node_of m) →
-        (e : TypeFault) → Gives node_of (typing sc cell) (Err e) → Gives (map node_of) whole (Err e)
-    cell_fault k m t p e h =
-        gives-same (map node_of) whole _ (Err e) (cell_here k m t p)
-        (gives-fault (map node_of) (map node_of) _ _ e (gives-fault node_of (map node_of) _ _ e (gives-fault node_of node_of _ _ e h)))
-
-    pub cell_wrong : (k m : nodes.Node) → typing sc key ≡ Ok (node_of k) → part (node_of k) ≡ Ok (node_of m) →
-        (l : nodes.Node) → typing sc cell ≡ Ok (node_of l) → (e : TypeFault) → Gives node_of (part (node_of l)) (Err e) → Gives (map node_of) whole (Err e)
-    cell_wrong k m t p l u e h =
-        gives-same (map node_of) whole _ (Err e) (cell_here k m t p)
-        (gives-fault (map node_of) (map node_of) _ _ e (gives-fault node_of (map node_of) _ _ e (gives-same node_of _ _ (Err e) (typed_part sc cell l u) h)))
-
-    pub pair_added : (k m : nodes.Node) → typing sc key ≡ Ok (node_of k) → part (node_of k) ≡ Ok (node_of m) →
-        (l n : nodes.Node) → typing sc cell ≡ Ok (node_of l) → part (node_of l) ≡ Ok (node_of n) →
-        (between after : List nodes.Node) → between ≡ found ++ m ∷ [] → after ≡ between ++ n ∷ [] →
-        whole ≡ and_then (typed_pairs sc (pairs_of (map form (drop (i + 1) xs)))) (λ ns. Ok (map node_of after ++ ns))
-    pair_added k m t p l n u q between after h g =
-        cell_here k m t p
-        ∙ ap (λ c. behind_nodes found (and_then c (λ n. and_then (typed_pairs sc (pairs_of (map form (drop (i + 1) xs)))) (λ ns. Ok (node_of m ∷ n ∷ ns))))) (typed_part sc cell l u ∙ q)
-        ∙ pushed_two found between after m n (typed_pairs sc (pairs_of (map form (drop (i + 1) xs)))) h g
 
 pub none_left : {T : Type 0} (form : T → Form) (rest : List T) → (rest ≡ [] → IsTrue false) → map form rest ≡ [] → IsTrue false
 none_left form [] some e = some refl
@@ -180,27 +107,8 @@ module _ (sc : Scope) (c : Checked Node) (fs gs : List Form) where
 
 -- one part is left
 module _ (sc : Scope) (whole : Checked (List Node)) (parts : List nodes.Node) (f : Form) (so_far : whole ≡ and_then (typed_parts sc (forms_of (f ∷ []))) (λ ns. Ok (map node_of parts ++ ns))) where
-  last_here : whole ≡ behind_nodes parts (and_then (and_then (typing sc f) part) (λ n. and_then (typed_parts sc (forms_of [])) (λ ns. Ok (n ∷ ns))))
+  pub last_here : whole ≡ behind_nodes parts (and_then (and_then (typing sc f) part) (λ n. and_then (typed_parts sc (forms_of [])) (λ ns. Ok (n ∷ ns))))
   last_here = so_far ∙ ap (behind_nodes parts) (more-parts sc f (forms_of []))
-
-  pub last_fault : (e : TypeFault) → Gives node_of (typing sc f) (Err e) → Gives (map node_of) whole (Err e)
-  last_fault e h =
-      gives-same (map node_of) whole _ (Err e) last_here
-      (gives-fault (map node_of) (map node_of) _ _ e (gives-fault node_of (map node_of) _ _ e (gives-fault node_of node_of _ _ e h)))
-
-  pub last_wrong : (n : nodes.Node) → typing sc f ≡ Ok (node_of n) → (e : TypeFault) → Gives node_of (part (node_of n)) (Err e) → Gives (map node_of) whole (Err e)
-  last_wrong n t e h =
-      gives-same (map node_of) whole _ (Err e) last_here
-      (gives-fault (map node_of) (map node_of) _ _ e (gives-fault node_of (map node_of) _ _ e (gives-same node_of _ _ (Err e) (typed_part sc f n t) h)))
-
-  pub last_added : (n m : nodes.Node) → typing sc f ≡ Ok (node_of n) → part (node_of n) ≡ Ok (node_of m) →
-      (more_parts : List nodes.Node) → more_parts ≡ parts ++ m ∷ [] → whole ≡ Ok (map node_of more_parts)
-  last_added n m t p more_parts h =
-      last_here
-      ∙ ap (λ c. behind_nodes parts (and_then c (λ k. and_then (typed_parts sc (forms_of [])) (λ ns. Ok (k ∷ ns))))) (typed_part sc f n t ∙ p)
-      ∙ pushed parts more_parts m (typed_parts sc (forms_of [])) h
-      ∙ ap (behind_nodes more_parts) (no-parts sc)
-      ∙ ap (λ ns. Ok ns) (append-nil (map node_of more_parts))
 
 -- no part is left
 pub none_behind : (sc : Scope) (whole : Checked (List Node)) (parts : List nodes.Node) → whole ≡ and_then (typed_parts sc (forms_of [])) (λ ns. Ok (map node_of parts ++ ns)) → whole ≡ Ok (map node_of parts)

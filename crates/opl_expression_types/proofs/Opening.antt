@@ -27,6 +27,7 @@ use Rattle.opl_type_rules.specs.Values.{Does, Gives, chained, node_of, range_of,
 use Rattle.opl_expression_types.specs.Values.{opened_in}
 use Rattle.opl_type_rules.proofs.Chains.{gives-fault, gives-memory, gives-same}
 use Rattle.opl_type_rules.proofs.Links.{gives-other, link-inner}
+use Rattle.opl_expression_types.proofs.Found.{checked_of, gives-itself, stopped, through_both, through_part}
 use Rattle.opl_expression_types.proofs.Inside.{alike-within}
 use Rattle.opl_expression_types.proofs.Likeness.{element-alike, field-alike}
 use Rattle.opl_expression_types.proofs.Typing.{typing-described}
@@ -152,6 +153,10 @@ group_bound o g over fresh typed inner bound =
 
 -- ---- parameters
 
+recorded : (sc : Scope) (p : Checked Node) (k : Node → List Sort) (ks : List Sort) → and_then p (λ n. Ok (k n)) ≡ Ok ks → and_then {B = Opened} p (λ n. Ok (record { scope = sc; kinds = k n })) ≡ Ok (record { scope = sc; kinds = ks })
+recorded sc (Ok n) k ks h = ap (λ c. and_then {B = Opened} c (λ xs. Ok (record { scope = sc; kinds = xs }))) h
+recorded sc (Err e) k ks h = cc
+
 module _ (sc : Scope) (need : Need) (whole : Params) (gs hs : List Group) (condition : Option Form) (is : whole ≡ params_form (groups_of gs) condition) (same : hs ≡ gs) where
   alone_opened : condition ≡ None → open_params need sc whole ≡ open_groups sc (groups_of hs)
   unfolding open_params open_groups
@@ -174,24 +179,20 @@ module _ (sc : Scope) (need : Need) (whole : Params) (gs hs : List Group) (condi
         ∙ ap (λ c. and_then c (λ o. and_then (and_then (typing o.scope f) (used need is_truth)) (λ n. Ok (record { scope = o.scope; kinds = o.kinds ++ kinds n })))) opens
         ∙ ap (λ s. and_then (and_then (typing s f) (used need is_truth)) (λ n. Ok (record { scope = o.scope; kinds = o.kinds ++ kinds n }))) (sym inside)
 
-    pub condition_fault : {D : Type 0} (q : D → Opened) (e : TypeFault) → Gives node_of (typing other f) (Err e) → Gives q (open_params need sc whole) (Err e)
-    condition_fault q e h = gives-same q (open_params need sc whole) _ (Err e) condition_here (gives-fault node_of q _ _ e (gives-fault node_of node_of _ _ e h))
+    module _ (found : Result nodes.Node TypeFault) (typed : Gives node_of (typing other f) found) (new : List Ty) where
+      pub condition_refused : {D : Type 0} (q : D → Opened) (e : TypeFault) →
+          Gives (λ (u : Unit {0}). map sort new) (and_then (and_then (checked_of found) (used need is_truth)) (λ n. Ok (o.kinds ++ kinds n))) (Err e) → Gives q (open_params need sc whole) (Err e)
+      condition_refused q e h =
+          gives-same q (open_params need sc whole) _ (Err e) condition_here
+          (gives-fault node_of q _ _ e (stopped (λ (u : Unit {0}). map sort new) node_of _ (λ n. o.kinds ++ kinds n) e
+          (through_both (λ (u : Unit {0}). map sort new) (typing other f) (used need is_truth) (λ n. Ok (o.kinds ++ kinds n)) found (Err e) typed h)))
 
-    module _ (n : nodes.Node) (typed : typing other f ≡ Ok (node_of n)) (is_taken : Bool) (taken : is_taken ≡ is_truth (sort n.ty)) where
-      condition_typed : open_params need sc whole ≡ and_then (settled need is_taken (node_of n)) (λ n. Ok (record { scope = o.scope; kinds = o.kinds ++ kinds n }))
-      condition_typed =
+      pub condition_added : and_then (and_then (checked_of found) (used need is_truth)) (λ n. Ok (o.kinds ++ kinds n)) ≡ Ok (map sort new) →
+          open_params need sc whole ≡ Ok (record { scope = o.scope; kinds = map sort new })
+      condition_added h =
           condition_here
-          ∙ ap (λ c. and_then (and_then c (used need is_truth)) (λ n. Ok (record { scope = o.scope; kinds = o.kinds ++ kinds n }))) typed
-          ∙ ap (λ b. and_then (settled need b (node_of n)) (λ n. Ok (record { scope = o.scope; kinds = o.kinds ++ kinds n }))) (sym taken)
-
-      pub condition_wrong : {D : Type 0} (q : D → Opened) (e : TypeFault) → Gives node_of (settled need is_taken (node_of n)) (Err e) → Gives q (open_params need sc whole) (Err e)
-      condition_wrong q e h = gives-same q (open_params need sc whole) _ (Err e) condition_typed (gives-fault node_of q _ _ e h)
-
-      pub condition_taken : (m : nodes.Node) → settled need is_taken (node_of n) ≡ Ok (node_of m) → (ks : List Sort) → ks ≡ o.kinds ++ kinds (node_of m) →
-          open_params need sc whole ≡ Ok (record { scope = o.scope; kinds = ks })
-      condition_taken m h ks added =
-          condition_typed ∙ ap (λ c. and_then c (λ n. Ok (record { scope = o.scope; kinds = o.kinds ++ kinds n }))) h
-          ∙ ap (λ k. Ok (record { scope = o.scope; kinds = k })) (sym added)
+          ∙ recorded o.scope (and_then (typing other f) (used need is_truth)) (λ n. o.kinds ++ kinds n) (map sort new)
+          (through_both (λ (u : Unit {0}). map sort new) (typing other f) (used need is_truth) (λ n. Ok (o.kinds ++ kinds n)) found (Ok tt) typed h)
 
 pub params_fault : {D : Type 0} (q : D → Opened) (sc : Scope) (need : Need) (whole : Params) (gs hs : List Group) (condition : Option Form) → whole ≡ params_form (groups_of gs) condition → hs ≡ gs →
     (e : TypeFault) → Gives q (open_groups sc (groups_of hs)) (Err e) → Gives q (open_params need sc whole) (Err e)
@@ -209,24 +210,12 @@ module _ (sc : Scope) (at : ℕ) (f : Form) (p : Params) (o : Opened) (opens : o
       ∙ ap (λ c. and_then (and_then (typing (scope_within sc p c) f) part) (λ n. and_then c (λ opened. Ok (of_data (node at (set n.sort) (n ∷ []) (is_storable n.sort) (kinds n ++ opened.kinds)))))) opens
       ∙ ap (λ s. and_then (and_then (typing s f) part) (λ n. Ok (of_data (node at (set n.sort) (n ∷ []) (is_storable n.sort) (kinds n ++ o.kinds))))) (sym inside)
 
-  pub described_fault : (e : TypeFault) → Gives node_of (typing other f) (Err e) → Gives node_of (typing sc (described at f p)) (Err e)
-  described_fault e h = gives-same node_of (typing sc (described at f p)) _ (Err e) described_here (gives-fault node_of node_of _ _ e (gives-fault node_of node_of _ _ e h))
-
-  module _ (n : nodes.Node) (typed : typing other f ≡ Ok (node_of n)) where
-    described_typed : typing sc (described at f p) ≡ and_then (part (node_of n)) (λ n. Ok (of_data (node at (set n.sort) (n ∷ []) (is_storable n.sort) (kinds n ++ o.kinds))))
-    described_typed =
-        described_here ∙ ap (λ c. and_then (and_then c part) (λ n. Ok (of_data (node at (set n.sort) (n ∷ []) (is_storable n.sort) (kinds n ++ o.kinds))))) typed
-
-    pub described_wrong : (e : TypeFault) → Gives node_of (part (node_of n)) (Err e) → Gives node_of (typing sc (described at f p)) (Err e)
-    described_wrong e h = gives-same node_of (typing sc (described at f p)) _ (Err e) described_typed (gives-fault node_of node_of _ _ e h)
-
-    pub described_made : (m : nodes.Node) → part (node_of n) ≡ Ok (node_of m) → (result : Result nodes.Node TypeFault) →
-        Gives node_of (Ok (of_data (node at (set (sort m.ty)) (node_of m ∷ []) (is_storable (sort m.ty)) (kinds (node_of m) ++ o.kinds)))) result →
-        Gives node_of (typing sc (described at f p)) result
-    described_made m h result g =
-        gives-same node_of (typing sc (described at f p)) _ result
-        (described_typed ∙ ap (λ c. and_then c (λ n. Ok (of_data (node at (set n.sort) (n ∷ []) (is_storable n.sort) (kinds n ++ o.kinds))))) h)
-        g
+  pub described_through : (found : Result nodes.Node TypeFault) (result : Result nodes.Node TypeFault) → Gives node_of (typing other f) found →
+      Gives node_of (and_then (and_then (checked_of found) part) (λ n. Ok (of_data (node at (set n.sort) (n ∷ []) (is_storable n.sort) (kinds n ++ o.kinds))))) result →
+      Gives node_of (typing sc (described at f p)) result
+  described_through found result h g =
+      gives-same node_of (typing sc (described at f p)) _ result described_here
+      (through_part node_of (typing other f) (λ n. Ok (of_data (node at (set n.sort) (n ∷ []) (is_storable n.sort) (kinds n ++ o.kinds)))) found result h g)
 
 -- a fault that isn't memory's is found
 found_fault : {A B : Type 0} (r : B → A) (c : Checked A) (e : TypeFault) → Gives r c (Err e) → (e ≡ OutOfMemory → IsTrue false) → c ≡ Err e
@@ -235,13 +224,6 @@ found_fault r c (Duplicate at) h no_memory = h
 found_fault r c (Mismatch at) h no_memory = h
 found_fault r c (NotData at) h no_memory = h
 found_fault r c OutOfMemory h no_memory = absurd (false≢true (no_memory refl))
-
-gives-itself : {A B : Type 0} (r : B → A) (e : TypeFault) → Gives r (Err e) (Err e)
-gives-itself r (Unknown at) = refl
-gives-itself r (Duplicate at) = refl
-gives-itself r (Mismatch at) = refl
-gives-itself r (NotData at) = refl
-gives-itself r OutOfMemory = tt
 
 pub wrongly : {B : Type 0} (r : B → Opened) (sc : Scope) (at : ℕ) (f : Form) (p : Params) (e : TypeFault) → Gives r (open_params data_alone sc p) (Err e) → (e ≡ OutOfMemory → IsTrue false) →
     (result : Result nodes.Node TypeFault) → Gives node_of (and_then (and_then (typing (with_values (names_of_params p) (map (λ n. anything) (names_of_params p)) sc) f) part) (λ n. Err e)) result →

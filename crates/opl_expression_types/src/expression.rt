@@ -15,6 +15,9 @@ ghost use Rattle.opl_type_rules.specs.declared.fault.TypeFault.TheVariants.{OutO
 ghost use Rattle.opl_type_rules.specs.Values.{Does, Gives, chained, need_of, node_of, range_of, within};
 ghost use Rattle.opl_expression_types.specs.Values.{opened_in};
 
+use crate::parts::{
+    add_condition, add_part, data_number_of, first_part, part_of, shown, signed, summed,
+};
 use crate::pattern::{all_fresh, bind_pattern, unknown_params};
 use opl_list::{Boxed, Seq};
 use opl_tree::{
@@ -28,9 +31,9 @@ use opl_type_rules::kind::Ty;
 use opl_type_rules::names::{Locals, Names, copied};
 use opl_type_rules::node::{Need, Node};
 use opl_type_rules::rules::{
-    Range, add_kinds, aggregate, all_different, append, arithmetic, between, bracketed, connected,
-    described, element, field, kinds_in, listed, member, misplaced, named, number, number_of, one,
-    question, related, row, size_of, two, whole,
+    Range, all_different, append, arithmetic, between, bracketed, connected, element, field,
+    kinds_in, listed, member, misplaced, named, number, number_of, one, question, related, row,
+    size_of, two, whole,
 };
 use std::alloc::Global;
 
@@ -65,10 +68,9 @@ fn imps(
 ) -> Result<Seq<Node>, TypeFault>
     ensures { Gives (map node_of) (and_then (spec.part (node_of first)) (λ n. and_then (spec.typed_parts (within model.now locals.now) (forms_of (map form.form_imp rest.now))) (λ ns. Ok (n ∷ ns)))) result }
 {
-    let mut found = Seq::new(alloc);
-    found.push(first.part()?)?;
+    let mut found = first_part(alloc, first)?;
     for t in rest {
-        found.push(imp(alloc, model, locals, t)?.part()?)?;
+        add_part(&mut found, imp(alloc, model, locals, t))?;
     }
     Ok(found)
 }
@@ -89,7 +91,7 @@ pub(crate) fn imp(
         None => Ok(premise),
         Some(conclusion) => {
             let premise = premise.part()?;
-            let conclusion = imp(alloc, model, locals, conclusion.get())?.part()?;
+            let conclusion = part_of(imp(alloc, model, locals, conclusion.get()))?;
             connected(alloc, t.at, two(alloc, premise, conclusion)?)
         }
     }
@@ -126,10 +128,9 @@ fn ands(
 ) -> Result<Seq<Node>, TypeFault>
     ensures { Gives (map node_of) (and_then (spec.part (node_of first)) (λ n. and_then (spec.typed_parts (within model.now locals.now) (forms_of (map form.form_and rest.now))) (λ ns. Ok (n ∷ ns)))) result }
 {
-    let mut found = Seq::new(alloc);
-    found.push(first.part()?)?;
+    let mut found = first_part(alloc, first)?;
     for t in rest {
-        found.push(and(alloc, model, locals, t)?.part()?)?;
+        add_part(&mut found, and(alloc, model, locals, t))?;
     }
     Ok(found)
 }
@@ -165,10 +166,9 @@ fn negs(
 ) -> Result<Seq<Node>, TypeFault>
     ensures { Gives (map node_of) (and_then (spec.part (node_of first)) (λ n. and_then (spec.typed_parts (within model.now locals.now) (forms_of (map form.form_neg rest.now))) (λ ns. Ok (n ∷ ns)))) result }
 {
-    let mut found = Seq::new(alloc);
-    found.push(first.part()?)?;
+    let mut found = first_part(alloc, first)?;
     for t in rest {
-        found.push(neg(alloc, model, locals, t)?.part()?)?;
+        add_part(&mut found, neg(alloc, model, locals, t))?;
     }
     Ok(found)
 }
@@ -186,7 +186,7 @@ pub(crate) fn neg(
 {
     match t {
         NegTree::Not(at, inner) => {
-            let inner = neg(alloc, model, locals, inner.get())?.part()?;
+            let inner = part_of(neg(alloc, model, locals, inner.get()))?;
             connected(alloc, *at, one(alloc, inner)?)
         }
         NegTree::Compare(inner) => compare(alloc, model, locals, inner),
@@ -207,12 +207,12 @@ pub(crate) fn compare(
     match t {
         CompareTree::Single(_, only) => add(alloc, model, locals, only.get()),
         CompareTree::Related(at, left, relation, right) => {
-            let left = add(alloc, model, locals, left.get())?.part()?;
-            let right = add(alloc, model, locals, right.get())?.part()?;
+            let left = part_of(add(alloc, model, locals, left.get()))?;
+            let right = part_of(add(alloc, model, locals, right.get()))?;
             related(alloc, model, *at, *relation, left, right)
         }
         CompareTree::Member(at, value, over) => {
-            let value = add(alloc, model, locals, value.get())?.part()?;
+            let value = part_of(add(alloc, model, locals, value.get()))?;
             let over = set_of_member(alloc, model, locals, over.get())?;
             member(alloc, model, *at, value, over)
         }
@@ -250,10 +250,9 @@ fn add_steps(
 ) -> Result<Seq<Node>, TypeFault>
     ensures { Gives (map node_of) (and_then (spec.part (node_of first)) (λ n. and_then (spec.typed_parts (within model.now locals.now) (forms_of (map form.form_add_step rest.now))) (λ ns. Ok (n ∷ ns)))) result }
 {
-    let mut found = Seq::new(alloc);
-    found.push(first.part()?)?;
+    let mut found = first_part(alloc, first)?;
     for t in rest {
-        found.push(add_step(alloc, model, locals, t)?.part()?)?;
+        add_part(&mut found, add_step(alloc, model, locals, t))?;
     }
     Ok(found)
 }
@@ -324,7 +323,7 @@ fn with_last(
     ensures { Gives (map node_of) (and_then (spec.typed_parts (within model.now locals.now) (forms_of (form.form_last_step last.now ∷ []))) (λ ns. Ok (map node_of parts ++ ns))) result }
 {
     let mut all = parts;
-    all.push(open(alloc, model, locals, &last.factor)?.part()?)?;
+    add_part(&mut all, open(alloc, model, locals, &last.factor))?;
     Ok(all)
 }
 
@@ -340,10 +339,9 @@ fn mul_steps(
 ) -> Result<Seq<Node>, TypeFault>
     ensures { Gives (map node_of) (and_then (spec.part (node_of first)) (λ n. and_then (spec.typed_parts (within model.now locals.now) (forms_of (map form.form_mul_step rest.now))) (λ ns. Ok (n ∷ ns)))) result }
 {
-    let mut found = Seq::new(alloc);
-    found.push(first.part()?)?;
+    let mut found = first_part(alloc, first)?;
     for t in rest {
-        found.push(mul_step(alloc, model, locals, t)?.part()?)?;
+        add_part(&mut found, mul_step(alloc, model, locals, t))?;
     }
     Ok(found)
 }
@@ -375,13 +373,16 @@ pub(crate) fn open(
 {
     match t {
         OpenTree::NegativeOpen(at, inner) => {
-            let inner = open(alloc, model, locals, inner.get())?.part()?;
-            number_of(alloc, *at, inner)
+            signed(alloc, *at, open(alloc, model, locals, inner.get()))
         }
         OpenTree::Aggregate(at, _, params, body) => {
             let opened = open_params(alloc, model, locals, Need::DataAlone, params.get())?;
-            let body = mul(alloc, model, &opened.locals, body.get())?.part()?;
-            aggregate(alloc, *at, opened.kinds, body)
+            summed(
+                alloc,
+                *at,
+                mul(alloc, model, &opened.locals, body.get()),
+                opened.kinds,
+            )
         }
     }
 }
@@ -399,8 +400,7 @@ pub(crate) fn sign(
 {
     match t {
         SignTree::Negative(at, inner) => {
-            let inner = sign(alloc, model, locals, inner.get())?.part()?;
-            number_of(alloc, *at, inner)
+            signed(alloc, *at, sign(alloc, model, locals, inner.get()))
         }
         SignTree::Postfix(inner) => post(alloc, model, locals, inner),
     }
@@ -481,10 +481,9 @@ fn adds(
 ) -> Result<Seq<Node>, TypeFault>
     ensures { Gives (map node_of) (and_then (spec.part (node_of first)) (λ n. and_then (spec.typed_parts (within model.now locals.now) (forms_of (map form.form_add rest.now))) (λ ns. Ok (n ∷ ns)))) result }
 {
-    let mut found = Seq::new(alloc);
-    found.push(first.part()?)?;
+    let mut found = first_part(alloc, first)?;
     for t in rest {
-        found.push(add(alloc, model, locals, t)?.part()?)?;
+        add_part(&mut found, add(alloc, model, locals, t))?;
     }
     Ok(found)
 }
@@ -502,7 +501,7 @@ pub(crate) fn all_adds(
 {
     let mut found = Seq::new(alloc);
     for t in parts {
-        found.push(add(alloc, model, locals, t)?.part()?)?;
+        add_part(&mut found, add(alloc, model, locals, t))?;
     }
     Ok(found)
 }
@@ -520,8 +519,8 @@ fn pairs(
 {
     let mut found = Seq::new(alloc);
     for t in parts {
-        found.push(add(alloc, model, locals, &t.key)?.part()?)?;
-        found.push(add(alloc, model, locals, &t.value)?.part()?)?;
+        add_part(&mut found, add(alloc, model, locals, &t.key))?;
+        add_part(&mut found, add(alloc, model, locals, &t.value))?;
     }
     Ok(found)
 }
@@ -539,12 +538,12 @@ fn set_of_member(
 {
     match &t.high {
         None => {
-            let only = add(alloc, model, locals, &t.low)?.part()?;
+            let only = part_of(add(alloc, model, locals, &t.low))?;
             whole(alloc, only)
         }
         Some(high) => {
-            let low = add(alloc, model, locals, &t.low)?.data_number()?;
-            let high = add(alloc, model, locals, high.get())?.data_number()?;
+            let low = data_number_of(add(alloc, model, locals, &t.low))?;
+            let high = data_number_of(add(alloc, model, locals, high.get()))?;
             between(alloc, low, high)
         }
     }
@@ -568,8 +567,8 @@ pub fn set(
             whole(alloc, only.settled(Need::DataAlone, is_set)?)
         }
         Some(high) => {
-            let low = add(alloc, model, locals, &t.low)?.data_number()?;
-            let high = add(alloc, model, locals, high.get())?.data_number()?;
+            let low = data_number_of(add(alloc, model, locals, &t.low))?;
+            let high = data_number_of(add(alloc, model, locals, high.get()))?;
             between(alloc, low, high)
         }
     }
@@ -601,7 +600,7 @@ fn wrongly_described(
     ensures { Gives node_of (and_then (and_then (spec.typing (with_values (spec.names_of_params (form.form_params params.now)) (map (λ n. anything) (spec.names_of_params (form.form_params params.now))) (within model.now locals.now)) (form.form_add value.now)) spec.part) (λ n. Err fault)) result }
 {
     let unknown = unknown_params(alloc, model, locals, params)?;
-    add(alloc, model, &unknown, value)?.part()?;
+    part_of(add(alloc, model, &unknown, value))?;
     Err(fault)
 }
 
@@ -621,8 +620,12 @@ fn described_set(
 {
     match opened {
         Ok(opened) => {
-            let value = add(alloc, model, &opened.locals, value)?.part()?;
-            described(alloc, at, value, opened.kinds)
+            shown(
+                alloc,
+                at,
+                add(alloc, model, &opened.locals, value),
+                opened.kinds,
+            )
         }
         Err(fault) => {
             if is_memory(&fault) {
@@ -658,7 +661,7 @@ pub(crate) fn prim(
         PrimTree::Number(at, _) => number(alloc, *at),
         PrimTree::Named(name) => named(alloc, model, locals, name),
         PrimTree::Bracket(at, inner) => {
-            let inner = expr(alloc, model, locals, inner.get())?.part()?;
+            let inner = part_of(expr(alloc, model, locals, inner.get()))?;
             bracketed(alloc, *at, inner)
         }
         PrimTree::Record(at, first, rest) => {
@@ -683,15 +686,15 @@ pub(crate) fn prim(
             misplaced(alloc, *at, parts)
         }
         PrimTree::Call(at, op, argument) => {
-            let argument = expr(alloc, model, locals, argument.get())?.part()?;
+            let argument = part_of(expr(alloc, model, locals, argument.get()))?;
             called(alloc, *at, *op, argument)
         }
         PrimTree::AllDifferent(at, argument) => {
-            let argument = add(alloc, model, locals, argument.get())?.part()?;
+            let argument = part_of(add(alloc, model, locals, argument.get()))?;
             all_different(alloc, *at, argument)
         }
         PrimTree::Question(at, op, argument) => {
-            let argument = post(alloc, model, locals, argument.get())?.part()?;
+            let argument = part_of(post(alloc, model, locals, argument.get()))?;
             question(alloc, model, *at, *op, argument)
         }
     }
@@ -797,9 +800,11 @@ pub fn open_params(
     match &t.condition {
         None => Ok(opened),
         Some(condition) => {
-            let node = expr(alloc, model, &opened.locals, condition.get())?;
-            let is_taken = node.ty.get().is_truth();
-            add_kinds(&mut opened.kinds, node.settled(need, is_taken)?)?;
+            add_condition(
+                &mut opened.kinds,
+                need,
+                expr(alloc, model, &opened.locals, condition.get()),
+            )?;
             Ok(opened)
         }
     }

@@ -2,6 +2,7 @@
 #![tactic(auto)]
 
 mod expression;
+mod parts;
 mod pattern;
 mod plain;
 

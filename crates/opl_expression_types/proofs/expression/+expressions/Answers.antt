@@ -1,15 +1,16 @@
 use Rattle.std.proofs.Common.{Err, Ok, Some, [], ap, arith, drop, map, refl, subst, sym, ◌++◌, ◌+◌, ◌∙◌, ◌∷◌}
 use Rattle.std.proofs.lemmas.Grind.{common_steps}
 use Rattle.std.specs.Option.{option_map}
-use Rattle.opl_expression_types.proofs.Loops.{back_alone, back_made, back_wrong, cell_fault, cell_wrong, chain_made, chain_wrong, first_fault, first_typed, front_wrong, key_fault, key_wrong, last_added, last_fault, last_wrong, none_left, pair_added, pairs_end, part_added, part_fault, part_wrong, parts_end}
-use Rattle.opl_expression_types.proofs.Opening.{condition_fault, condition_taken, condition_wrong, described_fault, described_made, described_wrong, ended_with, group_fault, group_here, group_made, group_opened, groups_begin, groups_end, link_added, link_fault, link_wrong, no_condition, params_fault, post_fault, suffix_added, suffix_element, suffix_fault, suffix_field, suffixes_end, wrongly}
+use Rattle.opl_expression_types.proofs.Loops.{back_alone, back_made, back_wrong, chain_made, chain_wrong, first_fault, first_typed, front_wrong, none_left, pairs_end, parts_end}
+use Rattle.opl_expression_types.proofs.Opening.{condition_added, condition_refused, described_through, ended_with, group_fault, group_here, group_made, group_opened, groups_begin, groups_end, link_added, link_fault, link_wrong, no_condition, params_fault, post_fault, suffix_added, suffix_element, suffix_fault, suffix_field, suffixes_end, wrongly}
+use Rattle.opl_expression_types.proofs.Found.{cell_refused, first_kept, first_refused, key_refused, last_kept, last_refused, pair_kept, part_kept, part_refused, through, through_part}
 use Rattle.opl_expression_types.proofs.Typing.{rules_of_forms, rules_of_pairs, rules_of_parts, rules_of_sets, typing-arithmetic, typing-connected}
 use Rattle.opl_expression_types.specs.Values.{opened_in}
 use Rattle.opl_tree.specs.declared.expression.CompareTree.TheViews.{out-AddTree, out-AndTree, out-ExprTree, out-GroupStep, out-GroupTree, out-KeyedTree, out-LastStep, out-OrTree, out-ParamsTree, out-PostTree, out-SubscriptsTree}
 use Rattle.opl_type_rules.proofs.Chains.{gives-same}
 use Rattle.opl_type_rules.proofs.Forms.{add_forms, add_step_forms, and_forms, compare_forms, expr_forms, form_add-is, form_and-is, form_expr-is, form_group-is, form_group_step-is, form_keyed-is, form_last_step-is, form_mul-Product, form_or-is, form_params-is, form_post-is, form_subscripts-is, form_suffix-Field, form_suffix-Subscripts, group_forms, imp_forms, keyed_forms, mul_forms, mul_step_forms, neg_forms, open_forms, or_forms, params_forms, post_forms, prim_forms, set_forms, sign_forms, suffix_forms}
 use Rattle.opl_type_rules.proofs.Steps.{typing-suffixes}
-use Rattle.opl_type_rules.specs.Expressions.{all_sorts, made, open_groups, open_params, typed_parts, typing}
+use Rattle.opl_type_rules.specs.Expressions.{all_sorts, data_number, kinds, made, node, open_groups, open_params, part, typed_parts, typing}
 use Rattle.opl_type_rules.specs.Expressions.Need.{data_alone}
 use Rattle.opl_type_rules.specs.Forms.{form_add, form_add_step, form_and, form_expr, form_group, form_group_step, form_imp, form_keyed, form_last_step, form_mul, form_mul_step, form_neg, form_open, form_or, form_params, form_post, form_prim, form_set, form_sign, form_subscripts, form_suffix, forms_of, groups_of, or_none}
 use Rattle.opl_type_rules.specs.Forms.Form.{arithmetic, connected}
@@ -29,19 +30,9 @@ pub expr-returns : goal.expr-returns
 expr-returns t c =
     chain_made (within c.args.model.now c.args.locals.now) (connected (out-ExprTree c.args.t.now).at) (λ ns. made (out-ExprTree c.args.t.now).at bool ns (all_sorts is_truth ns)) (typing-connected _ (out-ExprTree c.args.t.now).at) (form_expr c.args.t.now) (form_imp (out-ExprTree c.args.t.now).first) (map form_imp (out-ExprTree c.args.t.now).rest) (map form_imp c.as_slice.result.now) (form_expr-is c.args.t.now) (ap (map form_imp) c.as_slice.ensures) (none_left form_imp (out-ExprTree c.args.t.now).rest c.if-is_empty.ensures.1) c.in_ok-first.first c.in_ok-first.ensures c.in_ok-parts.parts c.in_ok-parts.ensures c.connected.result c.connected.ensures
 
-pub imps-returns-in_err-imp : goal.imps-returns-in_err-imp
-imps-returns-in_err-imp t c =
-    let h = part_fault (within c.args.model.now c.args.locals.now) form_imp _ c.args.rest.now c.loop-t.t-index c.loop-t.found c.loop-t.invariant c.t-item.result c.loop-t-test.true c.t-item.is c.in_err-imp.field-0.0 c.in_err-imp.ensures in
-    grind (arith)
-
-pub imps-returns-in_err-part-2 : goal.imps-returns-in_err-part-2
-imps-returns-in_err-part-2 t c =
-    let h = part_wrong (within c.args.model.now c.args.locals.now) form_imp _ c.args.rest.now c.loop-t.t-index c.loop-t.found c.loop-t.invariant c.t-item.result c.loop-t-test.true c.t-item.is c.in_ok-imp.field-0 c.in_ok-imp.ensures c.in_err-part-2.field-0.0 c.in_err-part-2.ensures in
-    grind (arith)
-
 pub imps-loop-t-preserved : goal.imps-loop-t-preserved
 imps-loop-t-preserved t c =
-    part_added (within c.args.model.now c.args.locals.now) form_imp _ c.args.rest.now c.loop-t.t-index c.loop-t.found c.loop-t.invariant c.t-item.result c.loop-t-test.true c.t-item.is c.in_ok-imp.field-0 c.in_ok-part-2.field-0 c.in_ok-imp.ensures c.in_ok-part-2.ensures c.push-in-loop-t.new.self c.in_ok-push-2.ensures.ok
+    part_kept (within c.args.model.now c.args.locals.now) form_imp _ c.args.rest.now c.loop-t.t-index c.loop-t.found c.loop-t.invariant c.t-item.result c.loop-t-test.true c.t-item.is c.imp.result c.add_part.new.parts (c.imp.ensures, c.in_ok-add_part.ensures)
 
 pub imps-returns : goal.imps-returns
 imps-returns t c =
@@ -56,19 +47,9 @@ pub or-returns : goal.or-returns
 or-returns t c =
     chain_made (within c.args.model.now c.args.locals.now) (connected (out-OrTree c.args.t.now).at) (λ ns. made (out-OrTree c.args.t.now).at bool ns (all_sorts is_truth ns)) (typing-connected _ (out-OrTree c.args.t.now).at) (form_or c.args.t.now) (form_and (out-OrTree c.args.t.now).first) (map form_and (out-OrTree c.args.t.now).rest) (map form_and c.as_slice.result.now) (form_or-is c.args.t.now) (ap (map form_and) c.as_slice.ensures) (none_left form_and (out-OrTree c.args.t.now).rest c.if-is_empty.ensures.1) c.in_ok-first.first c.in_ok-first.ensures c.in_ok-parts.parts c.in_ok-parts.ensures c.connected.result c.connected.ensures
 
-pub ands-returns-in_err-and : goal.ands-returns-in_err-and
-ands-returns-in_err-and t c =
-    let h = part_fault (within c.args.model.now c.args.locals.now) form_and _ c.args.rest.now c.loop-t.t-index c.loop-t.found c.loop-t.invariant c.t-item.result c.loop-t-test.true c.t-item.is c.in_err-and.field-0.0 c.in_err-and.ensures in
-    grind (arith)
-
-pub ands-returns-in_err-part-2 : goal.ands-returns-in_err-part-2
-ands-returns-in_err-part-2 t c =
-    let h = part_wrong (within c.args.model.now c.args.locals.now) form_and _ c.args.rest.now c.loop-t.t-index c.loop-t.found c.loop-t.invariant c.t-item.result c.loop-t-test.true c.t-item.is c.in_ok-and.field-0 c.in_ok-and.ensures c.in_err-part-2.field-0.0 c.in_err-part-2.ensures in
-    grind (arith)
-
 pub ands-loop-t-preserved : goal.ands-loop-t-preserved
 ands-loop-t-preserved t c =
-    part_added (within c.args.model.now c.args.locals.now) form_and _ c.args.rest.now c.loop-t.t-index c.loop-t.found c.loop-t.invariant c.t-item.result c.loop-t-test.true c.t-item.is c.in_ok-and.field-0 c.in_ok-part-2.field-0 c.in_ok-and.ensures c.in_ok-part-2.ensures c.push-in-loop-t.new.self c.in_ok-push-2.ensures.ok
+    part_kept (within c.args.model.now c.args.locals.now) form_and _ c.args.rest.now c.loop-t.t-index c.loop-t.found c.loop-t.invariant c.t-item.result c.loop-t-test.true c.t-item.is c.and.result c.add_part.new.parts (c.and.ensures, c.in_ok-add_part.ensures)
 
 pub ands-returns : goal.ands-returns
 ands-returns t c =
@@ -83,19 +64,9 @@ pub and-returns : goal.and-returns
 and-returns t c =
     chain_made (within c.args.model.now c.args.locals.now) (connected (out-AndTree c.args.t.now).at) (λ ns. made (out-AndTree c.args.t.now).at bool ns (all_sorts is_truth ns)) (typing-connected _ (out-AndTree c.args.t.now).at) (form_and c.args.t.now) (form_neg (out-AndTree c.args.t.now).first) (map form_neg (out-AndTree c.args.t.now).rest) (map form_neg c.as_slice.result.now) (form_and-is c.args.t.now) (ap (map form_neg) c.as_slice.ensures) (none_left form_neg (out-AndTree c.args.t.now).rest c.if-is_empty.ensures.1) c.in_ok-first.first c.in_ok-first.ensures c.in_ok-parts.parts c.in_ok-parts.ensures c.connected.result c.connected.ensures
 
-pub negs-returns-in_err-neg : goal.negs-returns-in_err-neg
-negs-returns-in_err-neg t c =
-    let h = part_fault (within c.args.model.now c.args.locals.now) form_neg _ c.args.rest.now c.loop-t.t-index c.loop-t.found c.loop-t.invariant c.t-item.result c.loop-t-test.true c.t-item.is c.in_err-neg.field-0.0 c.in_err-neg.ensures in
-    grind (arith)
-
-pub negs-returns-in_err-part-2 : goal.negs-returns-in_err-part-2
-negs-returns-in_err-part-2 t c =
-    let h = part_wrong (within c.args.model.now c.args.locals.now) form_neg _ c.args.rest.now c.loop-t.t-index c.loop-t.found c.loop-t.invariant c.t-item.result c.loop-t-test.true c.t-item.is c.in_ok-neg.field-0 c.in_ok-neg.ensures c.in_err-part-2.field-0.0 c.in_err-part-2.ensures in
-    grind (arith)
-
 pub negs-loop-t-preserved : goal.negs-loop-t-preserved
 negs-loop-t-preserved t c =
-    part_added (within c.args.model.now c.args.locals.now) form_neg _ c.args.rest.now c.loop-t.t-index c.loop-t.found c.loop-t.invariant c.t-item.result c.loop-t-test.true c.t-item.is c.in_ok-neg.field-0 c.in_ok-part-2.field-0 c.in_ok-neg.ensures c.in_ok-part-2.ensures c.push-in-loop-t.new.self c.in_ok-push-2.ensures.ok
+    part_kept (within c.args.model.now c.args.locals.now) form_neg _ c.args.rest.now c.loop-t.t-index c.loop-t.found c.loop-t.invariant c.t-item.result c.loop-t-test.true c.t-item.is c.neg.result c.add_part.new.parts (c.neg.ensures, c.in_ok-add_part.ensures)
 
 pub negs-returns : goal.negs-returns
 negs-returns t c =
@@ -110,19 +81,9 @@ pub add-returns : goal.add-returns
 add-returns t c =
     chain_made (within c.args.model.now c.args.locals.now) (arithmetic (out-AddTree c.args.t.now).at) (λ ns. made (out-AddTree c.args.t.now).at int ns (all_sorts is_number ns)) (typing-arithmetic _ (out-AddTree c.args.t.now).at) (form_add c.args.t.now) (form_mul (out-AddTree c.args.t.now).first) (map form_add_step (out-AddTree c.args.t.now).rest) (map form_add_step c.as_slice.result.now) (form_add-is c.args.t.now) (ap (map form_add_step) c.as_slice.ensures) (none_left form_add_step (out-AddTree c.args.t.now).rest c.if-is_empty.ensures.1) c.in_ok-first.first c.in_ok-first.ensures c.in_ok-parts.parts c.in_ok-parts.ensures c.arithmetic.result c.arithmetic.ensures
 
-pub add_steps-returns-in_err-add_step : goal.add_steps-returns-in_err-add_step
-add_steps-returns-in_err-add_step t c =
-    let h = part_fault (within c.args.model.now c.args.locals.now) form_add_step _ c.args.rest.now c.loop-t.t-index c.loop-t.found c.loop-t.invariant c.t-item.result c.loop-t-test.true c.t-item.is c.in_err-add_step.field-0.0 c.in_err-add_step.ensures in
-    grind (arith)
-
-pub add_steps-returns-in_err-part-2 : goal.add_steps-returns-in_err-part-2
-add_steps-returns-in_err-part-2 t c =
-    let h = part_wrong (within c.args.model.now c.args.locals.now) form_add_step _ c.args.rest.now c.loop-t.t-index c.loop-t.found c.loop-t.invariant c.t-item.result c.loop-t-test.true c.t-item.is c.in_ok-add_step.field-0 c.in_ok-add_step.ensures c.in_err-part-2.field-0.0 c.in_err-part-2.ensures in
-    grind (arith)
-
 pub add_steps-loop-t-preserved : goal.add_steps-loop-t-preserved
 add_steps-loop-t-preserved t c =
-    part_added (within c.args.model.now c.args.locals.now) form_add_step _ c.args.rest.now c.loop-t.t-index c.loop-t.found c.loop-t.invariant c.t-item.result c.loop-t-test.true c.t-item.is c.in_ok-add_step.field-0 c.in_ok-part-2.field-0 c.in_ok-add_step.ensures c.in_ok-part-2.ensures c.push-in-loop-t.new.self c.in_ok-push-2.ensures.ok
+    part_kept (within c.args.model.now c.args.locals.now) form_add_step _ c.args.rest.now c.loop-t.t-index c.loop-t.found c.loop-t.invariant c.t-item.result c.loop-t-test.true c.t-item.is c.add_step.result c.add_part.new.parts (c.add_step.ensures, c.in_ok-add_part.ensures)
 
 pub add_steps-returns : goal.add_steps-returns
 add_steps-returns t c =
@@ -152,33 +113,13 @@ mul-returns-in_ok-all-in-Some t c =
     (ap (λ gs. and_then (typed_parts (within c.args.model.now c.args.locals.now) (forms_of gs)) (λ ns. Ok (map node_of c.in_ok-parts-in-Product.parts ++ ns))) (ap (λ o. or_none (option_map form_last_step o)) c.in-Some.is) ∙ c.in_ok-all-in-Some.ensures)
     c.arithmetic-in-Some.result c.arithmetic-in-Some.ensures
 
-pub with_last-returns-in_err-open : goal.with_last-returns-in_err-open
-with_last-returns-in_err-open t c =
-    let h = last_fault (within c.args.model.now c.args.locals.now) _ c.args.parts (form_open (out-LastStep c.args.last.now).factor) (ap (λ f. and_then (typed_parts (within c.args.model.now c.args.locals.now) (forms_of (f ∷ []))) (λ ns. Ok (map node_of c.args.parts ++ ns))) (form_last_step-is c.args.last.now)) c.in_err-open.field-0.0 c.in_err-open.ensures in
-    grind (arith)
-
-pub with_last-returns-in_err-part : goal.with_last-returns-in_err-part
-with_last-returns-in_err-part t c =
-    let h = last_wrong (within c.args.model.now c.args.locals.now) _ c.args.parts (form_open (out-LastStep c.args.last.now).factor) (ap (λ f. and_then (typed_parts (within c.args.model.now c.args.locals.now) (forms_of (f ∷ []))) (λ ns. Ok (map node_of c.args.parts ++ ns))) (form_last_step-is c.args.last.now)) c.in_ok-open.field-0 c.in_ok-open.ensures c.in_err-part.field-0.0 c.in_err-part.ensures in
-    grind (arith)
-
 pub with_last-returns : goal.with_last-returns
 with_last-returns t c =
-    last_added (within c.args.model.now c.args.locals.now) _ c.args.parts (form_open (out-LastStep c.args.last.now).factor) (ap (λ f. and_then (typed_parts (within c.args.model.now c.args.locals.now) (forms_of (f ∷ []))) (λ ns. Ok (map node_of c.args.parts ++ ns))) (form_last_step-is c.args.last.now)) c.in_ok-open.field-0 c.in_ok-part.field-0 c.in_ok-open.ensures c.in_ok-part.ensures c.push.new.self c.in_ok-push.ensures.ok
-
-pub mul_steps-returns-in_err-mul_step : goal.mul_steps-returns-in_err-mul_step
-mul_steps-returns-in_err-mul_step t c =
-    let h = part_fault (within c.args.model.now c.args.locals.now) form_mul_step _ c.args.rest.now c.loop-t.t-index c.loop-t.found c.loop-t.invariant c.t-item.result c.loop-t-test.true c.t-item.is c.in_err-mul_step.field-0.0 c.in_err-mul_step.ensures in
-    grind (arith)
-
-pub mul_steps-returns-in_err-part-2 : goal.mul_steps-returns-in_err-part-2
-mul_steps-returns-in_err-part-2 t c =
-    let h = part_wrong (within c.args.model.now c.args.locals.now) form_mul_step _ c.args.rest.now c.loop-t.t-index c.loop-t.found c.loop-t.invariant c.t-item.result c.loop-t-test.true c.t-item.is c.in_ok-mul_step.field-0 c.in_ok-mul_step.ensures c.in_err-part-2.field-0.0 c.in_err-part-2.ensures in
-    grind (arith)
+    last_kept (within c.args.model.now c.args.locals.now) _ c.args.parts (form_open (out-LastStep c.args.last.now).factor) (ap (λ f. and_then (typed_parts (within c.args.model.now c.args.locals.now) (forms_of (f ∷ []))) (λ ns. Ok (map node_of c.args.parts ++ ns))) (form_last_step-is c.args.last.now)) c.open.result c.add_part.new.parts (c.open.ensures, c.in_ok-add_part.ensures)
 
 pub mul_steps-loop-t-preserved : goal.mul_steps-loop-t-preserved
 mul_steps-loop-t-preserved t c =
-    part_added (within c.args.model.now c.args.locals.now) form_mul_step _ c.args.rest.now c.loop-t.t-index c.loop-t.found c.loop-t.invariant c.t-item.result c.loop-t-test.true c.t-item.is c.in_ok-mul_step.field-0 c.in_ok-part-2.field-0 c.in_ok-mul_step.ensures c.in_ok-part-2.ensures c.push-in-loop-t.new.self c.in_ok-push-2.ensures.ok
+    part_kept (within c.args.model.now c.args.locals.now) form_mul_step _ c.args.rest.now c.loop-t.t-index c.loop-t.found c.loop-t.invariant c.t-item.result c.loop-t-test.true c.t-item.is c.mul_step.result c.add_part.new.parts (c.mul_step.ensures, c.in_ok-add_part.ensures)
 
 pub mul_steps-returns : goal.mul_steps-returns
 mul_steps-returns t c =
@@ -234,83 +175,33 @@ subscripts-returns t c =
     (first_typed (within c.args.model.now c.args.locals.now) form_add (form_subscripts c.args.t.now) (form_add c.get.result.now) (out-SubscriptsTree c.args.t.now).rest c.as_slice.result.now (form_subscripts-is c.args.t.now ∙ ap (λ x. form_add x ∷ map form_add (out-SubscriptsTree c.args.t.now).rest) (sym c.get.ensures)) c.as_slice.ensures c.in_ok-first.first c.in_ok-first.ensures)
     c.adds.ensures
 
-pub adds-returns-in_err-add : goal.adds-returns-in_err-add
-adds-returns-in_err-add t c =
-    let h = part_fault (within c.args.model.now c.args.locals.now) form_add _ c.args.rest.now c.loop-t.t-index c.loop-t.found c.loop-t.invariant c.t-item.result c.loop-t-test.true c.t-item.is c.in_err-add.field-0.0 c.in_err-add.ensures in
-    grind (arith)
-
-pub adds-returns-in_err-part-2 : goal.adds-returns-in_err-part-2
-adds-returns-in_err-part-2 t c =
-    let h = part_wrong (within c.args.model.now c.args.locals.now) form_add _ c.args.rest.now c.loop-t.t-index c.loop-t.found c.loop-t.invariant c.t-item.result c.loop-t-test.true c.t-item.is c.in_ok-add.field-0 c.in_ok-add.ensures c.in_err-part-2.field-0.0 c.in_err-part-2.ensures in
-    grind (arith)
-
 pub adds-loop-t-preserved : goal.adds-loop-t-preserved
 adds-loop-t-preserved t c =
-    part_added (within c.args.model.now c.args.locals.now) form_add _ c.args.rest.now c.loop-t.t-index c.loop-t.found c.loop-t.invariant c.t-item.result c.loop-t-test.true c.t-item.is c.in_ok-add.field-0 c.in_ok-part-2.field-0 c.in_ok-add.ensures c.in_ok-part-2.ensures c.push-in-loop-t.new.self c.in_ok-push-2.ensures.ok
+    part_kept (within c.args.model.now c.args.locals.now) form_add _ c.args.rest.now c.loop-t.t-index c.loop-t.found c.loop-t.invariant c.t-item.result c.loop-t-test.true c.t-item.is c.add.result c.add_part.new.parts (c.add.ensures, c.in_ok-add_part.ensures)
 
 pub adds-returns : goal.adds-returns
 adds-returns t c =
     parts_end (within c.args.model.now c.args.locals.now) form_add _ c.args.rest.now c.loop-t.t-index c.loop-t.found c.loop-t.invariant c.loop-t-test.false
 
-pub all_adds-returns-in_err-add : goal.all_adds-returns-in_err-add
-all_adds-returns-in_err-add t c =
-    let h = part_fault (within c.args.model.now c.args.locals.now) form_add _ c.args.parts.now c.loop-t.t-index c.loop-t.found c.loop-t.invariant c.t-item.result c.loop-t-test.true c.t-item.is c.in_err-add.field-0.0 c.in_err-add.ensures in
-    grind (arith)
-
-pub all_adds-returns-in_err-part : goal.all_adds-returns-in_err-part
-all_adds-returns-in_err-part t c =
-    let h = part_wrong (within c.args.model.now c.args.locals.now) form_add _ c.args.parts.now c.loop-t.t-index c.loop-t.found c.loop-t.invariant c.t-item.result c.loop-t-test.true c.t-item.is c.in_ok-add.field-0 c.in_ok-add.ensures c.in_err-part.field-0.0 c.in_err-part.ensures in
-    grind (arith)
-
 pub all_adds-loop-t-preserved : goal.all_adds-loop-t-preserved
 all_adds-loop-t-preserved t c =
-    part_added (within c.args.model.now c.args.locals.now) form_add _ c.args.parts.now c.loop-t.t-index c.loop-t.found c.loop-t.invariant c.t-item.result c.loop-t-test.true c.t-item.is c.in_ok-add.field-0 c.in_ok-part.field-0 c.in_ok-add.ensures c.in_ok-part.ensures c.push.new.self c.in_ok-push.ensures.ok
+    part_kept (within c.args.model.now c.args.locals.now) form_add _ c.args.parts.now c.loop-t.t-index c.loop-t.found c.loop-t.invariant c.t-item.result c.loop-t-test.true c.t-item.is c.add.result c.add_part.new.parts (c.add.ensures, c.in_ok-add_part.ensures)
 
 pub all_adds-returns : goal.all_adds-returns
 all_adds-returns t c =
     parts_end (within c.args.model.now c.args.locals.now) form_add _ c.args.parts.now c.loop-t.t-index c.loop-t.found c.loop-t.invariant c.loop-t-test.false
 
-pub pairs-returns-in_err-add : goal.pairs-returns-in_err-add
-pairs-returns-in_err-add t c =
-    let h = key_fault (within c.args.model.now c.args.locals.now) form_keyed _ c.args.parts.now c.loop-t.t-index c.loop-t.found c.loop-t.invariant c.t-item.result c.loop-t-test.true c.t-item.is (form_add (out-KeyedTree c.t-item.result).key) (form_add (out-KeyedTree c.t-item.result).value) (form_keyed-is c.t-item.result) c.in_err-add.field-0.0 c.in_err-add.ensures in
-    grind (arith)
-
-pub pairs-returns-in_err-part : goal.pairs-returns-in_err-part
-pairs-returns-in_err-part t c =
-    let h = key_wrong (within c.args.model.now c.args.locals.now) form_keyed _ c.args.parts.now c.loop-t.t-index c.loop-t.found c.loop-t.invariant c.t-item.result c.loop-t-test.true c.t-item.is (form_add (out-KeyedTree c.t-item.result).key) (form_add (out-KeyedTree c.t-item.result).value) (form_keyed-is c.t-item.result) c.in_ok-add.field-0 c.in_ok-add.ensures c.in_err-part.field-0.0 c.in_err-part.ensures in
-    grind (arith)
-
-pub pairs-returns-in_err-add-2 : goal.pairs-returns-in_err-add-2
-pairs-returns-in_err-add-2 t c =
-    let h = cell_fault (within c.args.model.now c.args.locals.now) form_keyed _ c.args.parts.now c.loop-t.t-index c.loop-t.found c.loop-t.invariant c.t-item.result c.loop-t-test.true c.t-item.is (form_add (out-KeyedTree c.t-item.result).key) (form_add (out-KeyedTree c.t-item.result).value) (form_keyed-is c.t-item.result) c.in_ok-add.field-0 c.in_ok-part.field-0 c.in_ok-add.ensures c.in_ok-part.ensures c.in_err-add-2.field-0.0 c.in_err-add-2.ensures in
-    grind (arith)
-
-pub pairs-returns-in_err-part-2 : goal.pairs-returns-in_err-part-2
-pairs-returns-in_err-part-2 t c =
-    let h = cell_wrong (within c.args.model.now c.args.locals.now) form_keyed _ c.args.parts.now c.loop-t.t-index c.loop-t.found c.loop-t.invariant c.t-item.result c.loop-t-test.true c.t-item.is (form_add (out-KeyedTree c.t-item.result).key) (form_add (out-KeyedTree c.t-item.result).value) (form_keyed-is c.t-item.result) c.in_ok-add.field-0 c.in_ok-part.field-0 c.in_ok-add.ensures c.in_ok-part.ensures c.in_ok-add-2.field-0 c.in_ok-add-2.ensures c.in_err-part-2.field-0.0 c.in_err-part-2.ensures in
-    grind (arith)
-
 pub pairs-loop-t-preserved : goal.pairs-loop-t-preserved
 pairs-loop-t-preserved t c =
-    pair_added (within c.args.model.now c.args.locals.now) form_keyed _ c.args.parts.now c.loop-t.t-index c.loop-t.found c.loop-t.invariant c.t-item.result c.loop-t-test.true c.t-item.is (form_add (out-KeyedTree c.t-item.result).key) (form_add (out-KeyedTree c.t-item.result).value) (form_keyed-is c.t-item.result) c.in_ok-add.field-0 c.in_ok-part.field-0 c.in_ok-add.ensures c.in_ok-part.ensures c.in_ok-add-2.field-0 c.in_ok-part-2.field-0 c.in_ok-add-2.ensures c.in_ok-part-2.ensures c.push.new.self c.push-in-loop-t.new.self c.in_ok-push.ensures.ok c.in_ok-push-2.ensures.ok
+    pair_kept (within c.args.model.now c.args.locals.now) form_keyed _ c.args.parts.now c.loop-t.t-index c.loop-t.found c.loop-t.invariant c.t-item.result c.loop-t-test.true c.t-item.is (form_add (out-KeyedTree c.t-item.result).key) (form_add (out-KeyedTree c.t-item.result).value) (form_keyed-is c.t-item.result) c.add.result c.add_part.new.parts (c.add.ensures, c.in_ok-add_part.ensures) c.add-in-loop-t.result c.add_part-in-loop-t.new.parts (c.add-in-loop-t.ensures, c.in_ok-add_part-2.ensures)
 
 pub pairs-returns : goal.pairs-returns
 pairs-returns t c =
     pairs_end (within c.args.model.now c.args.locals.now) form_keyed _ c.args.parts.now c.loop-t.t-index c.loop-t.found c.loop-t.invariant c.loop-t-test.false
 
-pub described_set-returns-in_err-add-in-Ok : goal.described_set-returns-in_err-add-in-Ok
-described_set-returns-in_err-add-in-Ok t c =
-    let h = described_fault (within c.args.model.now c.args.locals.now) c.args.at (form_add c.args.value.now) (form_params c.args.params.now) (opened_in c.args.model.now c.in-Ok.opened) (subst (Gives (opened_in c.args.model.now) (open_params data_alone (within c.args.model.now c.args.locals.now) (form_params c.args.params.now))) c.in-Ok.is c.requires) (within c.args.model.now c.in-Ok.opened.locals) refl c.in_err-add-in-Ok.field-0.0 c.in_err-add-in-Ok.ensures in
-    grind (arith)
-
-pub described_set-returns-in_err-value-in-Ok : goal.described_set-returns-in_err-value-in-Ok
-described_set-returns-in_err-value-in-Ok t c =
-    let h = described_wrong (within c.args.model.now c.args.locals.now) c.args.at (form_add c.args.value.now) (form_params c.args.params.now) (opened_in c.args.model.now c.in-Ok.opened) (subst (Gives (opened_in c.args.model.now) (open_params data_alone (within c.args.model.now c.args.locals.now) (form_params c.args.params.now))) c.in-Ok.is c.requires) (within c.args.model.now c.in-Ok.opened.locals) refl c.in_ok-add-in-Ok.field-0 c.in_ok-add-in-Ok.ensures c.in_err-value-in-Ok.field-0.0 c.in_err-value-in-Ok.ensures in
-    grind (arith)
-
-pub described_set-returns-in_ok-value-in-Ok : goal.described_set-returns-in_ok-value-in-Ok
-described_set-returns-in_ok-value-in-Ok t c =
-    described_made (within c.args.model.now c.args.locals.now) c.args.at (form_add c.args.value.now) (form_params c.args.params.now) (opened_in c.args.model.now c.in-Ok.opened) (subst (Gives (opened_in c.args.model.now) (open_params data_alone (within c.args.model.now c.args.locals.now) (form_params c.args.params.now))) c.in-Ok.is c.requires) (within c.args.model.now c.in-Ok.opened.locals) refl c.in_ok-add-in-Ok.field-0 c.in_ok-add-in-Ok.ensures c.in_ok-value-in-Ok.value c.in_ok-value-in-Ok.ensures c.described.result c.described.ensures
+pub described_set-returns-in-Ok : goal.described_set-returns-in-Ok
+described_set-returns-in-Ok t c =
+    described_through (within c.args.model.now c.args.locals.now) c.args.at (form_add c.args.value.now) (form_params c.args.params.now) (opened_in c.args.model.now c.in-Ok.opened) (subst (Gives (opened_in c.args.model.now) (open_params data_alone (within c.args.model.now c.args.locals.now) (form_params c.args.params.now))) c.in-Ok.is c.requires) (within c.args.model.now c.in-Ok.opened.locals) refl c.add.result c.shown.result c.add.ensures c.shown.ensures
 
 pub described_set-returns-else-is_memory : goal.described_set-returns-else-is_memory
 described_set-returns-else-is_memory t c =
@@ -357,28 +248,20 @@ pub open_params-returns-in-None : goal.open_params-returns-in-None
 open_params-returns-in-None t c =
     no_condition (within c.args.model.now c.args.locals.now) (need_of c.args.need) (form_params c.args.t.now) (form_group (out-ParamsTree c.args.t.now).first ∷ map form_group_step (out-ParamsTree c.args.t.now).rest) (form_group (out-ParamsTree c.args.t.now).first ∷ map form_group_step (out-ParamsTree c.args.t.now).rest) (option_map form_expr (out-ParamsTree c.args.t.now).condition) (form_params-is c.args.t.now) refl (ap (option_map form_expr) c.in-None.is) (opened_in c.args.model.now c.in_ok-opened.opened) c.in_ok-opened.ensures
 
-pub open_params-returns-in_err-node-in-Some : goal.open_params-returns-in_err-node-in-Some
-open_params-returns-in_err-node-in-Some t c =
-    let h = condition_fault (within c.args.model.now c.args.locals.now) (need_of c.args.need) (form_params c.args.t.now) (form_group (out-ParamsTree c.args.t.now).first ∷ map form_group_step (out-ParamsTree c.args.t.now).rest) (form_group (out-ParamsTree c.args.t.now).first ∷ map form_group_step (out-ParamsTree c.args.t.now).rest) (option_map form_expr (out-ParamsTree c.args.t.now).condition) (form_params-is c.args.t.now) refl (form_expr c.get.result.now) (ap (option_map form_expr) c.in-Some.is ∙ ap (λ x. Some (form_expr x)) (sym c.get.ensures)) (opened_in c.args.model.now c.in_ok-opened.opened) c.in_ok-opened.ensures (within c.args.model.now c.in_ok-opened.opened.locals) refl (opened_in c.args.model.now) c.in_err-node-in-Some.field-0.0 c.in_err-node-in-Some.ensures in
+pub open_params-returns-in_err-add_condition-in-Some : goal.open_params-returns-in_err-add_condition-in-Some
+open_params-returns-in_err-add_condition-in-Some t c =
+    let h = condition_refused (within c.args.model.now c.args.locals.now) (need_of c.args.need) (form_params c.args.t.now) (form_group (out-ParamsTree c.args.t.now).first ∷ map form_group_step (out-ParamsTree c.args.t.now).rest) (form_group (out-ParamsTree c.args.t.now).first ∷ map form_group_step (out-ParamsTree c.args.t.now).rest) (option_map form_expr (out-ParamsTree c.args.t.now).condition) (form_params-is c.args.t.now) refl (form_expr c.get.result.now) (ap (option_map form_expr) c.in-Some.is ∙ ap (λ x. Some (form_expr x)) (sym c.get.ensures)) (opened_in c.args.model.now c.in_ok-opened.opened) c.in_ok-opened.ensures (within c.args.model.now c.in_ok-opened.opened.locals) refl c.expr.result c.expr.ensures c.add_condition.new.kinds (opened_in c.args.model.now) c.in_err-add_condition-in-Some.field-0.0 c.in_err-add_condition-in-Some.ensures in
     grind (arith)
 
-pub open_params-returns-in_err-settled-in-Some : goal.open_params-returns-in_err-settled-in-Some
-open_params-returns-in_err-settled-in-Some t c =
-    let h = condition_wrong (within c.args.model.now c.args.locals.now) (need_of c.args.need) (form_params c.args.t.now) (form_group (out-ParamsTree c.args.t.now).first ∷ map form_group_step (out-ParamsTree c.args.t.now).rest) (form_group (out-ParamsTree c.args.t.now).first ∷ map form_group_step (out-ParamsTree c.args.t.now).rest) (option_map form_expr (out-ParamsTree c.args.t.now).condition) (form_params-is c.args.t.now) refl (form_expr c.get.result.now) (ap (option_map form_expr) c.in-Some.is ∙ ap (λ x. Some (form_expr x)) (sym c.get.ensures)) (opened_in c.args.model.now c.in_ok-opened.opened) c.in_ok-opened.ensures (within c.args.model.now c.in_ok-opened.opened.locals) refl c.in_ok-node-in-Some.node c.in_ok-node-in-Some.ensures c.is_truth-is_taken.result (c.is_truth-is_taken.ensures ∙ ap (λ x. is_truth (sort x)) c.get-in-Some.ensures) (opened_in c.args.model.now) c.in_err-settled-in-Some.field-0.0 c.in_err-settled-in-Some.ensures in
-    grind (arith)
-
-pub open_params-returns-in_ok-add_kinds-in-Some : goal.open_params-returns-in_ok-add_kinds-in-Some
-open_params-returns-in_ok-add_kinds-in-Some t c =
-    condition_taken (within c.args.model.now c.args.locals.now) (need_of c.args.need) (form_params c.args.t.now) (form_group (out-ParamsTree c.args.t.now).first ∷ map form_group_step (out-ParamsTree c.args.t.now).rest) (form_group (out-ParamsTree c.args.t.now).first ∷ map form_group_step (out-ParamsTree c.args.t.now).rest) (option_map form_expr (out-ParamsTree c.args.t.now).condition) (form_params-is c.args.t.now) refl (form_expr c.get.result.now) (ap (option_map form_expr) c.in-Some.is ∙ ap (λ x. Some (form_expr x)) (sym c.get.ensures)) (opened_in c.args.model.now c.in_ok-opened.opened) c.in_ok-opened.ensures (within c.args.model.now c.in_ok-opened.opened.locals) refl c.in_ok-node-in-Some.node c.in_ok-node-in-Some.ensures c.is_truth-is_taken.result (c.is_truth-is_taken.ensures ∙ ap (λ x. is_truth (sort x)) c.get-in-Some.ensures) c.in_ok-settled-in-Some.field-0 c.in_ok-settled-in-Some.ensures (map sort c.add_kinds.new.kinds) c.in_ok-add_kinds-in-Some.ensures
+pub open_params-returns-in_ok-add_condition-in-Some : goal.open_params-returns-in_ok-add_condition-in-Some
+open_params-returns-in_ok-add_condition-in-Some t c =
+    condition_added (within c.args.model.now c.args.locals.now) (need_of c.args.need) (form_params c.args.t.now) (form_group (out-ParamsTree c.args.t.now).first ∷ map form_group_step (out-ParamsTree c.args.t.now).rest) (form_group (out-ParamsTree c.args.t.now).first ∷ map form_group_step (out-ParamsTree c.args.t.now).rest) (option_map form_expr (out-ParamsTree c.args.t.now).condition) (form_params-is c.args.t.now) refl (form_expr c.get.result.now) (ap (option_map form_expr) c.in-Some.is ∙ ap (λ x. Some (form_expr x)) (sym c.get.ensures)) (opened_in c.args.model.now c.in_ok-opened.opened) c.in_ok-opened.ensures (within c.args.model.now c.in_ok-opened.opened.locals) refl c.expr.result c.expr.ensures c.add_condition.new.kinds c.in_ok-add_condition-in-Some.ensures
 
 pub expr-returns-in_err-first : goal.expr-returns-in_err-first
 expr-returns-in_err-first t c = grind (arith, expr_forms, rules_of_forms, rules_of_parts)
 
 pub expr-returns-then-is_empty : goal.expr-returns-then-is_empty
 expr-returns-then-is_empty t c = grind (arith, expr_forms, rules_of_forms, rules_of_parts)
-
-pub imps-returns-in_err-part : goal.imps-returns-in_err-part
-imps-returns-in_err-part t c = grind (arith, rules_of_parts)
 
 pub imp-returns-in_err-premise : goal.imp-returns-in_err-premise
 imp-returns-in_err-premise t c = grind (arith, imp_forms, rules_of_forms, rules_of_parts)
@@ -389,14 +272,15 @@ imp-returns-in-None t c = grind (arith, imp_forms, rules_of_forms, rules_of_part
 pub imp-returns-in_err-premise-in-Some : goal.imp-returns-in_err-premise-in-Some
 imp-returns-in_err-premise-in-Some t c = grind (arith, imp_forms, rules_of_forms, rules_of_parts)
 
-pub imp-returns-in_err-imp-in-Some : goal.imp-returns-in_err-imp-in-Some
-imp-returns-in_err-imp-in-Some t c = grind (arith, imp_forms, rules_of_forms, rules_of_parts)
-
 pub imp-returns-in_err-conclusion-in-Some : goal.imp-returns-in_err-conclusion-in-Some
-imp-returns-in_err-conclusion-in-Some t c = grind (arith, imp_forms, rules_of_forms, rules_of_parts)
+imp-returns-in_err-conclusion-in-Some t c =
+    let h = through node_of _ part c.imp.result (Err c.in_err-conclusion-in-Some.field-0.0) c.imp.ensures c.in_err-conclusion-in-Some.ensures in
+    grind (arith, imp_forms, rules_of_forms, rules_of_parts)
 
 pub imp-returns-in_ok-two-in-Some : goal.imp-returns-in_ok-two-in-Some
-imp-returns-in_ok-two-in-Some t c = grind (arith, imp_forms, rules_of_forms, rules_of_parts)
+imp-returns-in_ok-two-in-Some t c =
+    let h = through node_of _ part c.imp.result (Ok c.in_ok-conclusion-in-Some.conclusion) c.imp.ensures c.in_ok-conclusion-in-Some.ensures in
+    grind (arith, imp_forms, rules_of_forms, rules_of_parts)
 
 pub or-returns-in_err-first : goal.or-returns-in_err-first
 or-returns-in_err-first t c = grind (arith, or_forms, rules_of_forms, rules_of_parts)
@@ -404,26 +288,21 @@ or-returns-in_err-first t c = grind (arith, or_forms, rules_of_forms, rules_of_p
 pub or-returns-then-is_empty : goal.or-returns-then-is_empty
 or-returns-then-is_empty t c = grind (arith, or_forms, rules_of_forms, rules_of_parts)
 
-pub ands-returns-in_err-part : goal.ands-returns-in_err-part
-ands-returns-in_err-part t c = grind (arith, rules_of_parts)
-
 pub and-returns-in_err-first : goal.and-returns-in_err-first
 and-returns-in_err-first t c = grind (arith, and_forms, rules_of_forms, rules_of_parts)
 
 pub and-returns-then-is_empty : goal.and-returns-then-is_empty
 and-returns-then-is_empty t c = grind (arith, and_forms, rules_of_forms, rules_of_parts)
 
-pub negs-returns-in_err-part : goal.negs-returns-in_err-part
-negs-returns-in_err-part t c = grind (arith, rules_of_parts)
-
-pub neg-returns-in_err-neg-in-Not : goal.neg-returns-in_err-neg-in-Not
-neg-returns-in_err-neg-in-Not t c = grind (arith, neg_forms, rules_of_forms, rules_of_parts)
-
 pub neg-returns-in_err-inner-in-Not : goal.neg-returns-in_err-inner-in-Not
-neg-returns-in_err-inner-in-Not t c = grind (arith, neg_forms, rules_of_forms, rules_of_parts)
+neg-returns-in_err-inner-in-Not t c =
+    let h = through node_of _ part c.neg.result (Err c.in_err-inner-in-Not.field-0.0) c.neg.ensures c.in_err-inner-in-Not.ensures in
+    grind (arith, neg_forms, rules_of_forms, rules_of_parts)
 
 pub neg-returns-in_ok-one-in-Not : goal.neg-returns-in_ok-one-in-Not
-neg-returns-in_ok-one-in-Not t c = grind (arith, neg_forms, rules_of_forms, rules_of_parts)
+neg-returns-in_ok-one-in-Not t c =
+    let h = through node_of _ part c.neg.result (Ok c.in_ok-inner-in-Not.inner) c.neg.ensures c.in_ok-inner-in-Not.ensures in
+    grind (arith, neg_forms, rules_of_forms, rules_of_parts)
 
 pub neg-returns-in-Compare : goal.neg-returns-in-Compare
 neg-returns-in-Compare t c = grind (arith, neg_forms, rules_of_forms, rules_of_parts)
@@ -431,41 +310,43 @@ neg-returns-in-Compare t c = grind (arith, neg_forms, rules_of_forms, rules_of_p
 pub compare-returns-in-Single : goal.compare-returns-in-Single
 compare-returns-in-Single t c = grind (arith, compare_forms, rules_of_forms, rules_of_parts)
 
-pub compare-returns-in_err-add-in-Related : goal.compare-returns-in_err-add-in-Related
-compare-returns-in_err-add-in-Related t c = grind (arith, compare_forms, rules_of_forms, rules_of_parts)
-
 pub compare-returns-in_err-left-in-Related : goal.compare-returns-in_err-left-in-Related
-compare-returns-in_err-left-in-Related t c = grind (arith, compare_forms, rules_of_forms, rules_of_parts)
-
-pub compare-returns-in_err-add-in-Related-2 : goal.compare-returns-in_err-add-in-Related-2
-compare-returns-in_err-add-in-Related-2 t c = grind (arith, compare_forms, rules_of_forms, rules_of_parts)
+compare-returns-in_err-left-in-Related t c =
+    let h = through node_of _ part c.add-in-Related.result (Err c.in_err-left-in-Related.field-0.0) c.add-in-Related.ensures c.in_err-left-in-Related.ensures in
+    grind (arith, compare_forms, rules_of_forms, rules_of_parts)
 
 pub compare-returns-in_err-right-in-Related : goal.compare-returns-in_err-right-in-Related
-compare-returns-in_err-right-in-Related t c = grind (arith, compare_forms, rules_of_forms, rules_of_parts)
+compare-returns-in_err-right-in-Related t c =
+    let h = through node_of _ part c.add-in-Related.result (Ok c.in_ok-left-in-Related.left) c.add-in-Related.ensures c.in_ok-left-in-Related.ensures in
+    let g = through node_of _ part c.add-in-Related-2.result (Err c.in_err-right-in-Related.field-0.0) c.add-in-Related-2.ensures c.in_err-right-in-Related.ensures in
+    grind (arith, compare_forms, rules_of_forms, rules_of_parts)
 
 pub compare-returns-in_ok-right-in-Related : goal.compare-returns-in_ok-right-in-Related
-compare-returns-in_ok-right-in-Related t c = grind (arith, compare_forms, rules_of_forms, rules_of_parts)
-
-pub compare-returns-in_err-add-in-Member : goal.compare-returns-in_err-add-in-Member
-compare-returns-in_err-add-in-Member t c = grind (arith, compare_forms, rules_of_forms, rules_of_parts)
+compare-returns-in_ok-right-in-Related t c =
+    let h = through node_of _ part c.add-in-Related.result (Ok c.in_ok-left-in-Related.left) c.add-in-Related.ensures c.in_ok-left-in-Related.ensures in
+    let g = through node_of _ part c.add-in-Related-2.result (Ok c.in_ok-right-in-Related.right) c.add-in-Related-2.ensures c.in_ok-right-in-Related.ensures in
+    grind (arith, compare_forms, rules_of_forms, rules_of_parts)
 
 pub compare-returns-in_err-value-in-Member : goal.compare-returns-in_err-value-in-Member
-compare-returns-in_err-value-in-Member t c = grind (arith, compare_forms, rules_of_forms, rules_of_parts)
+compare-returns-in_err-value-in-Member t c =
+    let h = through node_of _ part c.add-in-Member.result (Err c.in_err-value-in-Member.field-0.0) c.add-in-Member.ensures c.in_err-value-in-Member.ensures in
+    grind (arith, compare_forms, rules_of_forms, rules_of_parts)
 
 pub compare-returns-in_err-over-in-Member : goal.compare-returns-in_err-over-in-Member
-compare-returns-in_err-over-in-Member t c = grind (arith, compare_forms, rules_of_forms, rules_of_parts)
+compare-returns-in_err-over-in-Member t c =
+    let h = through node_of _ part c.add-in-Member.result (Ok c.in_ok-value-in-Member.value) c.add-in-Member.ensures c.in_ok-value-in-Member.ensures in
+    grind (arith, compare_forms, rules_of_forms, rules_of_parts)
 
 pub compare-returns-in_ok-over-in-Member : goal.compare-returns-in_ok-over-in-Member
-compare-returns-in_ok-over-in-Member t c = grind (arith, compare_forms, rules_of_forms, rules_of_parts)
+compare-returns-in_ok-over-in-Member t c =
+    let h = through node_of _ part c.add-in-Member.result (Ok c.in_ok-value-in-Member.value) c.add-in-Member.ensures c.in_ok-value-in-Member.ensures in
+    grind (arith, compare_forms, rules_of_forms, rules_of_parts)
 
 pub add-returns-in_err-first : goal.add-returns-in_err-first
 add-returns-in_err-first t c = grind (arith, add_forms, rules_of_forms, rules_of_parts)
 
 pub add-returns-then-is_empty : goal.add-returns-then-is_empty
 add-returns-then-is_empty t c = grind (arith, add_forms, rules_of_forms, rules_of_parts)
-
-pub add_steps-returns-in_err-part : goal.add_steps-returns-in_err-part
-add_steps-returns-in_err-part t c = grind (arith, rules_of_parts)
 
 pub add_step-returns : goal.add_step-returns
 add_step-returns t c = grind (arith, add_step_forms)
@@ -479,71 +360,56 @@ mul-returns-in_err-first-in-Product t c = grind (arith, mul_forms, rules_of_form
 pub mul-returns-then-is_alone : goal.mul-returns-then-is_alone
 mul-returns-then-is_alone t c = grind (arith, mul_forms, rules_of_forms, rules_of_parts)
 
-pub mul_steps-returns-in_err-part : goal.mul_steps-returns-in_err-part
-mul_steps-returns-in_err-part t c = grind (arith, rules_of_parts)
-
 pub mul_step-returns : goal.mul_step-returns
 mul_step-returns t c = grind (arith, mul_step_forms)
 
-pub open-returns-in_err-open-in-NegativeOpen : goal.open-returns-in_err-open-in-NegativeOpen
-open-returns-in_err-open-in-NegativeOpen t c = grind (arith, open_forms, rules_of_forms, rules_of_parts)
-
-pub open-returns-in_err-inner-in-NegativeOpen : goal.open-returns-in_err-inner-in-NegativeOpen
-open-returns-in_err-inner-in-NegativeOpen t c = grind (arith, open_forms, rules_of_forms, rules_of_parts)
-
-pub open-returns-in_ok-inner-in-NegativeOpen : goal.open-returns-in_ok-inner-in-NegativeOpen
-open-returns-in_ok-inner-in-NegativeOpen t c = grind (arith, open_forms, rules_of_forms, rules_of_parts)
+pub open-returns-in-NegativeOpen : goal.open-returns-in-NegativeOpen
+open-returns-in-NegativeOpen t c =
+    let h = through_part node_of _ (λ n. Ok (made c.in-NegativeOpen.at int (n ∷ []) (is_number n.sort))) c.open.result c.signed.result c.open.ensures c.signed.ensures in
+    grind (arith, open_forms, rules_of_forms, rules_of_parts)
 
 pub open-returns-in_err-opened-in-Aggregate : goal.open-returns-in_err-opened-in-Aggregate
 open-returns-in_err-opened-in-Aggregate t c = grind (arith, open_forms, rules_of_forms, rules_of_parts)
 
-pub open-returns-in_err-mul-in-Aggregate : goal.open-returns-in_err-mul-in-Aggregate
-open-returns-in_err-mul-in-Aggregate t c = grind (arith, open_forms, rules_of_forms, rules_of_parts)
+pub open-returns-in_ok-opened-in-Aggregate : goal.open-returns-in_ok-opened-in-Aggregate
+open-returns-in_ok-opened-in-Aggregate t c =
+    let h = through_part node_of _ (λ n. Ok (node c.in-Aggregate.at int (n ∷ []) (is_number n.sort) (map sort c.in_ok-opened-in-Aggregate.opened.kinds ++ kinds n))) c.mul.result c.summed.result c.mul.ensures c.summed.ensures in
+    grind (arith, open_forms, rules_of_forms, rules_of_parts)
 
-pub open-returns-in_err-body-in-Aggregate : goal.open-returns-in_err-body-in-Aggregate
-open-returns-in_err-body-in-Aggregate t c = grind (arith, open_forms, rules_of_forms, rules_of_parts)
-
-pub open-returns-in_ok-body-in-Aggregate : goal.open-returns-in_ok-body-in-Aggregate
-open-returns-in_ok-body-in-Aggregate t c = grind (arith, open_forms, rules_of_forms, rules_of_parts)
-
-pub sign-returns-in_err-sign-in-Negative : goal.sign-returns-in_err-sign-in-Negative
-sign-returns-in_err-sign-in-Negative t c = grind (arith, sign_forms, rules_of_forms, rules_of_parts)
-
-pub sign-returns-in_err-inner-in-Negative : goal.sign-returns-in_err-inner-in-Negative
-sign-returns-in_err-inner-in-Negative t c = grind (arith, sign_forms, rules_of_forms, rules_of_parts)
-
-pub sign-returns-in_ok-inner-in-Negative : goal.sign-returns-in_ok-inner-in-Negative
-sign-returns-in_ok-inner-in-Negative t c = grind (arith, sign_forms, rules_of_forms, rules_of_parts)
+pub sign-returns-in-Negative : goal.sign-returns-in-Negative
+sign-returns-in-Negative t c =
+    let h = through_part node_of _ (λ n. Ok (made c.in-Negative.at int (n ∷ []) (is_number n.sort))) c.sign.result c.signed.result c.sign.ensures c.signed.ensures in
+    grind (arith, sign_forms, rules_of_forms, rules_of_parts)
 
 pub sign-returns-in-Postfix : goal.sign-returns-in-Postfix
 sign-returns-in-Postfix t c = grind (arith, sign_forms, rules_of_forms, rules_of_parts)
 
-pub adds-returns-in_err-part : goal.adds-returns-in_err-part
-adds-returns-in_err-part t c = grind (arith, rules_of_parts)
-
-pub set_of_member-returns-in_err-add-in-None : goal.set_of_member-returns-in_err-add-in-None
-set_of_member-returns-in_err-add-in-None t c = grind (arith, set_forms, rules_of_sets)
-
 pub set_of_member-returns-in_err-only-in-None : goal.set_of_member-returns-in_err-only-in-None
-set_of_member-returns-in_err-only-in-None t c = grind (arith, set_forms, rules_of_sets)
+set_of_member-returns-in_err-only-in-None t c =
+    let h = through node_of _ part c.add.result (Err c.in_err-only-in-None.field-0.0) c.add.ensures c.in_err-only-in-None.ensures in
+    grind (arith, set_forms, rules_of_sets)
 
 pub set_of_member-returns-in_ok-only-in-None : goal.set_of_member-returns-in_ok-only-in-None
-set_of_member-returns-in_ok-only-in-None t c = grind (arith, set_forms, rules_of_sets)
-
-pub set_of_member-returns-in_err-add-in-Some : goal.set_of_member-returns-in_err-add-in-Some
-set_of_member-returns-in_err-add-in-Some t c = grind (arith, set_forms, rules_of_sets)
+set_of_member-returns-in_ok-only-in-None t c =
+    let h = through node_of _ part c.add.result (Ok c.in_ok-only-in-None.only) c.add.ensures c.in_ok-only-in-None.ensures in
+    grind (arith, set_forms, rules_of_sets)
 
 pub set_of_member-returns-in_err-low-in-Some : goal.set_of_member-returns-in_err-low-in-Some
-set_of_member-returns-in_err-low-in-Some t c = grind (arith, set_forms, rules_of_sets)
-
-pub set_of_member-returns-in_err-add-in-Some-2 : goal.set_of_member-returns-in_err-add-in-Some-2
-set_of_member-returns-in_err-add-in-Some-2 t c = grind (arith, set_forms, rules_of_sets)
+set_of_member-returns-in_err-low-in-Some t c =
+    let h = through node_of _ data_number c.add-in-Some.result (Err c.in_err-low-in-Some.field-0.0) c.add-in-Some.ensures c.in_err-low-in-Some.ensures in
+    grind (arith, set_forms, rules_of_sets)
 
 pub set_of_member-returns-in_err-high-in-Some : goal.set_of_member-returns-in_err-high-in-Some
-set_of_member-returns-in_err-high-in-Some t c = grind (arith, set_forms, rules_of_sets)
+set_of_member-returns-in_err-high-in-Some t c =
+    let h = through node_of _ data_number c.add-in-Some.result (Ok c.in_ok-low-in-Some.low) c.add-in-Some.ensures c.in_ok-low-in-Some.ensures in
+    let g = through node_of _ data_number c.add-in-Some-2.result (Err c.in_err-high-in-Some.field-0.0) c.add-in-Some-2.ensures c.in_err-high-in-Some.ensures in
+    grind (arith, set_forms, rules_of_sets)
 
 pub set_of_member-returns-in_ok-high-in-Some : goal.set_of_member-returns-in_ok-high-in-Some
-set_of_member-returns-in_ok-high-in-Some t c = grind (arith, set_forms, rules_of_sets)
+set_of_member-returns-in_ok-high-in-Some t c =
+    let h = through node_of _ data_number c.add-in-Some.result (Ok c.in_ok-low-in-Some.low) c.add-in-Some.ensures c.in_ok-low-in-Some.ensures in
+    let g = through node_of _ data_number c.add-in-Some-2.result (Ok c.in_ok-high-in-Some.high) c.add-in-Some-2.ensures c.in_ok-high-in-Some.ensures in
+    grind (arith, set_forms, rules_of_sets)
 
 pub set-returns-in_err-only-in-None : goal.set-returns-in_err-only-in-None
 set-returns-in_err-only-in-None t c = grind (arith, set_forms, rules_of_sets)
@@ -554,20 +420,22 @@ set-returns-in_err-settled-in-None t c = grind (arith, set_forms, rules_of_sets)
 pub set-returns-in_ok-settled-in-None : goal.set-returns-in_ok-settled-in-None
 set-returns-in_ok-settled-in-None t c = grind (arith, set_forms, rules_of_sets)
 
-pub set-returns-in_err-add-in-Some : goal.set-returns-in_err-add-in-Some
-set-returns-in_err-add-in-Some t c = grind (arith, set_forms, rules_of_sets)
-
 pub set-returns-in_err-low-in-Some : goal.set-returns-in_err-low-in-Some
-set-returns-in_err-low-in-Some t c = grind (arith, set_forms, rules_of_sets)
-
-pub set-returns-in_err-add-in-Some-2 : goal.set-returns-in_err-add-in-Some-2
-set-returns-in_err-add-in-Some-2 t c = grind (arith, set_forms, rules_of_sets)
+set-returns-in_err-low-in-Some t c =
+    let h = through node_of _ data_number c.add-in-Some.result (Err c.in_err-low-in-Some.field-0.0) c.add-in-Some.ensures c.in_err-low-in-Some.ensures in
+    grind (arith, set_forms, rules_of_sets)
 
 pub set-returns-in_err-high-in-Some : goal.set-returns-in_err-high-in-Some
-set-returns-in_err-high-in-Some t c = grind (arith, set_forms, rules_of_sets)
+set-returns-in_err-high-in-Some t c =
+    let h = through node_of _ data_number c.add-in-Some.result (Ok c.in_ok-low-in-Some.low) c.add-in-Some.ensures c.in_ok-low-in-Some.ensures in
+    let g = through node_of _ data_number c.add-in-Some-2.result (Err c.in_err-high-in-Some.field-0.0) c.add-in-Some-2.ensures c.in_err-high-in-Some.ensures in
+    grind (arith, set_forms, rules_of_sets)
 
 pub set-returns-in_ok-high-in-Some : goal.set-returns-in_ok-high-in-Some
-set-returns-in_ok-high-in-Some t c = grind (arith, set_forms, rules_of_sets)
+set-returns-in_ok-high-in-Some t c =
+    let h = through node_of _ data_number c.add-in-Some.result (Ok c.in_ok-low-in-Some.low) c.add-in-Some.ensures c.in_ok-low-in-Some.ensures in
+    let g = through node_of _ data_number c.add-in-Some-2.result (Ok c.in_ok-high-in-Some.high) c.add-in-Some-2.ensures c.in_ok-high-in-Some.ensures in
+    grind (arith, set_forms, rules_of_sets)
 
 pub prim-returns-in-Number : goal.prim-returns-in-Number
 prim-returns-in-Number t c = grind (arith, prim_forms, rules_of_forms, rules_of_parts)
@@ -575,14 +443,15 @@ prim-returns-in-Number t c = grind (arith, prim_forms, rules_of_forms, rules_of_
 pub prim-returns-in-Named : goal.prim-returns-in-Named
 prim-returns-in-Named t c = grind (arith, prim_forms, rules_of_forms, rules_of_parts)
 
-pub prim-returns-in_err-expr-in-Bracket : goal.prim-returns-in_err-expr-in-Bracket
-prim-returns-in_err-expr-in-Bracket t c = grind (arith, prim_forms, rules_of_forms, rules_of_parts)
-
 pub prim-returns-in_err-inner-in-Bracket : goal.prim-returns-in_err-inner-in-Bracket
-prim-returns-in_err-inner-in-Bracket t c = grind (arith, prim_forms, rules_of_forms, rules_of_parts)
+prim-returns-in_err-inner-in-Bracket t c =
+    let h = through node_of _ part c.expr.result (Err c.in_err-inner-in-Bracket.field-0.0) c.expr.ensures c.in_err-inner-in-Bracket.ensures in
+    grind (arith, prim_forms, rules_of_forms, rules_of_parts)
 
 pub prim-returns-in_ok-inner-in-Bracket : goal.prim-returns-in_ok-inner-in-Bracket
-prim-returns-in_ok-inner-in-Bracket t c = grind (arith, prim_forms, rules_of_forms, rules_of_parts)
+prim-returns-in_ok-inner-in-Bracket t c =
+    let h = through node_of _ part c.expr.result (Ok c.in_ok-inner-in-Bracket.inner) c.expr.ensures c.in_ok-inner-in-Bracket.ensures in
+    grind (arith, prim_forms, rules_of_forms, rules_of_parts)
 
 pub prim-returns-in_err-first-in-Record : goal.prim-returns-in_err-first-in-Record
 prim-returns-in_err-first-in-Record t c = grind (arith, prim_forms, rules_of_forms, rules_of_parts)
@@ -614,65 +483,53 @@ prim-returns-in_err-parts-in-KeyedArray t c = grind (arith, prim_forms, rules_of
 pub prim-returns-in_ok-parts-in-KeyedArray : goal.prim-returns-in_ok-parts-in-KeyedArray
 prim-returns-in_ok-parts-in-KeyedArray t c = grind (arith, prim_forms, rules_of_forms, rules_of_parts)
 
-pub prim-returns-in_err-expr-in-Call : goal.prim-returns-in_err-expr-in-Call
-prim-returns-in_err-expr-in-Call t c = grind (arith, prim_forms, rules_of_forms, rules_of_parts)
-
 pub prim-returns-in_err-argument-in-Call : goal.prim-returns-in_err-argument-in-Call
-prim-returns-in_err-argument-in-Call t c = grind (arith, prim_forms, rules_of_forms, rules_of_parts)
+prim-returns-in_err-argument-in-Call t c =
+    let h = through node_of _ part c.expr-in-Call.result (Err c.in_err-argument-in-Call.field-0.0) c.expr-in-Call.ensures c.in_err-argument-in-Call.ensures in
+    grind (arith, prim_forms, rules_of_forms, rules_of_parts)
 
 pub prim-returns-in_ok-argument-in-Call : goal.prim-returns-in_ok-argument-in-Call
-prim-returns-in_ok-argument-in-Call t c = grind (arith, prim_forms, rules_of_forms, rules_of_parts)
-
-pub prim-returns-in_err-add-in-AllDifferent : goal.prim-returns-in_err-add-in-AllDifferent
-prim-returns-in_err-add-in-AllDifferent t c = grind (arith, prim_forms, rules_of_forms, rules_of_parts)
+prim-returns-in_ok-argument-in-Call t c =
+    let h = through node_of _ part c.expr-in-Call.result (Ok c.in_ok-argument-in-Call.argument) c.expr-in-Call.ensures c.in_ok-argument-in-Call.ensures in
+    grind (arith, prim_forms, rules_of_forms, rules_of_parts)
 
 pub prim-returns-in_err-argument-in-AllDifferent : goal.prim-returns-in_err-argument-in-AllDifferent
-prim-returns-in_err-argument-in-AllDifferent t c = grind (arith, prim_forms, rules_of_forms, rules_of_parts)
+prim-returns-in_err-argument-in-AllDifferent t c =
+    let h = through node_of _ part c.add-in-AllDifferent.result (Err c.in_err-argument-in-AllDifferent.field-0.0) c.add-in-AllDifferent.ensures c.in_err-argument-in-AllDifferent.ensures in
+    grind (arith, prim_forms, rules_of_forms, rules_of_parts)
 
 pub prim-returns-in_ok-argument-in-AllDifferent : goal.prim-returns-in_ok-argument-in-AllDifferent
-prim-returns-in_ok-argument-in-AllDifferent t c = grind (arith, prim_forms, rules_of_forms, rules_of_parts)
-
-pub prim-returns-in_err-post-in-Question : goal.prim-returns-in_err-post-in-Question
-prim-returns-in_err-post-in-Question t c = grind (arith, prim_forms, rules_of_forms, rules_of_parts)
+prim-returns-in_ok-argument-in-AllDifferent t c =
+    let h = through node_of _ part c.add-in-AllDifferent.result (Ok c.in_ok-argument-in-AllDifferent.argument) c.add-in-AllDifferent.ensures c.in_ok-argument-in-AllDifferent.ensures in
+    grind (arith, prim_forms, rules_of_forms, rules_of_parts)
 
 pub prim-returns-in_err-argument-in-Question : goal.prim-returns-in_err-argument-in-Question
-prim-returns-in_err-argument-in-Question t c = grind (arith, prim_forms, rules_of_forms, rules_of_parts)
+prim-returns-in_err-argument-in-Question t c =
+    let h = through node_of _ part c.post.result (Err c.in_err-argument-in-Question.field-0.0) c.post.ensures c.in_err-argument-in-Question.ensures in
+    grind (arith, prim_forms, rules_of_forms, rules_of_parts)
 
 pub prim-returns-in_ok-argument-in-Question : goal.prim-returns-in_ok-argument-in-Question
-prim-returns-in_ok-argument-in-Question t c = grind (arith, prim_forms, rules_of_forms, rules_of_parts)
+prim-returns-in_ok-argument-in-Question t c =
+    let h = through node_of _ part c.post.result (Ok c.in_ok-argument-in-Question.argument) c.post.ensures c.in_ok-argument-in-Question.ensures in
+    grind (arith, prim_forms, rules_of_forms, rules_of_parts)
 
 pub add_steps-loop-t-init : goal.add_steps-loop-t-init
-add_steps-loop-t-init t c = grind (arith, rules_of_parts, common_steps)
-
-pub add_steps-returns-in_err-push : goal.add_steps-returns-in_err-push
-add_steps-returns-in_err-push t c = grind (arith, rules_of_parts)
-
-pub add_steps-returns-in_err-push-2 : goal.add_steps-returns-in_err-push-2
-add_steps-returns-in_err-push-2 t c = grind (arith, rules_of_parts)
+add_steps-loop-t-init t c =
+    let h = first_kept (part (node_of c.args.first)) (typed_parts (within c.args.model.now c.args.locals.now) (forms_of (map form_add_step c.args.rest.now))) c.in_ok-found.found c.in_ok-found.ensures in
+    grind (arith, common_steps)
 
 pub adds-loop-t-init : goal.adds-loop-t-init
-adds-loop-t-init t c = grind (arith, rules_of_parts, common_steps)
-
-pub adds-returns-in_err-push : goal.adds-returns-in_err-push
-adds-returns-in_err-push t c = grind (arith, rules_of_parts)
-
-pub adds-returns-in_err-push-2 : goal.adds-returns-in_err-push-2
-adds-returns-in_err-push-2 t c = grind (arith, rules_of_parts)
+adds-loop-t-init t c =
+    let h = first_kept (part (node_of c.args.first)) (typed_parts (within c.args.model.now c.args.locals.now) (forms_of (map form_add c.args.rest.now))) c.in_ok-found.found c.in_ok-found.ensures in
+    grind (arith, common_steps)
 
 pub all_adds-loop-t-init : goal.all_adds-loop-t-init
 all_adds-loop-t-init t c = grind (arith, rules_of_parts, common_steps)
 
-pub all_adds-returns-in_err-push : goal.all_adds-returns-in_err-push
-all_adds-returns-in_err-push t c = grind (arith, rules_of_parts)
-
 pub ands-loop-t-init : goal.ands-loop-t-init
-ands-loop-t-init t c = grind (arith, rules_of_parts, common_steps)
-
-pub ands-returns-in_err-push : goal.ands-returns-in_err-push
-ands-returns-in_err-push t c = grind (arith, rules_of_parts)
-
-pub ands-returns-in_err-push-2 : goal.ands-returns-in_err-push-2
-ands-returns-in_err-push-2 t c = grind (arith, rules_of_parts)
+ands-loop-t-init t c =
+    let h = first_kept (part (node_of c.args.first)) (typed_parts (within c.args.model.now c.args.locals.now) (forms_of (map form_and c.args.rest.now))) c.in_ok-found.found c.in_ok-found.ensures in
+    grind (arith, common_steps)
 
 pub described_set-returns-then-is_memory : goal.described_set-returns-then-is_memory
 described_set-returns-then-is_memory t c = grind (arith, common_steps)
@@ -681,34 +538,22 @@ pub imp-returns-in_err-two-in-Some : goal.imp-returns-in_err-two-in-Some
 imp-returns-in_err-two-in-Some t c = grind (arith, imp_forms, rules_of_forms, rules_of_parts)
 
 pub imps-loop-t-init : goal.imps-loop-t-init
-imps-loop-t-init t c = grind (arith, rules_of_parts, common_steps)
-
-pub imps-returns-in_err-push : goal.imps-returns-in_err-push
-imps-returns-in_err-push t c = grind (arith, rules_of_parts)
-
-pub imps-returns-in_err-push-2 : goal.imps-returns-in_err-push-2
-imps-returns-in_err-push-2 t c = grind (arith, rules_of_parts)
+imps-loop-t-init t c =
+    let h = first_kept (part (node_of c.args.first)) (typed_parts (within c.args.model.now c.args.locals.now) (forms_of (map form_imp c.args.rest.now))) c.in_ok-found.found c.in_ok-found.ensures in
+    grind (arith, common_steps)
 
 pub mul_steps-loop-t-init : goal.mul_steps-loop-t-init
-mul_steps-loop-t-init t c = grind (arith, rules_of_parts, common_steps)
-
-pub mul_steps-returns-in_err-push : goal.mul_steps-returns-in_err-push
-mul_steps-returns-in_err-push t c = grind (arith, rules_of_parts)
-
-pub mul_steps-returns-in_err-push-2 : goal.mul_steps-returns-in_err-push-2
-mul_steps-returns-in_err-push-2 t c = grind (arith, rules_of_parts)
+mul_steps-loop-t-init t c =
+    let h = first_kept (part (node_of c.args.first)) (typed_parts (within c.args.model.now c.args.locals.now) (forms_of (map form_mul_step c.args.rest.now))) c.in_ok-found.found c.in_ok-found.ensures in
+    grind (arith, common_steps)
 
 pub neg-returns-in_err-one-in-Not : goal.neg-returns-in_err-one-in-Not
 neg-returns-in_err-one-in-Not t c = grind (arith, neg_forms, rules_of_forms, rules_of_parts)
 
 pub negs-loop-t-init : goal.negs-loop-t-init
-negs-loop-t-init t c = grind (arith, rules_of_parts, common_steps)
-
-pub negs-returns-in_err-push : goal.negs-returns-in_err-push
-negs-returns-in_err-push t c = grind (arith, rules_of_parts)
-
-pub negs-returns-in_err-push-2 : goal.negs-returns-in_err-push-2
-negs-returns-in_err-push-2 t c = grind (arith, rules_of_parts)
+negs-loop-t-init t c =
+    let h = first_kept (part (node_of c.args.first)) (typed_parts (within c.args.model.now c.args.locals.now) (forms_of (map form_neg c.args.rest.now))) c.in_ok-found.found c.in_ok-found.ensures in
+    grind (arith, common_steps)
 
 pub open_group-returns-in_err-all_fresh : goal.open_group-returns-in_err-all_fresh
 open_group-returns-in_err-all_fresh t c = grind (arith, group_forms)
@@ -731,35 +576,104 @@ open_group-returns-in_err-over t c = grind (arith, group_forms)
 pub open_groups-returns-in_err-copied : goal.open_groups-returns-in_err-copied
 open_groups-returns-in_err-copied t c = grind (arith, common_steps)
 
-pub open_params-returns-in_err-add_kinds-in-Some : goal.open_params-returns-in_err-add_kinds-in-Some
-open_params-returns-in_err-add_kinds-in-Some t c = grind (arith, params_forms)
-
 pub pairs-loop-t-init : goal.pairs-loop-t-init
 pairs-loop-t-init t c = grind (arith, keyed_forms, rules_of_pairs, common_steps)
 
-pub pairs-returns-in_err-push : goal.pairs-returns-in_err-push
-pairs-returns-in_err-push t c = grind (arith, keyed_forms, rules_of_pairs)
-
-pub pairs-returns-in_err-push-2 : goal.pairs-returns-in_err-push-2
-pairs-returns-in_err-push-2 t c = grind (arith, keyed_forms, rules_of_pairs)
-
 pub post-returns-in_err-chain : goal.post-returns-in_err-chain
 post-returns-in_err-chain t c = grind (arith, post_forms)
-
-pub with_last-returns-in_err-push : goal.with_last-returns-in_err-push
-with_last-returns-in_err-push t c = grind (arith, common_steps)
 
 pub with_suffix-returns-in_err-parts-in-Subscripts : goal.with_suffix-returns-in_err-parts-in-Subscripts
 with_suffix-returns-in_err-parts-in-Subscripts t c = grind (arith, suffix_forms)
 
 pub wrongly_described-returns : goal.wrongly_described-returns
-wrongly_described-returns t c = grind (arith, common_steps)
-
-pub wrongly_described-returns-in_err-add : goal.wrongly_described-returns-in_err-add
-wrongly_described-returns-in_err-add t c = grind (arith, common_steps)
-
-pub wrongly_described-returns-in_err-part : goal.wrongly_described-returns-in_err-part
-wrongly_described-returns-in_err-part t c = grind (arith, common_steps)
+wrongly_described-returns t c =
+    let h = through node_of _ part c.add.result (Ok c.in_ok-part_of.field-0) c.add.ensures c.in_ok-part_of.ensures in
+    grind (arith, common_steps)
 
 pub wrongly_described-returns-in_err-unknown : goal.wrongly_described-returns-in_err-unknown
 wrongly_described-returns-in_err-unknown t c = grind (arith, common_steps)
+
+pub imps-returns-in_err-found : goal.imps-returns-in_err-found
+imps-returns-in_err-found t c =
+    let h = first_refused (part (node_of c.args.first)) (typed_parts (within c.args.model.now c.args.locals.now) (forms_of (map form_imp c.args.rest.now))) c.in_err-found.field-0.0 c.in_err-found.ensures in
+    grind (arith)
+
+pub imps-returns-in_err-add_part : goal.imps-returns-in_err-add_part
+imps-returns-in_err-add_part t c =
+    let h = part_refused (within c.args.model.now c.args.locals.now) form_imp _ c.args.rest.now c.loop-t.t-index c.loop-t.found c.loop-t.invariant c.t-item.result c.loop-t-test.true c.t-item.is c.imp.result c.add_part.new.parts c.in_err-add_part.field-0.0 (c.imp.ensures, c.in_err-add_part.ensures) in
+    grind (arith)
+
+pub ands-returns-in_err-found : goal.ands-returns-in_err-found
+ands-returns-in_err-found t c =
+    let h = first_refused (part (node_of c.args.first)) (typed_parts (within c.args.model.now c.args.locals.now) (forms_of (map form_and c.args.rest.now))) c.in_err-found.field-0.0 c.in_err-found.ensures in
+    grind (arith)
+
+pub ands-returns-in_err-add_part : goal.ands-returns-in_err-add_part
+ands-returns-in_err-add_part t c =
+    let h = part_refused (within c.args.model.now c.args.locals.now) form_and _ c.args.rest.now c.loop-t.t-index c.loop-t.found c.loop-t.invariant c.t-item.result c.loop-t-test.true c.t-item.is c.and.result c.add_part.new.parts c.in_err-add_part.field-0.0 (c.and.ensures, c.in_err-add_part.ensures) in
+    grind (arith)
+
+pub negs-returns-in_err-found : goal.negs-returns-in_err-found
+negs-returns-in_err-found t c =
+    let h = first_refused (part (node_of c.args.first)) (typed_parts (within c.args.model.now c.args.locals.now) (forms_of (map form_neg c.args.rest.now))) c.in_err-found.field-0.0 c.in_err-found.ensures in
+    grind (arith)
+
+pub negs-returns-in_err-add_part : goal.negs-returns-in_err-add_part
+negs-returns-in_err-add_part t c =
+    let h = part_refused (within c.args.model.now c.args.locals.now) form_neg _ c.args.rest.now c.loop-t.t-index c.loop-t.found c.loop-t.invariant c.t-item.result c.loop-t-test.true c.t-item.is c.neg.result c.add_part.new.parts c.in_err-add_part.field-0.0 (c.neg.ensures, c.in_err-add_part.ensures) in
+    grind (arith)
+
+pub add_steps-returns-in_err-found : goal.add_steps-returns-in_err-found
+add_steps-returns-in_err-found t c =
+    let h = first_refused (part (node_of c.args.first)) (typed_parts (within c.args.model.now c.args.locals.now) (forms_of (map form_add_step c.args.rest.now))) c.in_err-found.field-0.0 c.in_err-found.ensures in
+    grind (arith)
+
+pub add_steps-returns-in_err-add_part : goal.add_steps-returns-in_err-add_part
+add_steps-returns-in_err-add_part t c =
+    let h = part_refused (within c.args.model.now c.args.locals.now) form_add_step _ c.args.rest.now c.loop-t.t-index c.loop-t.found c.loop-t.invariant c.t-item.result c.loop-t-test.true c.t-item.is c.add_step.result c.add_part.new.parts c.in_err-add_part.field-0.0 (c.add_step.ensures, c.in_err-add_part.ensures) in
+    grind (arith)
+
+pub mul_steps-returns-in_err-found : goal.mul_steps-returns-in_err-found
+mul_steps-returns-in_err-found t c =
+    let h = first_refused (part (node_of c.args.first)) (typed_parts (within c.args.model.now c.args.locals.now) (forms_of (map form_mul_step c.args.rest.now))) c.in_err-found.field-0.0 c.in_err-found.ensures in
+    grind (arith)
+
+pub mul_steps-returns-in_err-add_part : goal.mul_steps-returns-in_err-add_part
+mul_steps-returns-in_err-add_part t c =
+    let h = part_refused (within c.args.model.now c.args.locals.now) form_mul_step _ c.args.rest.now c.loop-t.t-index c.loop-t.found c.loop-t.invariant c.t-item.result c.loop-t-test.true c.t-item.is c.mul_step.result c.add_part.new.parts c.in_err-add_part.field-0.0 (c.mul_step.ensures, c.in_err-add_part.ensures) in
+    grind (arith)
+
+pub adds-returns-in_err-found : goal.adds-returns-in_err-found
+adds-returns-in_err-found t c =
+    let h = first_refused (part (node_of c.args.first)) (typed_parts (within c.args.model.now c.args.locals.now) (forms_of (map form_add c.args.rest.now))) c.in_err-found.field-0.0 c.in_err-found.ensures in
+    grind (arith)
+
+pub adds-returns-in_err-add_part : goal.adds-returns-in_err-add_part
+adds-returns-in_err-add_part t c =
+    let h = part_refused (within c.args.model.now c.args.locals.now) form_add _ c.args.rest.now c.loop-t.t-index c.loop-t.found c.loop-t.invariant c.t-item.result c.loop-t-test.true c.t-item.is c.add.result c.add_part.new.parts c.in_err-add_part.field-0.0 (c.add.ensures, c.in_err-add_part.ensures) in
+    grind (arith)
+
+pub all_adds-returns-in_err-add_part : goal.all_adds-returns-in_err-add_part
+all_adds-returns-in_err-add_part t c =
+    let h = part_refused (within c.args.model.now c.args.locals.now) form_add _ c.args.parts.now c.loop-t.t-index c.loop-t.found c.loop-t.invariant c.t-item.result c.loop-t-test.true c.t-item.is c.add.result c.add_part.new.parts c.in_err-add_part.field-0.0 (c.add.ensures, c.in_err-add_part.ensures) in
+    grind (arith)
+
+pub pairs-returns-in_err-add_part : goal.pairs-returns-in_err-add_part
+pairs-returns-in_err-add_part t c =
+    let h = key_refused (within c.args.model.now c.args.locals.now) form_keyed _ c.args.parts.now c.loop-t.t-index c.loop-t.found c.loop-t.invariant c.t-item.result c.loop-t-test.true c.t-item.is (form_add (out-KeyedTree c.t-item.result).key) (form_add (out-KeyedTree c.t-item.result).value) (form_keyed-is c.t-item.result) c.add.result c.add_part.new.parts c.in_err-add_part.field-0.0 (c.add.ensures, c.in_err-add_part.ensures) in
+    grind (arith)
+
+pub pairs-returns-in_err-add_part-2 : goal.pairs-returns-in_err-add_part-2
+pairs-returns-in_err-add_part-2 t c =
+    let h = cell_refused (within c.args.model.now c.args.locals.now) form_keyed _ c.args.parts.now c.loop-t.t-index c.loop-t.found c.loop-t.invariant c.t-item.result c.loop-t-test.true c.t-item.is (form_add (out-KeyedTree c.t-item.result).key) (form_add (out-KeyedTree c.t-item.result).value) (form_keyed-is c.t-item.result) c.add.result c.add_part.new.parts (c.add.ensures, c.in_ok-add_part.ensures) c.add-in-loop-t.result c.add_part-in-loop-t.new.parts c.in_err-add_part-2.field-0.0 (c.add-in-loop-t.ensures, c.in_err-add_part-2.ensures) in
+    grind (arith)
+
+pub with_last-returns-in_err-add_part : goal.with_last-returns-in_err-add_part
+with_last-returns-in_err-add_part t c =
+    let h = last_refused (within c.args.model.now c.args.locals.now) _ c.args.parts (form_open (out-LastStep c.args.last.now).factor) (ap (λ f. and_then (typed_parts (within c.args.model.now c.args.locals.now) (forms_of (f ∷ []))) (λ ns. Ok (map node_of c.args.parts ++ ns))) (form_last_step-is c.args.last.now)) c.open.result c.add_part.new.parts c.in_err-add_part.field-0.0 (c.open.ensures, c.in_err-add_part.ensures) in
+    grind (arith)
+
+pub wrongly_described-returns-in_err-part_of : goal.wrongly_described-returns-in_err-part_of
+wrongly_described-returns-in_err-part_of t c =
+    let h = through node_of _ part c.add.result (Err c.in_err-part_of.field-0.0) c.add.ensures c.in_err-part_of.ensures in
+    grind (arith, common_steps)
