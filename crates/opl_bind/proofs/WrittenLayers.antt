@@ -566,67 +566,67 @@ none-parts known t x wrong env = refl
 pub cells-none : (known : Known) (t : Term) (wrong : BindFault) (env : Environment) → (written known t).cells wrong [] env ≡ Ok ((written known t).fit ∷ [])
 cells-none known t wrong env = cells_of known t (out-Term t) wrong [] env (roll-out-Term t) ∙ none-parts known t (out-Term t) wrong env
 
-cells-Number : (known : Known) (at : ℕ) (n : ℤ) (wrong : BindFault) (axis : Axis) (axes : List Axis) (env : Environment) → (written known (terms.Number at n)).cells wrong (axis ∷ axes) env ≡ Err wrong
+pub cells-Number : (known : Known) (at : ℕ) (n : ℤ) (wrong : BindFault) (axis : Axis) (axes : List Axis) (env : Environment) → (written known (terms.Number at n)).cells wrong (axis ∷ axes) env ≡ Err wrong
 cells-Number known at n wrong axis axes env = cells_of known (terms.Number at n) (Term-F.Number at n) wrong (axis ∷ axes) env (terms.rolls-Number at n)
 
-cells-Named : (known : Known) (at : ℕ) (name : List ℕ) (wrong : BindFault) (axis : Axis) (axes : List Axis) (env : Environment) → (written known (terms.Named at name)).cells wrong (axis ∷ axes) env ≡ Err wrong
+pub cells-Named : (known : Known) (at : ℕ) (name : List ℕ) (wrong : BindFault) (axis : Axis) (axes : List Axis) (env : Environment) → (written known (terms.Named at name)).cells wrong (axis ∷ axes) env ≡ Err wrong
 cells-Named known at name wrong axis axes env = cells_of known (terms.Named at name) (Term-F.Named at name) wrong (axis ∷ axes) env (terms.rolls-Named at name)
 
-cells-Bracket : (known : Known) (at : ℕ) (t : Term) (wrong : BindFault) (axis : Axis) (axes : List Axis) (env : Environment) → (written known (terms.Bracket at t)).cells wrong (axis ∷ axes) env ≡ Err wrong
+pub cells-Bracket : (known : Known) (at : ℕ) (t : Term) (wrong : BindFault) (axis : Axis) (axes : List Axis) (env : Environment) → (written known (terms.Bracket at t)).cells wrong (axis ∷ axes) env ≡ Err wrong
 cells-Bracket known at t wrong axis axes env = cells_of known (terms.Bracket at t) (Term-F.Bracket at t) wrong (axis ∷ axes) env (terms.rolls-Bracket at t)
 
-cells-Negative : (known : Known) (at : ℕ) (t : Term) (wrong : BindFault) (axis : Axis) (axes : List Axis) (env : Environment) → (written known (terms.Negative at t)).cells wrong (axis ∷ axes) env ≡ Err wrong
+pub cells-Negative : (known : Known) (at : ℕ) (t : Term) (wrong : BindFault) (axis : Axis) (axes : List Axis) (env : Environment) → (written known (terms.Negative at t)).cells wrong (axis ∷ axes) env ≡ Err wrong
 cells-Negative known at t wrong axis axes env = cells_of known (terms.Negative at t) (Term-F.Negative at t) wrong (axis ∷ axes) env (terms.rolls-Negative at t)
 
-cells-Chain : (known : Known) (at : ℕ) (t : Term) (ss : List Step) (wrong : BindFault) (axis : Axis) (axes : List Axis) (env : Environment) → (written known (terms.Chain at t ss)).cells wrong (axis ∷ axes) env ≡ Err wrong
+pub cells-Chain : (known : Known) (at : ℕ) (t : Term) (ss : List Step) (wrong : BindFault) (axis : Axis) (axes : List Axis) (env : Environment) → (written known (terms.Chain at t ss)).cells wrong (axis ∷ axes) env ≡ Err wrong
 cells-Chain known at t ss wrong axis axes env = cells_of known (terms.Chain at t ss) (Term-F.Chain at t ss) wrong (axis ∷ axes) env (terms.rolls-Chain at t ss)
 
-cells-Related : (known : Known) (at : ℕ) (t : Term) (r : Relation) (u : Term) (wrong : BindFault) (axis : Axis) (axes : List Axis) (env : Environment) → (written known (terms.Related at t r u)).cells wrong (axis ∷ axes) env ≡ Err wrong
+pub cells-Related : (known : Known) (at : ℕ) (t : Term) (r : Relation) (u : Term) (wrong : BindFault) (axis : Axis) (axes : List Axis) (env : Environment) → (written known (terms.Related at t r u)).cells wrong (axis ∷ axes) env ≡ Err wrong
 cells-Related known at t r u wrong axis axes env = cells_of known (terms.Related at t r u) (Term-F.Related at t r u) wrong (axis ∷ axes) env (terms.rolls-Related at t r u)
 
-cells-Member : (known : Known) (at : ℕ) (t : Term) (s : SetTerm) (wrong : BindFault) (axis : Axis) (axes : List Axis) (env : Environment) → (written known (terms.Member at t s)).cells wrong (axis ∷ axes) env ≡ Err wrong
+pub cells-Member : (known : Known) (at : ℕ) (t : Term) (s : SetTerm) (wrong : BindFault) (axis : Axis) (axes : List Axis) (env : Environment) → (written known (terms.Member at t s)).cells wrong (axis ∷ axes) env ≡ Err wrong
 cells-Member known at t s wrong axis axes env = cells_of known (terms.Member at t s) (Term-F.Member at t s) wrong (axis ∷ axes) env (terms.rolls-Member at t s)
 
-cells-Equivalent : (known : Known) (at : ℕ) (ts : List Term) (wrong : BindFault) (axis : Axis) (axes : List Axis) (env : Environment) → (written known (terms.Equivalent at ts)).cells wrong (axis ∷ axes) env ≡ Err wrong
+pub cells-Equivalent : (known : Known) (at : ℕ) (ts : List Term) (wrong : BindFault) (axis : Axis) (axes : List Axis) (env : Environment) → (written known (terms.Equivalent at ts)).cells wrong (axis ∷ axes) env ≡ Err wrong
 cells-Equivalent known at ts wrong axis axes env = cells_of known (terms.Equivalent at ts) (Term-F.Equivalent at ts) wrong (axis ∷ axes) env (terms.rolls-Equivalent at ts)
 
-cells-Implied : (known : Known) (at : ℕ) (t : Term) (u : Term) (wrong : BindFault) (axis : Axis) (axes : List Axis) (env : Environment) → (written known (terms.Implied at t u)).cells wrong (axis ∷ axes) env ≡ Err wrong
+pub cells-Implied : (known : Known) (at : ℕ) (t : Term) (u : Term) (wrong : BindFault) (axis : Axis) (axes : List Axis) (env : Environment) → (written known (terms.Implied at t u)).cells wrong (axis ∷ axes) env ≡ Err wrong
 cells-Implied known at t u wrong axis axes env = cells_of known (terms.Implied at t u) (Term-F.Implied at t u) wrong (axis ∷ axes) env (terms.rolls-Implied at t u)
 
-cells-Or : (known : Known) (at : ℕ) (ts : List Term) (wrong : BindFault) (axis : Axis) (axes : List Axis) (env : Environment) → (written known (terms.Or at ts)).cells wrong (axis ∷ axes) env ≡ Err wrong
+pub cells-Or : (known : Known) (at : ℕ) (ts : List Term) (wrong : BindFault) (axis : Axis) (axes : List Axis) (env : Environment) → (written known (terms.Or at ts)).cells wrong (axis ∷ axes) env ≡ Err wrong
 cells-Or known at ts wrong axis axes env = cells_of known (terms.Or at ts) (Term-F.Or at ts) wrong (axis ∷ axes) env (terms.rolls-Or at ts)
 
-cells-And : (known : Known) (at : ℕ) (ts : List Term) (wrong : BindFault) (axis : Axis) (axes : List Axis) (env : Environment) → (written known (terms.And at ts)).cells wrong (axis ∷ axes) env ≡ Err wrong
+pub cells-And : (known : Known) (at : ℕ) (ts : List Term) (wrong : BindFault) (axis : Axis) (axes : List Axis) (env : Environment) → (written known (terms.And at ts)).cells wrong (axis ∷ axes) env ≡ Err wrong
 cells-And known at ts wrong axis axes env = cells_of known (terms.And at ts) (Term-F.And at ts) wrong (axis ∷ axes) env (terms.rolls-And at ts)
 
-cells-Not : (known : Known) (at : ℕ) (t : Term) (wrong : BindFault) (axis : Axis) (axes : List Axis) (env : Environment) → (written known (terms.Not at t)).cells wrong (axis ∷ axes) env ≡ Err wrong
+pub cells-Not : (known : Known) (at : ℕ) (t : Term) (wrong : BindFault) (axis : Axis) (axes : List Axis) (env : Environment) → (written known (terms.Not at t)).cells wrong (axis ∷ axes) env ≡ Err wrong
 cells-Not known at t wrong axis axes env = cells_of known (terms.Not at t) (Term-F.Not at t) wrong (axis ∷ axes) env (terms.rolls-Not at t)
 
-cells-Aggregate : (known : Known) (at : ℕ) (op : AggregateOp) (gs : List GroupTerm) (c : Option Term) (t : Term) (wrong : BindFault) (axis : Axis) (axes : List Axis) (env : Environment) → (written known (terms.Aggregate at op gs c t)).cells wrong (axis ∷ axes) env ≡ Err wrong
+pub cells-Aggregate : (known : Known) (at : ℕ) (op : AggregateOp) (gs : List GroupTerm) (c : Option Term) (t : Term) (wrong : BindFault) (axis : Axis) (axes : List Axis) (env : Environment) → (written known (terms.Aggregate at op gs c t)).cells wrong (axis ∷ axes) env ≡ Err wrong
 cells-Aggregate known at op gs c t wrong axis axes env = cells_of known (terms.Aggregate at op gs c t) (Term-F.Aggregate at op gs c t) wrong (axis ∷ axes) env (terms.rolls-Aggregate at op gs c t)
 
-cells-Call : (known : Known) (at : ℕ) (op : CallOp) (t : Term) (wrong : BindFault) (axis : Axis) (axes : List Axis) (env : Environment) → (written known (terms.Call at op t)).cells wrong (axis ∷ axes) env ≡ Err wrong
+pub cells-Call : (known : Known) (at : ℕ) (op : CallOp) (t : Term) (wrong : BindFault) (axis : Axis) (axes : List Axis) (env : Environment) → (written known (terms.Call at op t)).cells wrong (axis ∷ axes) env ≡ Err wrong
 cells-Call known at op t wrong axis axes env = cells_of known (terms.Call at op t) (Term-F.Call at op t) wrong (axis ∷ axes) env (terms.rolls-Call at op t)
 
-cells-AllDifferent : (known : Known) (at : ℕ) (t : Term) (wrong : BindFault) (axis : Axis) (axes : List Axis) (env : Environment) → (written known (terms.AllDifferent at t)).cells wrong (axis ∷ axes) env ≡ Err wrong
+pub cells-AllDifferent : (known : Known) (at : ℕ) (t : Term) (wrong : BindFault) (axis : Axis) (axes : List Axis) (env : Environment) → (written known (terms.AllDifferent at t)).cells wrong (axis ∷ axes) env ≡ Err wrong
 cells-AllDifferent known at t wrong axis axes env = cells_of known (terms.AllDifferent at t) (Term-F.AllDifferent at t) wrong (axis ∷ axes) env (terms.rolls-AllDifferent at t)
 
-cells-Question : (known : Known) (at : ℕ) (op : QuestionOp) (t : Term) (wrong : BindFault) (axis : Axis) (axes : List Axis) (env : Environment) → (written known (terms.Question at op t)).cells wrong (axis ∷ axes) env ≡ Err wrong
+pub cells-Question : (known : Known) (at : ℕ) (op : QuestionOp) (t : Term) (wrong : BindFault) (axis : Axis) (axes : List Axis) (env : Environment) → (written known (terms.Question at op t)).cells wrong (axis ∷ axes) env ≡ Err wrong
 cells-Question known at op t wrong axis axes env = cells_of known (terms.Question at op t) (Term-F.Question at op t) wrong (axis ∷ axes) env (terms.rolls-Question at op t)
 
-cells-Element : (known : Known) (at : ℕ) (t : Term) (ts : List Term) (wrong : BindFault) (axis : Axis) (axes : List Axis) (env : Environment) → (written known (terms.Element at t ts)).cells wrong (axis ∷ axes) env ≡ Err wrong
+pub cells-Element : (known : Known) (at : ℕ) (t : Term) (ts : List Term) (wrong : BindFault) (axis : Axis) (axes : List Axis) (env : Environment) → (written known (terms.Element at t ts)).cells wrong (axis ∷ axes) env ≡ Err wrong
 cells-Element known at t ts wrong axis axes env = cells_of known (terms.Element at t ts) (Term-F.Element at t ts) wrong (axis ∷ axes) env (terms.rolls-Element at t ts)
 
-cells-Fields : (known : Known) (at : ℕ) (t : Term) (fs : List FieldName) (wrong : BindFault) (axis : Axis) (axes : List Axis) (env : Environment) → (written known (terms.Fields at t fs)).cells wrong (axis ∷ axes) env ≡ Err wrong
+pub cells-Fields : (known : Known) (at : ℕ) (t : Term) (fs : List FieldName) (wrong : BindFault) (axis : Axis) (axes : List Axis) (env : Environment) → (written known (terms.Fields at t fs)).cells wrong (axis ∷ axes) env ≡ Err wrong
 cells-Fields known at t fs wrong axis axes env = cells_of known (terms.Fields at t fs) (Term-F.Fields at t fs) wrong (axis ∷ axes) env (terms.rolls-Fields at t fs)
 
-cells-Record : (known : Known) (at : ℕ) (ts : List Term) (wrong : BindFault) (axis : Axis) (axes : List Axis) (env : Environment) → (written known (terms.Record at ts)).cells wrong (axis ∷ axes) env ≡ Err wrong
+pub cells-Record : (known : Known) (at : ℕ) (ts : List Term) (wrong : BindFault) (axis : Axis) (axes : List Axis) (env : Environment) → (written known (terms.Record at ts)).cells wrong (axis ∷ axes) env ≡ Err wrong
 cells-Record known at ts wrong axis axes env = cells_of known (terms.Record at ts) (Term-F.Record at ts) wrong (axis ∷ axes) env (terms.rolls-Record at ts)
 
-cells-Listed : (known : Known) (at : ℕ) (ts : List Term) (wrong : BindFault) (axis : Axis) (axes : List Axis) (env : Environment) → (written known (terms.Listed at ts)).cells wrong (axis ∷ axes) env ≡ Err wrong
+pub cells-Listed : (known : Known) (at : ℕ) (ts : List Term) (wrong : BindFault) (axis : Axis) (axes : List Axis) (env : Environment) → (written known (terms.Listed at ts)).cells wrong (axis ∷ axes) env ≡ Err wrong
 cells-Listed known at ts wrong axis axes env = cells_of known (terms.Listed at ts) (Term-F.Listed at ts) wrong (axis ∷ axes) env (terms.rolls-Listed at ts)
 
-cells-Described : (known : Known) (at : ℕ) (t : Term) (gs : List GroupTerm) (c : Option Term) (wrong : BindFault) (axis : Axis) (axes : List Axis) (env : Environment) → (written known (terms.Described at t gs c)).cells wrong (axis ∷ axes) env ≡ Err wrong
+pub cells-Described : (known : Known) (at : ℕ) (t : Term) (gs : List GroupTerm) (c : Option Term) (wrong : BindFault) (axis : Axis) (axes : List Axis) (env : Environment) → (written known (terms.Described at t gs c)).cells wrong (axis ∷ axes) env ≡ Err wrong
 cells-Described known at t gs c wrong axis axes env = cells_of known (terms.Described at t gs c) (Term-F.Described at t gs c) wrong (axis ∷ axes) env (terms.rolls-Described at t gs c)
 
 pub cells-Array : (known : Known) (at : ℕ) (ts : List Term) (wrong : BindFault) (axis : Axis) (axes : List Axis) (env : Environment) → (written known (terms.Array at ts)).cells wrong (axis ∷ axes) env ≡ provided (nat_eq (length ts) (length (values_of axis))) wrong (opened wrong axes env [] (map (written known) ts))
@@ -651,88 +651,47 @@ pub ruleset weights_of_parts = (weight-at)
 -- what expressions are as arrays
 pub ruleset cells_written = (cells-none, cells-Array, cells-KeyedArray)
 
--- an expression of any other form than a record or a set that is written out is taken as a whole
-abbrev IsWhole : Term → Type 0
-IsWhole e = ((at : ℕ) × (n : ℤ) × (e ≡ terms.Number at n)) ⊎ (((at : ℕ) × (name : List ℕ) × (e ≡ terms.Named at name)) ⊎ (((at : ℕ) × (t : Term) × (e ≡ terms.Bracket at t)) ⊎ (((at : ℕ) × (t : Term) × (e ≡ terms.Negative at t)) ⊎ (((at : ℕ) × (t : Term) × (ss : List Step) × (e ≡ terms.Chain at t ss)) ⊎ (((at : ℕ) × (t : Term) × (r : Relation) × (u : Term) × (e ≡ terms.Related at t r u)) ⊎ (((at : ℕ) × (t : Term) × (s : SetTerm) × (e ≡ terms.Member at t s)) ⊎ (((at : ℕ) × (ts : List Term) × (e ≡ terms.Equivalent at ts)) ⊎ (((at : ℕ) × (t : Term) × (u : Term) × (e ≡ terms.Implied at t u)) ⊎ (((at : ℕ) × (ts : List Term) × (e ≡ terms.Or at ts)) ⊎ (((at : ℕ) × (ts : List Term) × (e ≡ terms.And at ts)) ⊎ (((at : ℕ) × (t : Term) × (e ≡ terms.Not at t)) ⊎ (((at : ℕ) × (op : AggregateOp) × (gs : List GroupTerm) × (c : Option Term) × (t : Term) × (e ≡ terms.Aggregate at op gs c t)) ⊎ (((at : ℕ) × (op : CallOp) × (t : Term) × (e ≡ terms.Call at op t)) ⊎ (((at : ℕ) × (t : Term) × (e ≡ terms.AllDifferent at t)) ⊎ (((at : ℕ) × (op : QuestionOp) × (t : Term) × (e ≡ terms.Question at op t)) ⊎ (((at : ℕ) × (t : Term) × (ts : List Term) × (e ≡ terms.Element at t ts)) ⊎ (((at : ℕ) × (t : Term) × (fs : List FieldName) × (e ≡ terms.Fields at t fs)) ⊎ (((at : ℕ) × (t : Term) × (gs : List GroupTerm) × (c : Option Term) × (e ≡ terms.Described at t gs c)) ⊎ (((at : ℕ) × (ts : List Term) × (e ≡ terms.Array at ts)) ⊎ (((at : ℕ) × (ts : List Term) × (us : List Term) × (e ≡ terms.KeyedArray at ts us))))))))))))))))))))))
+-- an expression of any other form than `[..]` and `#[..]#` is no array
+pub ruleset no_cells = (cells-Number, cells-Named, cells-Bracket, cells-Negative, cells-Chain, cells-Related, cells-Member, cells-Equivalent, cells-Implied, cells-Or, cells-And, cells-Not, cells-Aggregate, cells-Call, cells-AllDifferent, cells-Question, cells-Element, cells-Fields, cells-Record, cells-Listed, cells-Described)
+
+-- an expression of any other form than a record or a set that is written out is taken as a whole; the forms are those of three arms
+abbrev IsWhole1 : Term → Type 0
+IsWhole1 e = ((at : ℕ) × (n : ℤ) × (e ≡ terms.Number at n)) ⊎ (((at : ℕ) × (name : List ℕ) × (e ≡ terms.Named at name)) ⊎ (((at : ℕ) × (t : Term) × (e ≡ terms.Bracket at t)) ⊎ (((at : ℕ) × (t : Term) × (e ≡ terms.Negative at t)) ⊎ (((at : ℕ) × (t : Term) × (ss : List Step) × (e ≡ terms.Chain at t ss)) ⊎ (((at : ℕ) × (t : Term) × (r : Relation) × (u : Term) × (e ≡ terms.Related at t r u)) ⊎ ((at : ℕ) × (t : Term) × (s : SetTerm) × (e ≡ terms.Member at t s)))))))
+
+abbrev IsWhole2 : Term → Type 0
+IsWhole2 e = ((at : ℕ) × (ts : List Term) × (e ≡ terms.Equivalent at ts)) ⊎ (((at : ℕ) × (t : Term) × (u : Term) × (e ≡ terms.Implied at t u)) ⊎ (((at : ℕ) × (ts : List Term) × (e ≡ terms.Or at ts)) ⊎ (((at : ℕ) × (ts : List Term) × (e ≡ terms.And at ts)) ⊎ (((at : ℕ) × (t : Term) × (e ≡ terms.Not at t)) ⊎ (((at : ℕ) × (op : AggregateOp) × (gs : List GroupTerm) × (c : Option Term) × (t : Term) × (e ≡ terms.Aggregate at op gs c t)) ⊎ ((at : ℕ) × (op : CallOp) × (t : Term) × (e ≡ terms.Call at op t)))))))
+
+abbrev IsWhole3 : Term → Type 0
+IsWhole3 e = ((at : ℕ) × (t : Term) × (e ≡ terms.AllDifferent at t)) ⊎ (((at : ℕ) × (op : QuestionOp) × (t : Term) × (e ≡ terms.Question at op t)) ⊎ (((at : ℕ) × (t : Term) × (ts : List Term) × (e ≡ terms.Element at t ts)) ⊎ (((at : ℕ) × (t : Term) × (fs : List FieldName) × (e ≡ terms.Fields at t fs)) ⊎ (((at : ℕ) × (t : Term) × (gs : List GroupTerm) × (c : Option Term) × (e ≡ terms.Described at t gs c)) ⊎ (((at : ℕ) × (ts : List Term) × (e ≡ terms.Array at ts)) ⊎ (((at : ℕ) × (ts : List Term) × (us : List Term) × (e ≡ terms.KeyedArray at ts us))))))))
 
 moved : (known : Known) (t u : Term) (form : Form) (env : Environment) → t ≡ u → (written known u).fit form env ≡ whole known (first_token u) (meaning u) form env → (written known t).fit form env ≡ whole known (first_token t) (meaning t) form env
 moved known t u form env e h = subst (λ v. (written known v).fit form env ≡ whole known (first_token v) (meaning v) form env) (sym e) h
 
-pub fit-whole : (known : Known) (t : Term) (form : Form) (env : Environment) → IsWhole t → (written known t).fit form env ≡ whole known (first_token t) (meaning t) form env
-fit-whole known t form env (inl h) = moved known t (terms.Number h.0 h.1) form env h.2 (fit-Number known h.0 h.1 form env)
-fit-whole known t form env (inr (inl h)) = moved known t (terms.Named h.0 h.1) form env h.2 (fit-Named known h.0 h.1 form env)
-fit-whole known t form env (inr (inr (inl h))) = moved known t (terms.Bracket h.0 h.1) form env h.2 (fit-Bracket known h.0 h.1 form env)
-fit-whole known t form env (inr (inr (inr (inl h)))) = moved known t (terms.Negative h.0 h.1) form env h.2 (fit-Negative known h.0 h.1 form env)
-fit-whole known t form env (inr (inr (inr (inr (inl h))))) = moved known t (terms.Chain h.0 h.1 h.2) form env h.3 (fit-Chain known h.0 h.1 h.2 form env)
-fit-whole known t form env (inr (inr (inr (inr (inr (inl h)))))) = moved known t (terms.Related h.0 h.1 h.2 h.3) form env h.4 (fit-Related known h.0 h.1 h.2 h.3 form env)
-fit-whole known t form env (inr (inr (inr (inr (inr (inr (inl h))))))) = moved known t (terms.Member h.0 h.1 h.2) form env h.3 (fit-Member known h.0 h.1 h.2 form env)
-fit-whole known t form env (inr (inr (inr (inr (inr (inr (inr (inl h)))))))) = moved known t (terms.Equivalent h.0 h.1) form env h.2 (fit-Equivalent known h.0 h.1 form env)
-fit-whole known t form env (inr (inr (inr (inr (inr (inr (inr (inr (inl h))))))))) = moved known t (terms.Implied h.0 h.1 h.2) form env h.3 (fit-Implied known h.0 h.1 h.2 form env)
-fit-whole known t form env (inr (inr (inr (inr (inr (inr (inr (inr (inr (inl h)))))))))) = moved known t (terms.Or h.0 h.1) form env h.2 (fit-Or known h.0 h.1 form env)
-fit-whole known t form env (inr (inr (inr (inr (inr (inr (inr (inr (inr (inr (inl h))))))))))) = moved known t (terms.And h.0 h.1) form env h.2 (fit-And known h.0 h.1 form env)
-fit-whole known t form env (inr (inr (inr (inr (inr (inr (inr (inr (inr (inr (inr (inl h)))))))))))) = moved known t (terms.Not h.0 h.1) form env h.2 (fit-Not known h.0 h.1 form env)
-fit-whole known t form env (inr (inr (inr (inr (inr (inr (inr (inr (inr (inr (inr (inr (inl h))))))))))))) = moved known t (terms.Aggregate h.0 h.1 h.2 h.3 h.4) form env h.5 (fit-Aggregate known h.0 h.1 h.2 h.3 h.4 form env)
-fit-whole known t form env (inr (inr (inr (inr (inr (inr (inr (inr (inr (inr (inr (inr (inr (inl h)))))))))))))) = moved known t (terms.Call h.0 h.1 h.2) form env h.3 (fit-Call known h.0 h.1 h.2 form env)
-fit-whole known t form env (inr (inr (inr (inr (inr (inr (inr (inr (inr (inr (inr (inr (inr (inr (inl h))))))))))))))) = moved known t (terms.AllDifferent h.0 h.1) form env h.2 (fit-AllDifferent known h.0 h.1 form env)
-fit-whole known t form env (inr (inr (inr (inr (inr (inr (inr (inr (inr (inr (inr (inr (inr (inr (inr (inl h)))))))))))))))) = moved known t (terms.Question h.0 h.1 h.2) form env h.3 (fit-Question known h.0 h.1 h.2 form env)
-fit-whole known t form env (inr (inr (inr (inr (inr (inr (inr (inr (inr (inr (inr (inr (inr (inr (inr (inr (inl h))))))))))))))))) = moved known t (terms.Element h.0 h.1 h.2) form env h.3 (fit-Element known h.0 h.1 h.2 form env)
-fit-whole known t form env (inr (inr (inr (inr (inr (inr (inr (inr (inr (inr (inr (inr (inr (inr (inr (inr (inr (inl h)))))))))))))))))) = moved known t (terms.Fields h.0 h.1 h.2) form env h.3 (fit-Fields known h.0 h.1 h.2 form env)
-fit-whole known t form env (inr (inr (inr (inr (inr (inr (inr (inr (inr (inr (inr (inr (inr (inr (inr (inr (inr (inr (inl h))))))))))))))))))) = moved known t (terms.Described h.0 h.1 h.2 h.3) form env h.4 (fit-Described known h.0 h.1 h.2 h.3 form env)
-fit-whole known t form env (inr (inr (inr (inr (inr (inr (inr (inr (inr (inr (inr (inr (inr (inr (inr (inr (inr (inr (inr (inl h)))))))))))))))))))) = moved known t (terms.Array h.0 h.1) form env h.2 (fit-Array known h.0 h.1 form env)
-fit-whole known t form env (inr (inr (inr (inr (inr (inr (inr (inr (inr (inr (inr (inr (inr (inr (inr (inr (inr (inr (inr (inr h)))))))))))))))))))) = moved known t (terms.KeyedArray h.0 h.1 h.2) form env h.3 (fit-KeyedArray known h.0 h.1 h.2 form env)
+pub fit-whole-1 : (known : Known) (t : Term) (form : Form) (env : Environment) → IsWhole1 t → (written known t).fit form env ≡ whole known (first_token t) (meaning t) form env
+fit-whole-1 known t form env (inl h) = moved known t (terms.Number h.0 h.1) form env h.2 (fit-Number known h.0 h.1 form env)
+fit-whole-1 known t form env (inr (inl h)) = moved known t (terms.Named h.0 h.1) form env h.2 (fit-Named known h.0 h.1 form env)
+fit-whole-1 known t form env (inr (inr (inl h))) = moved known t (terms.Bracket h.0 h.1) form env h.2 (fit-Bracket known h.0 h.1 form env)
+fit-whole-1 known t form env (inr (inr (inr (inl h)))) = moved known t (terms.Negative h.0 h.1) form env h.2 (fit-Negative known h.0 h.1 form env)
+fit-whole-1 known t form env (inr (inr (inr (inr (inl h))))) = moved known t (terms.Chain h.0 h.1 h.2) form env h.3 (fit-Chain known h.0 h.1 h.2 form env)
+fit-whole-1 known t form env (inr (inr (inr (inr (inr (inl h)))))) = moved known t (terms.Related h.0 h.1 h.2 h.3) form env h.4 (fit-Related known h.0 h.1 h.2 h.3 form env)
+fit-whole-1 known t form env (inr (inr (inr (inr (inr (inr h)))))) = moved known t (terms.Member h.0 h.1 h.2) form env h.3 (fit-Member known h.0 h.1 h.2 form env)
 
--- an expression of any other form than `[..]` and `#[..]#` has no cells
-abbrev IsNoArray : Term → Type 0
-IsNoArray e = ((at : ℕ) × (n : ℤ) × (e ≡ terms.Number at n)) ⊎ (((at : ℕ) × (name : List ℕ) × (e ≡ terms.Named at name)) ⊎ (((at : ℕ) × (t : Term) × (e ≡ terms.Bracket at t)) ⊎ (((at : ℕ) × (t : Term) × (e ≡ terms.Negative at t)) ⊎ (((at : ℕ) × (t : Term) × (ss : List Step) × (e ≡ terms.Chain at t ss)) ⊎ (((at : ℕ) × (t : Term) × (r : Relation) × (u : Term) × (e ≡ terms.Related at t r u)) ⊎ (((at : ℕ) × (t : Term) × (s : SetTerm) × (e ≡ terms.Member at t s)) ⊎ (((at : ℕ) × (ts : List Term) × (e ≡ terms.Equivalent at ts)) ⊎ (((at : ℕ) × (t : Term) × (u : Term) × (e ≡ terms.Implied at t u)) ⊎ (((at : ℕ) × (ts : List Term) × (e ≡ terms.Or at ts)) ⊎ (((at : ℕ) × (ts : List Term) × (e ≡ terms.And at ts)) ⊎ (((at : ℕ) × (t : Term) × (e ≡ terms.Not at t)) ⊎ (((at : ℕ) × (op : AggregateOp) × (gs : List GroupTerm) × (c : Option Term) × (t : Term) × (e ≡ terms.Aggregate at op gs c t)) ⊎ (((at : ℕ) × (op : CallOp) × (t : Term) × (e ≡ terms.Call at op t)) ⊎ (((at : ℕ) × (t : Term) × (e ≡ terms.AllDifferent at t)) ⊎ (((at : ℕ) × (op : QuestionOp) × (t : Term) × (e ≡ terms.Question at op t)) ⊎ (((at : ℕ) × (t : Term) × (ts : List Term) × (e ≡ terms.Element at t ts)) ⊎ (((at : ℕ) × (t : Term) × (fs : List FieldName) × (e ≡ terms.Fields at t fs)) ⊎ (((at : ℕ) × (ts : List Term) × (e ≡ terms.Record at ts)) ⊎ (((at : ℕ) × (ts : List Term) × (e ≡ terms.Listed at ts)) ⊎ (((at : ℕ) × (t : Term) × (gs : List GroupTerm) × (c : Option Term) × (e ≡ terms.Described at t gs c))))))))))))))))))))))
+pub fit-whole-2 : (known : Known) (t : Term) (form : Form) (env : Environment) → IsWhole2 t → (written known t).fit form env ≡ whole known (first_token t) (meaning t) form env
+fit-whole-2 known t form env (inl h) = moved known t (terms.Equivalent h.0 h.1) form env h.2 (fit-Equivalent known h.0 h.1 form env)
+fit-whole-2 known t form env (inr (inl h)) = moved known t (terms.Implied h.0 h.1 h.2) form env h.3 (fit-Implied known h.0 h.1 h.2 form env)
+fit-whole-2 known t form env (inr (inr (inl h))) = moved known t (terms.Or h.0 h.1) form env h.2 (fit-Or known h.0 h.1 form env)
+fit-whole-2 known t form env (inr (inr (inr (inl h)))) = moved known t (terms.And h.0 h.1) form env h.2 (fit-And known h.0 h.1 form env)
+fit-whole-2 known t form env (inr (inr (inr (inr (inl h))))) = moved known t (terms.Not h.0 h.1) form env h.2 (fit-Not known h.0 h.1 form env)
+fit-whole-2 known t form env (inr (inr (inr (inr (inr (inl h)))))) = moved known t (terms.Aggregate h.0 h.1 h.2 h.3 h.4) form env h.5 (fit-Aggregate known h.0 h.1 h.2 h.3 h.4 form env)
+fit-whole-2 known t form env (inr (inr (inr (inr (inr (inr h)))))) = moved known t (terms.Call h.0 h.1 h.2) form env h.3 (fit-Call known h.0 h.1 h.2 form env)
 
--- an expression of any other form has none
-pub has_cells-none : (t : Term) → IsNoArray t → has_cells t ≡ false
-has_cells-none t (inl h) = ap has_cells h.2 ∙ has_cells-Number h.0 h.1
-has_cells-none t (inr (inl h)) = ap has_cells h.2 ∙ has_cells-Named h.0 h.1
-has_cells-none t (inr (inr (inl h))) = ap has_cells h.2 ∙ has_cells-Bracket h.0 h.1
-has_cells-none t (inr (inr (inr (inl h)))) = ap has_cells h.2 ∙ has_cells-Negative h.0 h.1
-has_cells-none t (inr (inr (inr (inr (inl h))))) = ap has_cells h.3 ∙ has_cells-Chain h.0 h.1 h.2
-has_cells-none t (inr (inr (inr (inr (inr (inl h)))))) = ap has_cells h.4 ∙ has_cells-Related h.0 h.1 h.2 h.3
-has_cells-none t (inr (inr (inr (inr (inr (inr (inl h))))))) = ap has_cells h.3 ∙ has_cells-Member h.0 h.1 h.2
-has_cells-none t (inr (inr (inr (inr (inr (inr (inr (inl h)))))))) = ap has_cells h.2 ∙ has_cells-Equivalent h.0 h.1
-has_cells-none t (inr (inr (inr (inr (inr (inr (inr (inr (inl h))))))))) = ap has_cells h.3 ∙ has_cells-Implied h.0 h.1 h.2
-has_cells-none t (inr (inr (inr (inr (inr (inr (inr (inr (inr (inl h)))))))))) = ap has_cells h.2 ∙ has_cells-Or h.0 h.1
-has_cells-none t (inr (inr (inr (inr (inr (inr (inr (inr (inr (inr (inl h))))))))))) = ap has_cells h.2 ∙ has_cells-And h.0 h.1
-has_cells-none t (inr (inr (inr (inr (inr (inr (inr (inr (inr (inr (inr (inl h)))))))))))) = ap has_cells h.2 ∙ has_cells-Not h.0 h.1
-has_cells-none t (inr (inr (inr (inr (inr (inr (inr (inr (inr (inr (inr (inr (inl h))))))))))))) = ap has_cells h.5 ∙ has_cells-Aggregate h.0 h.1 h.2 h.3 h.4
-has_cells-none t (inr (inr (inr (inr (inr (inr (inr (inr (inr (inr (inr (inr (inr (inl h)))))))))))))) = ap has_cells h.3 ∙ has_cells-Call h.0 h.1 h.2
-has_cells-none t (inr (inr (inr (inr (inr (inr (inr (inr (inr (inr (inr (inr (inr (inr (inl h))))))))))))))) = ap has_cells h.2 ∙ has_cells-AllDifferent h.0 h.1
-has_cells-none t (inr (inr (inr (inr (inr (inr (inr (inr (inr (inr (inr (inr (inr (inr (inr (inl h)))))))))))))))) = ap has_cells h.3 ∙ has_cells-Question h.0 h.1 h.2
-has_cells-none t (inr (inr (inr (inr (inr (inr (inr (inr (inr (inr (inr (inr (inr (inr (inr (inr (inl h))))))))))))))))) = ap has_cells h.3 ∙ has_cells-Element h.0 h.1 h.2
-has_cells-none t (inr (inr (inr (inr (inr (inr (inr (inr (inr (inr (inr (inr (inr (inr (inr (inr (inr (inl h)))))))))))))))))) = ap has_cells h.3 ∙ has_cells-Fields h.0 h.1 h.2
-has_cells-none t (inr (inr (inr (inr (inr (inr (inr (inr (inr (inr (inr (inr (inr (inr (inr (inr (inr (inr (inl h))))))))))))))))))) = ap has_cells h.2 ∙ has_cells-Record h.0 h.1
-has_cells-none t (inr (inr (inr (inr (inr (inr (inr (inr (inr (inr (inr (inr (inr (inr (inr (inr (inr (inr (inr (inl h)))))))))))))))))))) = ap has_cells h.2 ∙ has_cells-Listed h.0 h.1
-has_cells-none t (inr (inr (inr (inr (inr (inr (inr (inr (inr (inr (inr (inr (inr (inr (inr (inr (inr (inr (inr (inr h)))))))))))))))))))) = ap has_cells h.4 ∙ has_cells-Described h.0 h.1 h.2 h.3
-
-bare : (known : Known) (t u : Term) (wrong : BindFault) (axis : Axis) (axes : List Axis) (env : Environment) → t ≡ u → (written known u).cells wrong (axis ∷ axes) env ≡ Err wrong → (written known t).cells wrong (axis ∷ axes) env ≡ Err wrong
-bare known t u wrong axis axes env e h = subst (λ v. (written known v).cells wrong (axis ∷ axes) env ≡ Err wrong) (sym e) h
-
-pub cells-wrong : (known : Known) (t : Term) (wrong : BindFault) (axis : Axis) (axes : List Axis) (env : Environment) → IsNoArray t → (written known t).cells wrong (axis ∷ axes) env ≡ Err wrong
-cells-wrong known t wrong axis axes env (inl h) = bare known t (terms.Number h.0 h.1) wrong axis axes env h.2 (cells-Number known h.0 h.1 wrong axis axes env)
-cells-wrong known t wrong axis axes env (inr (inl h)) = bare known t (terms.Named h.0 h.1) wrong axis axes env h.2 (cells-Named known h.0 h.1 wrong axis axes env)
-cells-wrong known t wrong axis axes env (inr (inr (inl h))) = bare known t (terms.Bracket h.0 h.1) wrong axis axes env h.2 (cells-Bracket known h.0 h.1 wrong axis axes env)
-cells-wrong known t wrong axis axes env (inr (inr (inr (inl h)))) = bare known t (terms.Negative h.0 h.1) wrong axis axes env h.2 (cells-Negative known h.0 h.1 wrong axis axes env)
-cells-wrong known t wrong axis axes env (inr (inr (inr (inr (inl h))))) = bare known t (terms.Chain h.0 h.1 h.2) wrong axis axes env h.3 (cells-Chain known h.0 h.1 h.2 wrong axis axes env)
-cells-wrong known t wrong axis axes env (inr (inr (inr (inr (inr (inl h)))))) = bare known t (terms.Related h.0 h.1 h.2 h.3) wrong axis axes env h.4 (cells-Related known h.0 h.1 h.2 h.3 wrong axis axes env)
-cells-wrong known t wrong axis axes env (inr (inr (inr (inr (inr (inr (inl h))))))) = bare known t (terms.Member h.0 h.1 h.2) wrong axis axes env h.3 (cells-Member known h.0 h.1 h.2 wrong axis axes env)
-cells-wrong known t wrong axis axes env (inr (inr (inr (inr (inr (inr (inr (inl h)))))))) = bare known t (terms.Equivalent h.0 h.1) wrong axis axes env h.2 (cells-Equivalent known h.0 h.1 wrong axis axes env)
-cells-wrong known t wrong axis axes env (inr (inr (inr (inr (inr (inr (inr (inr (inl h))))))))) = bare known t (terms.Implied h.0 h.1 h.2) wrong axis axes env h.3 (cells-Implied known h.0 h.1 h.2 wrong axis axes env)
-cells-wrong known t wrong axis axes env (inr (inr (inr (inr (inr (inr (inr (inr (inr (inl h)))))))))) = bare known t (terms.Or h.0 h.1) wrong axis axes env h.2 (cells-Or known h.0 h.1 wrong axis axes env)
-cells-wrong known t wrong axis axes env (inr (inr (inr (inr (inr (inr (inr (inr (inr (inr (inl h))))))))))) = bare known t (terms.And h.0 h.1) wrong axis axes env h.2 (cells-And known h.0 h.1 wrong axis axes env)
-cells-wrong known t wrong axis axes env (inr (inr (inr (inr (inr (inr (inr (inr (inr (inr (inr (inl h)))))))))))) = bare known t (terms.Not h.0 h.1) wrong axis axes env h.2 (cells-Not known h.0 h.1 wrong axis axes env)
-cells-wrong known t wrong axis axes env (inr (inr (inr (inr (inr (inr (inr (inr (inr (inr (inr (inr (inl h))))))))))))) = bare known t (terms.Aggregate h.0 h.1 h.2 h.3 h.4) wrong axis axes env h.5 (cells-Aggregate known h.0 h.1 h.2 h.3 h.4 wrong axis axes env)
-cells-wrong known t wrong axis axes env (inr (inr (inr (inr (inr (inr (inr (inr (inr (inr (inr (inr (inr (inl h)))))))))))))) = bare known t (terms.Call h.0 h.1 h.2) wrong axis axes env h.3 (cells-Call known h.0 h.1 h.2 wrong axis axes env)
-cells-wrong known t wrong axis axes env (inr (inr (inr (inr (inr (inr (inr (inr (inr (inr (inr (inr (inr (inr (inl h))))))))))))))) = bare known t (terms.AllDifferent h.0 h.1) wrong axis axes env h.2 (cells-AllDifferent known h.0 h.1 wrong axis axes env)
-cells-wrong known t wrong axis axes env (inr (inr (inr (inr (inr (inr (inr (inr (inr (inr (inr (inr (inr (inr (inr (inl h)))))))))))))))) = bare known t (terms.Question h.0 h.1 h.2) wrong axis axes env h.3 (cells-Question known h.0 h.1 h.2 wrong axis axes env)
-cells-wrong known t wrong axis axes env (inr (inr (inr (inr (inr (inr (inr (inr (inr (inr (inr (inr (inr (inr (inr (inr (inl h))))))))))))))))) = bare known t (terms.Element h.0 h.1 h.2) wrong axis axes env h.3 (cells-Element known h.0 h.1 h.2 wrong axis axes env)
-cells-wrong known t wrong axis axes env (inr (inr (inr (inr (inr (inr (inr (inr (inr (inr (inr (inr (inr (inr (inr (inr (inr (inl h)))))))))))))))))) = bare known t (terms.Fields h.0 h.1 h.2) wrong axis axes env h.3 (cells-Fields known h.0 h.1 h.2 wrong axis axes env)
-cells-wrong known t wrong axis axes env (inr (inr (inr (inr (inr (inr (inr (inr (inr (inr (inr (inr (inr (inr (inr (inr (inr (inr (inl h))))))))))))))))))) = bare known t (terms.Record h.0 h.1) wrong axis axes env h.2 (cells-Record known h.0 h.1 wrong axis axes env)
-cells-wrong known t wrong axis axes env (inr (inr (inr (inr (inr (inr (inr (inr (inr (inr (inr (inr (inr (inr (inr (inr (inr (inr (inr (inl h)))))))))))))))))))) = bare known t (terms.Listed h.0 h.1) wrong axis axes env h.2 (cells-Listed known h.0 h.1 wrong axis axes env)
-cells-wrong known t wrong axis axes env (inr (inr (inr (inr (inr (inr (inr (inr (inr (inr (inr (inr (inr (inr (inr (inr (inr (inr (inr (inr h)))))))))))))))))))) = bare known t (terms.Described h.0 h.1 h.2 h.3) wrong axis axes env h.4 (cells-Described known h.0 h.1 h.2 h.3 wrong axis axes env)
+pub fit-whole-3 : (known : Known) (t : Term) (form : Form) (env : Environment) → IsWhole3 t → (written known t).fit form env ≡ whole known (first_token t) (meaning t) form env
+fit-whole-3 known t form env (inl h) = moved known t (terms.AllDifferent h.0 h.1) form env h.2 (fit-AllDifferent known h.0 h.1 form env)
+fit-whole-3 known t form env (inr (inl h)) = moved known t (terms.Question h.0 h.1 h.2) form env h.3 (fit-Question known h.0 h.1 h.2 form env)
+fit-whole-3 known t form env (inr (inr (inl h))) = moved known t (terms.Element h.0 h.1 h.2) form env h.3 (fit-Element known h.0 h.1 h.2 form env)
+fit-whole-3 known t form env (inr (inr (inr (inl h)))) = moved known t (terms.Fields h.0 h.1 h.2) form env h.3 (fit-Fields known h.0 h.1 h.2 form env)
+fit-whole-3 known t form env (inr (inr (inr (inr (inl h))))) = moved known t (terms.Described h.0 h.1 h.2 h.3) form env h.4 (fit-Described known h.0 h.1 h.2 h.3 form env)
+fit-whole-3 known t form env (inr (inr (inr (inr (inr (inl h)))))) = moved known t (terms.Array h.0 h.1) form env h.2 (fit-Array known h.0 h.1 form env)
+fit-whole-3 known t form env (inr (inr (inr (inr (inr (inr h)))))) = moved known t (terms.KeyedArray h.0 h.1 h.2) form env h.3 (fit-KeyedArray known h.0 h.1 h.2 form env)
 
 pub ruleset written_with_cells = (written-has_cells)

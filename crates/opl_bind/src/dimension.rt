@@ -74,8 +74,11 @@ fn axis_in(alloc: Global, environment: &Environment<'_>, t: &DimTree) -> Result<
     ensures axis { Gives axis_of (spec.axis_in (seen environment.now) t.now) result }
     ensures faults { IfErr result spec.IsOfEvaluation }
 {
-    let term = set_term(alloc, &t.set)?;
-    let (set, declaration) = set_of(alloc, environment, &term)?;
+    let found = {
+        let term = set_term(alloc, &t.set)?;
+        set_of(alloc, environment, &term)
+    };
+    let (set, declaration) = found?;
     index_set(alloc, &set, declaration)
 }
 

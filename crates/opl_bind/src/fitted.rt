@@ -90,21 +90,22 @@ pub(crate) fn fitted(
             }
             None => whole(alloc, types, scope, form, term),
         },
+        // one arm of all of these takes seconds to prove
         Term::Number(..)
         | Term::Named(..)
         | Term::Bracket(..)
         | Term::Negative(..)
         | Term::Chain(..)
         | Term::Related(..)
-        | Term::Member(..)
-        | Term::Equivalent(..)
+        | Term::Member(..) => whole(alloc, types, scope, form, term),
+        Term::Equivalent(..)
         | Term::Implied(..)
         | Term::Or(..)
         | Term::And(..)
         | Term::Not(..)
         | Term::Aggregate(..)
-        | Term::Call(..)
-        | Term::AllDifferent(..)
+        | Term::Call(..) => whole(alloc, types, scope, form, term),
+        Term::AllDifferent(..)
         | Term::Question(..)
         | Term::Element(..)
         | Term::Fields(..)

@@ -282,8 +282,7 @@ impl<'a> DataValues<'a> {
         ensures { Does (λ _. data_of self.new ≡ spec.with_value name.now value (data_of self.old)) result }
     {
         self.environment.declare(alloc, name, value, 0)?;
-        no_type(alloc, &mut self.types)?;
-        Ok(())
+        no_type(alloc, &mut self.types)
     }
 
     /// Adds the name of a range with its ends.
@@ -299,8 +298,7 @@ impl<'a> DataValues<'a> {
     {
         self.environment
             .declare(alloc, name, range_value(low, high), 0)?;
-        range_type(alloc, &mut self.types, name, low, high)?;
-        Ok(())
+        range_type(alloc, &mut self.types, name, low, high)
     }
 
     /// Adds the name of an enumeration with its names.
@@ -315,8 +313,7 @@ impl<'a> DataValues<'a> {
     {
         let declaration = self.types.number();
         add_texts(alloc, &mut self.environment, name, &names, declaration)?;
-        enumeration_type(alloc, &mut self.types, name, names)?;
-        Ok(())
+        enumeration_type(alloc, &mut self.types, name, names)
     }
 
     /// Adds a struct.
@@ -324,8 +321,7 @@ impl<'a> DataValues<'a> {
     fn add_struct(&mut self, alloc: Global, t: &'a StructTree) -> Result<(), BindFault>
         ensures { Does (λ _. data_of self.new ≡ spec.with_known (with_struct t.now (data_of self.old).known) (data_of self.old)) result }
     {
-        struct_type(alloc, &mut self.types, t)?;
-        Ok(())
+        struct_type(alloc, &mut self.types, t)
     }
 
     /// Adds a declaration that is no data.
@@ -333,8 +329,7 @@ impl<'a> DataValues<'a> {
     fn add_none(&mut self, alloc: Global) -> Result<(), BindFault>
         ensures { Does (λ _. data_of self.new ≡ spec.with_known (with_declaration [] [] (data_of self.old).known) (data_of self.old)) result }
     {
-        no_type(alloc, &mut self.types)?;
-        Ok(())
+        no_type(alloc, &mut self.types)
     }
 }
 
@@ -444,8 +439,7 @@ fn add_range<'a>(
 {
     let low = number_in(alloc, &before.environment, &t.low)?;
     let high = number_in(alloc, &before.environment, &t.high)?;
-    before.add_ends(alloc, t.name.text.as_slice(), &low, &high)?;
-    Ok(())
+    before.add_ends(alloc, t.name.text.as_slice(), &low, &high)
 }
 
 /// Adds what an item comes to.
@@ -459,8 +453,7 @@ fn add_item<'a>(
     ensures { Gives (λ _. data_of before.new) (then (spec.item_value (given_of given.now) overrides.now t.now (data_of before.old)) (λ v. Ok (spec.with_value t.now.name.text v (data_of before.old)))) result }
 {
     let value = item_value(alloc, given, overrides, before, t)?;
-    before.add_value(alloc, t.name.text.as_slice(), value)?;
-    Ok(())
+    before.add_value(alloc, t.name.text.as_slice(), value)
 }
 
 /// Adds what an enumeration comes to.
@@ -474,8 +467,7 @@ fn add_enumeration<'a>(
 {
     let names = enumeration_names(alloc, given, t)?;
     before.add_listed(alloc, &t.names, names.texts.as_slice())?;
-    before.add_names(alloc, t.name.text.as_slice(), names)?;
-    Ok(())
+    before.add_names(alloc, t.name.text.as_slice(), names)
 }
 
 /// Adds what one more declaration comes to.
@@ -517,6 +509,21 @@ fn add_decls<'a>(
     Ok(())
 }
 
+/// What is there before, with what all declarations come to.
+fn with_decls<'a>(
+    alloc: Global,
+    given: &Given<'a>,
+    overrides: &[Override],
+    ts: &'a [DeclTree],
+    before: DataValues<'a>,
+) -> Result<DataValues<'a>, BindFault>
+    ensures { Gives data_of (spec.with_decls (given_of given.now) overrides.now ts.now (data_of before.entry)) result }
+{
+    let mut all = before;
+    add_decls(alloc, given, overrides, ts, &mut all)?;
+    Ok(all)
+}
+
 /// Before any declaration. It takes no memory.
 fn no_data<'a>(alloc: Global, positions: Positions) -> DataValues<'a>
     ensures { data_of result ≡ spec.no_data (position_in positions) }
@@ -544,7 +551,5 @@ pub fn bind<'a>(
     ensures { Gives data_of (spec.bound (position_in positions) decls.now files.now overrides.now) result }
 {
     let given = all_given(alloc, decls, files)?;
-    let mut found = no_data(alloc, positions);
-    add_decls(alloc, &given, overrides, decls, &mut found)?;
-    Ok(found)
+    with_decls(alloc, &given, overrides, decls, no_data(alloc, positions))
 }

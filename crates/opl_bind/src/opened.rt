@@ -82,8 +82,7 @@ fn free_place(
     requires { length (arrays.values_of (axis_of axis.now)) < 2 ^ 64 }
     ensures { Binds (key_place (BindFault.Shape 0 opening.entry.at) (axis_of axis.now) (terms_at slots.now) (evaluated ((meaning key.now).value (names_in opening.entry.scope)))) result }
 {
-    let value = evaluated(alloc, opening.scope, key)?;
-    let place = place_of(axis, &value);
+    let place = place_of(axis, &evaluated(alloc, opening.scope, key)?);
     if !is_free(slots, place) {
         return Err(BindFault::Shape(0, opening.at));
     }
@@ -205,27 +204,27 @@ fn cells_over<'t>(
                 cells.as_slice(),
             )
         }
-        Term::Number(..)
-        | Term::Named(..)
-        | Term::Bracket(..)
-        | Term::Negative(..)
-        | Term::Chain(..)
-        | Term::Related(..)
-        | Term::Member(..)
-        | Term::Equivalent(..)
-        | Term::Implied(..)
-        | Term::Or(..)
-        | Term::And(..)
-        | Term::Not(..)
-        | Term::Aggregate(..)
-        | Term::Call(..)
-        | Term::AllDifferent(..)
-        | Term::Question(..)
-        | Term::Element(..)
-        | Term::Fields(..)
-        | Term::Record(..)
-        | Term::Listed(..)
-        | Term::Described(..) => Err(BindFault::Shape(0, opening.at)),
+        Term::Number(..) => Err(BindFault::Shape(0, opening.at)),
+        Term::Named(..) => Err(BindFault::Shape(0, opening.at)),
+        Term::Bracket(..) => Err(BindFault::Shape(0, opening.at)),
+        Term::Negative(..) => Err(BindFault::Shape(0, opening.at)),
+        Term::Chain(..) => Err(BindFault::Shape(0, opening.at)),
+        Term::Related(..) => Err(BindFault::Shape(0, opening.at)),
+        Term::Member(..) => Err(BindFault::Shape(0, opening.at)),
+        Term::Equivalent(..) => Err(BindFault::Shape(0, opening.at)),
+        Term::Implied(..) => Err(BindFault::Shape(0, opening.at)),
+        Term::Or(..) => Err(BindFault::Shape(0, opening.at)),
+        Term::And(..) => Err(BindFault::Shape(0, opening.at)),
+        Term::Not(..) => Err(BindFault::Shape(0, opening.at)),
+        Term::Aggregate(..) => Err(BindFault::Shape(0, opening.at)),
+        Term::Call(..) => Err(BindFault::Shape(0, opening.at)),
+        Term::AllDifferent(..) => Err(BindFault::Shape(0, opening.at)),
+        Term::Question(..) => Err(BindFault::Shape(0, opening.at)),
+        Term::Element(..) => Err(BindFault::Shape(0, opening.at)),
+        Term::Fields(..) => Err(BindFault::Shape(0, opening.at)),
+        Term::Record(..) => Err(BindFault::Shape(0, opening.at)),
+        Term::Listed(..) => Err(BindFault::Shape(0, opening.at)),
+        Term::Described(..) => Err(BindFault::Shape(0, opening.at)),
     }
 }
 

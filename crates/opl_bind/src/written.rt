@@ -43,28 +43,29 @@ fn has_cells(term: &Term) -> bool
     ensures { result ≡ spec.has_cells term.now }
 {
     match term {
-        Term::Array(..) | Term::KeyedArray(..) => true,
-        Term::Number(..)
-        | Term::Named(..)
-        | Term::Bracket(..)
-        | Term::Negative(..)
-        | Term::Chain(..)
-        | Term::Related(..)
-        | Term::Member(..)
-        | Term::Equivalent(..)
-        | Term::Implied(..)
-        | Term::Or(..)
-        | Term::And(..)
-        | Term::Not(..)
-        | Term::Aggregate(..)
-        | Term::Call(..)
-        | Term::AllDifferent(..)
-        | Term::Question(..)
-        | Term::Element(..)
-        | Term::Fields(..)
-        | Term::Record(..)
-        | Term::Listed(..)
-        | Term::Described(..) => false,
+        Term::Number(..) => false,
+        Term::Named(..) => false,
+        Term::Bracket(..) => false,
+        Term::Negative(..) => false,
+        Term::Chain(..) => false,
+        Term::Related(..) => false,
+        Term::Member(..) => false,
+        Term::Equivalent(..) => false,
+        Term::Implied(..) => false,
+        Term::Or(..) => false,
+        Term::And(..) => false,
+        Term::Not(..) => false,
+        Term::Aggregate(..) => false,
+        Term::Call(..) => false,
+        Term::AllDifferent(..) => false,
+        Term::Question(..) => false,
+        Term::Element(..) => false,
+        Term::Fields(..) => false,
+        Term::Record(..) => false,
+        Term::Listed(..) => false,
+        Term::Described(..) => false,
+        Term::Array(..) => true,
+        Term::KeyedArray(..) => true,
     }
 }
 

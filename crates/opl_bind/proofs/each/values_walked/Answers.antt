@@ -10,3 +10,6 @@ loop-cells-preserved c = grind (arith, common_steps)
 
 pub returns : goal.returns
 returns c = grind (arith, common_steps)
+
+pub returns-in_err-value : goal.returns-in_err-value
+returns-in_err-value c = grind (arith, common_steps)

@@ -10,3 +10,6 @@ loop-t-preserved c = grind (arith, common_steps)
 
 pub returns : goal.returns
 returns c = grind (arith, common_steps)
+
+pub returns-in_err-add_decl : goal.returns-in_err-add_decl
+returns-in_err-add_decl c = grind (arith, common_steps)

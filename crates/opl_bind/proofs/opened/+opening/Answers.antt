@@ -1,4 +1,4 @@
-use Rattle.std.proofs.Common.{◌+◌, ◌∷◌, [], Bor, Global, List, Ok, Option, Vec, ap, drop, length, map, rules, sym, ◌∙◌}
+use Rattle.std.proofs.Common.{◌+◌, ◌∷◌, [], Bor, Global, List, Ok, Option, Vec, ap, arith, drop, length, map, rules, sym, ◌∙◌}
 use Rattle.opl_term.specs.declared.term.Term.{Term}
 use Rattle.std.proofs.lemmas.List.{nil_from_length}
 use Rattle.std.specs.Prelude.{nat_eq}
@@ -11,7 +11,7 @@ use Rattle.opl_bind.specs.Scopes.{names_in}
 use Rattle.opl_bind.specs.Written as spec
 use Rattle.opl_bind.proofs.Answering.{gives_same}
 use Rattle.opl_bind.proofs.CellSlots.{free_slots-are, gives_mapped, keyed-found, laid-at, laid_cells-fault, laid_more, laid_place-fault}
-use Rattle.opl_bind.proofs.WrittenLayers.{cells-KeyedArray, cells-none, cells-wrong}
+use Rattle.opl_bind.proofs.WrittenLayers.{cells-KeyedArray, cells-none, no_cells}
 use Rattle.opl_bind.proofs.opened.+opening.Goals as goal
 
 pub cells_of-returns-in_ok-single-in-None : goal.cells_of-returns-in_ok-single-in-None
@@ -23,8 +23,67 @@ cells_of-returns-in_ok-single-in-None t c =
     ∙ cells-none known c.args.term.now wrong env ∙ ap (λ ts. Ok (fits known ts)) (sym c.in_ok-single-in-None.ensures)
 
 pub cells_over-returns-in-Number : goal.cells_over-returns-in-Number
-cells_over-returns-in-Number t c =
-    cells-wrong (known_of c.args.opening.types.now) c.args.term.now (Shape 0 c.args.opening.at) (axis_of c.args.axis.now) (map axis_of c.args.axes.now) (names_in c.args.opening.scope) c.in-Number.is
+cells_over-returns-in-Number t c = grind (arith, no_cells)
+
+pub cells_over-returns-in-Named : goal.cells_over-returns-in-Named
+cells_over-returns-in-Named t c = grind (arith, no_cells)
+
+pub cells_over-returns-in-Bracket : goal.cells_over-returns-in-Bracket
+cells_over-returns-in-Bracket t c = grind (arith, no_cells)
+
+pub cells_over-returns-in-Negative : goal.cells_over-returns-in-Negative
+cells_over-returns-in-Negative t c = grind (arith, no_cells)
+
+pub cells_over-returns-in-Chain : goal.cells_over-returns-in-Chain
+cells_over-returns-in-Chain t c = grind (arith, no_cells)
+
+pub cells_over-returns-in-Related : goal.cells_over-returns-in-Related
+cells_over-returns-in-Related t c = grind (arith, no_cells)
+
+pub cells_over-returns-in-Member : goal.cells_over-returns-in-Member
+cells_over-returns-in-Member t c = grind (arith, no_cells)
+
+pub cells_over-returns-in-Equivalent : goal.cells_over-returns-in-Equivalent
+cells_over-returns-in-Equivalent t c = grind (arith, no_cells)
+
+pub cells_over-returns-in-Implied : goal.cells_over-returns-in-Implied
+cells_over-returns-in-Implied t c = grind (arith, no_cells)
+
+pub cells_over-returns-in-Or : goal.cells_over-returns-in-Or
+cells_over-returns-in-Or t c = grind (arith, no_cells)
+
+pub cells_over-returns-in-And : goal.cells_over-returns-in-And
+cells_over-returns-in-And t c = grind (arith, no_cells)
+
+pub cells_over-returns-in-Not : goal.cells_over-returns-in-Not
+cells_over-returns-in-Not t c = grind (arith, no_cells)
+
+pub cells_over-returns-in-Aggregate : goal.cells_over-returns-in-Aggregate
+cells_over-returns-in-Aggregate t c = grind (arith, no_cells)
+
+pub cells_over-returns-in-Call : goal.cells_over-returns-in-Call
+cells_over-returns-in-Call t c = grind (arith, no_cells)
+
+pub cells_over-returns-in-AllDifferent : goal.cells_over-returns-in-AllDifferent
+cells_over-returns-in-AllDifferent t c = grind (arith, no_cells)
+
+pub cells_over-returns-in-Question : goal.cells_over-returns-in-Question
+cells_over-returns-in-Question t c = grind (arith, no_cells)
+
+pub cells_over-returns-in-Element : goal.cells_over-returns-in-Element
+cells_over-returns-in-Element t c = grind (arith, no_cells)
+
+pub cells_over-returns-in-Fields : goal.cells_over-returns-in-Fields
+cells_over-returns-in-Fields t c = grind (arith, no_cells)
+
+pub cells_over-returns-in-Record : goal.cells_over-returns-in-Record
+cells_over-returns-in-Record t c = grind (arith, no_cells)
+
+pub cells_over-returns-in-Listed : goal.cells_over-returns-in-Listed
+cells_over-returns-in-Listed t c = grind (arith, no_cells)
+
+pub cells_over-returns-in-Described : goal.cells_over-returns-in-Described
+cells_over-returns-in-Described t c = grind (arith, no_cells)
 
 pub cells_over-returns-in-KeyedArray : goal.cells_over-returns-in-KeyedArray
 cells_over-returns-in-KeyedArray t c =

@@ -10,3 +10,6 @@ loop-cell-preserved c = grind (arith, common_steps)
 
 pub returns : goal.returns
 returns c = grind (arith, common_steps)
+
+pub returns-in_err-fitted : goal.returns-in_err-fitted
+returns-in_err-fitted c = grind (arith, common_steps)

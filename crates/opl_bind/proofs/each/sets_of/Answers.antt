@@ -1,0 +1,12 @@
+use Rattle.std.proofs.Common.{arith}
+use Rattle.std.proofs.lemmas.Grind.{common_steps}
+use Rattle.opl_bind.proofs.each.sets_of.Goals as goal
+
+pub loop-axis-init : goal.loop-axis-init
+loop-axis-init c = grind (arith, common_steps)
+
+pub loop-axis-preserved : goal.loop-axis-preserved
+loop-axis-preserved c = grind (arith, common_steps)
+
+pub returns : goal.returns
+returns c = grind (arith, common_steps)

@@ -1,0 +1,9 @@
+use Rattle.std.proofs.Common.{arith}
+use Rattle.std.proofs.lemmas.Grind.{common_steps}
+use Rattle.opl_bind.proofs.key_names.add_name.Goals as goal
+
+pub returns-in_default : goal.returns-in_default
+returns-in_default c = grind (arith, common_steps)
+
+pub returns-in_ok-push : goal.returns-in_ok-push
+returns-in_ok-push c = grind (arith, common_steps)
