@@ -1,5 +1,6 @@
 pub mod SoundSteps
 pub mod Orders
+pub mod Mapped
 pub mod StatementForms
 pub mod Performed
 pub mod Leaves

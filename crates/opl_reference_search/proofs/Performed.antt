@@ -20,7 +20,7 @@ use Rattle.opl_steps.specs.Picked.{without, place_in}
 use Rattle.opl_choices.specs.Branches.{statement_in, element}
 use Rattle.opl_reference_search.specs.Tasks.{acts}
 use Rattle.opl_choices.specs.Branches.{AreSoundElements}
-use Rattle.opl_choices.proofs.ElementLists.{length_mapped, picked_at}
+use Rattle.opl_choices.proofs.ElementLists.{picked_at}
 use Rattle.opl_reference_search.proofs.SoundSteps.{elements_sound, taken_sound}
 use Rattle.opl_reference_search.proofs.StatementForms.{br, branch_is, statement_Post, statement_Block, statement_Try, statement_TryAll, statement_ForAll, statement_Select, statement_Once, statement_While, statement_If, statement_Generate, statement_Rank}
 
@@ -90,23 +90,20 @@ module _ (core : Core) where
         made_as _ _ (ap (statement_in core) e ∙ statement_Try core.tables core.resources ss)
         (ap choose (j ∙ ap (map (λ s. on P (act (statement_in core s) ∷ ts))) i ∙ sym (each_is P ss ts)))
 
-    pub all_made : {X : Type 0} (f : X → Arm Statement) (bs cs : List code.Branch) (od od2 : List X) (ws : List Way) → step ≡ S.TryAll bs → cs ≡ bs → map f od ≡ ordered C (length (taken C (map (element core) cs))) (taken C (map (element core) cs)) → od2 ≡ od → ws ≡ bodies_then P (map f od2) ts → choose ws ≡ performed C P n (statement_in core step) ts
-    all_made f bs cs od od2 ws e i l m o =
+    pub all_made : (bs cs : List code.Branch) → step ≡ S.TryAll bs → cs ≡ bs → choose (bodies_then P (ordered C (length (taken C (map (element core) cs))) (taken C (map (element core) cs))) ts) ≡ performed C P n (statement_in core step) ts
+    all_made bs cs e i =
         let ready = ap (λ as'. taken C (map (element core) as')) i ∙ ap (taken C) (sym (elements_is bs)) in
-        let order = l ∙ ap (λ as'. ordered C (length as') as') ready in
-        made_as _ _ (ap (statement_in core) e ∙ statement_TryAll core.tables core.resources bs)
-        (ap choose (o ∙ ap (λ as'. bodies_then P (map f as') ts) m ∙ ap (λ as'. bodies_then P as' ts) order))
+        made_as _ _ (ap (statement_in core) e ∙ statement_TryAll core.tables core.resources bs) (ap (λ as'. choose (bodies_then P (ordered C (length as') as') ts)) ready)
 
-    pub for_made : {X : Type 0} (f : X → Arm Statement) (bs cs : List code.Branch) (tk : List X) (w : Way) → step ≡ S.ForAll bs → cs ≡ bs → map f tk ≡ taken C (map (element core) cs) → w ≡ on P (elements (map f tk) ∷ ts) → go w ≡ performed C P n (statement_in core step) ts
-    for_made f bs cs tk w e i j k =
-        let ready = j ∙ ap (λ as'. taken C (map (element core) as')) i ∙ ap (taken C) (sym (elements_is bs)) in
-        made_as _ _ (ap (statement_in core) e ∙ statement_ForAll core.tables core.resources bs) (ap go (k ∙ ap (λ as'. on P (elements as' ∷ ts)) ready))
+    pub for_made : (bs cs : List code.Branch) → step ≡ S.ForAll bs → cs ≡ bs → go (on P (elements (taken C (map (element core) cs)) ∷ ts)) ≡ performed C P n (statement_in core step) ts
+    for_made bs cs e i =
+        let ready = ap (λ as'. taken C (map (element core) as')) i ∙ ap (taken C) (sym (elements_is bs)) in
+        made_as _ _ (ap (statement_in core) e ∙ statement_ForAll core.tables core.resources bs) (ap (λ as'. go (on P (elements as' ∷ ts))) ready)
 
-    pub select_made : {X : Type 0} (f : X → Arm Statement) (bs cs : List code.Branch) (tk tk2 : List X) (next : Next) → step ≡ S.Select bs → cs ≡ bs → map f tk ≡ taken C (map (element core) cs) → tk2 ≡ tk → next ≡ first_then C P (map f tk2) ts → next ≡ performed C P n (statement_in core step) ts
-    select_made f bs cs tk tk2 next e i j k l =
-        let ready = j ∙ ap (λ as'. taken C (map (element core) as')) i ∙ ap (taken C) (sym (elements_is bs)) in
-        made_as _ _ (ap (statement_in core) e ∙ statement_Select core.tables core.resources bs)
-        (l ∙ ap (λ as'. first_then C P (map f as') ts) k ∙ ap (λ as'. first_then C P as' ts) ready)
+    pub select_made : (bs cs : List code.Branch) → step ≡ S.Select bs → cs ≡ bs → first_then C P (taken C (map (element core) cs)) ts ≡ performed C P n (statement_in core step) ts
+    select_made bs cs e i =
+        let ready = ap (λ as'. taken C (map (element core) as')) i ∙ ap (taken C) (sym (elements_is bs)) in
+        made_as _ _ (ap (statement_in core) e ∙ statement_Select core.tables core.resources bs) (ap (λ as'. first_then C P as' ts) ready)
 
     pub once_made : (s t : Step) (us : List Task) → step ≡ S.Once s → t ≡ s → us ≡ ts → commit (statement_in core t) us ≡ performed C P n (statement_in core step) ts
     once_made s t us e i j =

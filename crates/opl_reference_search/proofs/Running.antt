@@ -82,6 +82,11 @@ unfolding steps.doing
 inner_end core end P b n C m e =
     ap (λ d. end_of (objective core) (core_sets core) (end_in d) P b n) e ∙ within_at (objective core) (core_sets core) (λ F Q c k. let o : Out = record { marks = Mark.leaf Q ∷ []; best = c; left = k; is_cut = false } in o) P b n C m
 
+-- with nothing left to do it is the end
+pub finished_run : (core : Core) (end : End) (ts : List Task) (P : List Fact) (b : Option ℤ) (n : ℕ) → doing core end ts P b n ≡ end_of (objective core) (core_sets core) (end_in end) P b n → (o : code.Outcome) → IsRun core o (doing core end [] P b n) n → IsRun core o (doing core end ts P b n) n
+unfolding steps.doing
+finished_run core end ts P b n e o r = run_as core o (doing core end [] P b n) (doing core end ts P b n) n r e
+
 -- ---- alternatives
 
 pub drop_here : {X : Type 0} (i : ℕ) (xs : List X) (x d : X) → i < length xs → x ≡ get_or xs i d → drop i xs ≡ x ∷ drop (i + 1) xs

@@ -1,5 +1,5 @@
 -- What comes next is sound.
-use Rattle.std.proofs.Common.{◌≡◌, ℕ, zero, suc, ◌+◌, ◌<◌, Bool, true, false, cond, List, [], ◌∷◌, ◌++◌, map, length, ℤ, arith}
+use Rattle.std.proofs.Common.{◌≡◌, ℕ, zero, suc, ◌<◌, Bool, true, false, cond, List, [], ◌∷◌, map, length, ℤ, arith}
 use Rattle.std.proofs.lemmas.List.Elements.{All-push}
 use Rattle.std.proofs.lemmas.List.{length-map}
 use Rattle.opl_trace.specs.Between.{values_between}
@@ -11,7 +11,7 @@ use Rattle.opl_expr.specs.Solutions.{declared}
 use Rattle.opl_expr.specs.Sound.{IsSoundFact}
 use Rattle.opl_trace.specs.Answers.{is_single, answered, is_met, is_decided, is_value, precedes, key_value}
 use Rattle.opl_trace.specs.Elements.{Arm, Picked, comes_first, pick, ordered, taken}
-use Rattle.opl_trace.specs.Statements.{Statement, Statements, Branch, Branches}
+use Rattle.opl_trace.specs.Statements.{Statement, Statements, Branches}
 use Rattle.opl_trace.specs.Statements.Statement.{post, block, try, try_all, for_all, select, once, while, decide, generate, rank}
 use Rattle.opl_trace.specs.Statements.Statements.{no_statements, more_statements}
 use Rattle.opl_trace.specs.Statements.Branch.{branch}

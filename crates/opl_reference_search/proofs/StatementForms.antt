@@ -1,5 +1,5 @@
 -- The plain data of each statement.
-use Rattle.std.proofs.Common.{◌≡◌, List, [], map, ℕ, ap, sym, ◌∙◌}
+use Rattle.std.proofs.Common.{◌≡◌, List, map, ℕ, ap, sym, ◌∙◌}
 use Rattle.opl_expr.specs.declared.forms.Cons.{Cons}
 use Rattle.opl_expr.specs.declared.search.Step.{Step}
 use Rattle.opl_expr.specs.declared.search.Step.TheVariants as S

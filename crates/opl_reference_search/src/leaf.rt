@@ -73,19 +73,21 @@ fn copy(alloc: Global, mark: &Mark) -> Result<Mark, OutOfMemory>
     }
 }
 
-/// Copies of marks, and then what follows them.
-pub fn behind(
-    alloc: Global,
-    core: &Core,
-    before: &[Mark],
-    next: Outcome,
-) -> Result<Outcome, OutOfMemory>
-    ensures { IfOk result (λ o. outcome core.now o ≡ behind (marks_in core.now before.now) (outcome core.now next)) }
+/// Equal marks.
+fn copied(alloc: Global, marks: &[Mark]) -> Result<Seq<Mark>, OutOfMemory>
+    ensures { IfOk result (λ ms. ms ≡ marks.now) }
 {
-    let mut first = Seq::new(alloc);
-    for mark in before {
-        first.push(copy(alloc, mark)?)?;
+    let mut copied = Seq::new(alloc);
+    for mark in marks {
+        copied.push(copy(alloc, mark)?)?;
     }
+    Ok(copied)
+}
+
+/// Marks, and then what follows them.
+fn followed_by(core: &Core, first: Seq<Mark>, next: Outcome) -> Result<Outcome, OutOfMemory>
+    ensures { IfOk result (λ o. outcome core.now o ≡ behind (marks_in core.now first) (outcome core.now next)) }
+{
     let Outcome {
         marks,
         best,
@@ -98,4 +100,17 @@ pub fn behind(
         left,
         is_cut,
     })
+}
+
+/// Copies of marks, and then what follows them.
+pub fn behind(
+    alloc: Global,
+    core: &Core,
+    before: &[Mark],
+    next: Outcome,
+) -> Result<Outcome, OutOfMemory>
+    ensures { IfOk result (λ o. outcome core.now o ≡ behind (marks_in core.now before.now) (outcome core.now next)) }
+{
+    let first = copied(alloc, before)?;
+    followed_by(core, first, next)
 }

@@ -122,8 +122,7 @@ fn commit<R: Ranges>(
             let before = &outcome.marks.as_slice()[..at];
             let more = left.saturating_sub(choices(search.core, before));
             let next = run(alloc, search, others, end, entered, best, more)?;
-            let outcome = behind(alloc, search.core, before, next)?;
-            Ok(outcome)
+            behind(alloc, search.core, before, next)
         }
     }
 }
@@ -151,40 +150,28 @@ pub fn run<R: Ranges>(
     };
     let _ = sets.vars();
     match next_step(alloc, search, &sets, tasks, posted, left)? {
-        Next::Finished => {
-            let outcome = finished(alloc, search, &sets, end, posted, best, left)?;
-            Ok(outcome)
-        }
+        Next::Finished => finished(alloc, search, &sets, end, posted, best, left),
         Next::Nothing => Ok(Outcome::nothing(alloc, search.core, best, left)),
         Next::Spent => Ok(Outcome::nothing(alloc, search.core, best, 0).with_cut()),
-        Next::Go(way) => {
-            let outcome = run(
-                alloc,
-                search,
-                way.tasks.as_slice(),
-                end,
-                way.posted.as_slice(),
-                best,
-                left,
-            )?;
-            Ok(outcome)
-        }
-        Next::Choose(ways) => {
-            let outcome = choose(alloc, search, ways.as_slice(), end, best, left)?;
-            Ok(outcome)
-        }
-        Next::Commit(step, others) => {
-            let outcome = commit(
-                alloc,
-                search,
-                step,
-                others.as_slice(),
-                end,
-                posted,
-                best,
-                left,
-            )?;
-            Ok(outcome)
-        }
+        Next::Go(way) => run(
+            alloc,
+            search,
+            way.tasks.as_slice(),
+            end,
+            way.posted.as_slice(),
+            best,
+            left,
+        ),
+        Next::Choose(ways) => choose(alloc, search, ways.as_slice(), end, best, left),
+        Next::Commit(step, others) => commit(
+            alloc,
+            search,
+            step,
+            others.as_slice(),
+            end,
+            posted,
+            best,
+            left,
+        ),
     }
 }

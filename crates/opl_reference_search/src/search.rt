@@ -1,16 +1,19 @@
 //! The marks of a whole search.
-ghost use Rattle.std.specs.Prelude.{◌≡◌, IfOk};
+ghost use Rattle.std.specs.Prelude.{◌≡◌, None, IfOk};
+ghost use Rattle.opl_expr.specs.Solutions.{base};
 ghost use Rattle.opl_trace.specs.Marks.{section, core_marks};
 ghost use Rattle.opl_trace.specs.SoundCores.{IsSoundCore};
-ghost use Rattle.opl_reference_labelling.specs.Outcomes.{marks_in};
-ghost use Rattle.opl_reference_search.specs.Tasks.{tasks_in};
+ghost use Rattle.opl_reference_labelling.specs.Outcomes.{marks_in, outcome};
+ghost use Rattle.opl_reference_search.specs.declared.task.End.TheVariants.{Whole};
+ghost use Rattle.opl_reference_search.specs.Sound.{AreSoundTasks};
+ghost use Rattle.opl_reference_search.specs.Tasks.{doing, tasks_in};
 ghost use Rattle.opl_reference_search.specs.Whole.{whole};
 
 use crate::run::run;
 use crate::task::{End, Task, one_before};
 use opl_expr::{Core, OutOfMemory};
 use opl_list::Seq;
-use opl_reference_labelling::{Mark, Ranges, Search, base, variables};
+use opl_reference_labelling::{Mark, Outcome, Ranges, Search, base, variables};
 use std::alloc::Global;
 
 /// What a search has to do: its section, unless default search is asked, and then a value for each variable.
@@ -29,11 +32,31 @@ fn whole<'a>(
     }
     match &core.search {
         None => Ok(labels),
-        Some(step) => {
-            let tasks = one_before(alloc, Task::Perform(step), labels.as_slice())?;
-            Ok(tasks)
-        }
+        Some(step) => one_before(alloc, Task::Perform(step), labels.as_slice()),
     }
+}
+
+/// What tasks make from the constraints of a core.
+fn made_of<R: Ranges>(
+    alloc: Global,
+    search: &Search<'_, R>,
+    tasks: &[Task<'_>],
+    budget: u64,
+) -> Result<Outcome, OutOfMemory>
+    requires core { IsSoundCore search.now.core.now }
+    requires tasks { AreSoundTasks search.now.core.now.sets (tasks_in search.now.core.now tasks.now) }
+    ensures { IfOk result (λ o. outcome search.now.core.now o ≡ doing search.now.core.now Whole (tasks_in search.now.core.now tasks.now) (base search.now.core.now) None budget) }
+{
+    let base = base(alloc, search.core)?;
+    run(
+        alloc,
+        search,
+        tasks,
+        End::Whole,
+        base.as_slice(),
+        None,
+        budget,
+    )
 }
 
 /// The marks of a core's search with `budget` choices: of its section and default labelling, or of default search alone where
@@ -50,17 +73,7 @@ pub fn marks<R: Ranges>(
 {
     let search = Search { ranges, core };
     let variables = variables(alloc, core.sets.len() as u32)?;
-    let base = base(alloc, core)?;
     let tasks = whole(alloc, core, default, variables.as_slice())?;
-    let outcome = run(
-        alloc,
-        &search,
-        tasks.as_slice(),
-        End::Whole,
-        base.as_slice(),
-        None,
-        budget,
-    )?;
-    let marks = outcome.into_marks(core)?;
-    Ok(marks)
+    let outcome = made_of(alloc, &search, tasks.as_slice(), budget)?;
+    outcome.into_marks(core)
 }

@@ -1,24 +1,32 @@
 use Rattle.std.proofs.Common.{◌≡◌, ◌<◌, ◌-◌, ◌+◌, [], take, drop, ap, sym, ◌∙◌, subst, arith, refl}
 use Rattle.std.specs.Prelude.{Some}
+use Rattle.std.proofs.lemmas.Result.{IfOk-weaker}
 use Rattle.opl_trace.specs.Marks.{objective}
 use Rattle.opl_trace.specs.Moments.{core_sets}
 use Rattle.opl_trace.specs.Run.{alternatives, behind, choices, first_leaf}
 use Rattle.opl_trace.specs.SoundCores.{facts_in, AreSound}
-use Rattle.opl_steps.specs.Steps.Next.{nothing, spent, go, choose, commit}
+use Rattle.opl_steps.specs.Steps.Next.{finished, nothing, spent, go, choose, commit}
 use Rattle.opl_steps.specs.Costs.{cost_tasks, cost_choice}
 use Rattle.opl_steps.proofs.Failed.{failed_tasks}
 use Rattle.opl_steps.proofs.Lessening.{tasks_less}
 use Rattle.opl_reference_labelling.specs.Outcomes.{marks_in, outcome, IsSoundOut}
-use Rattle.opl_reference_labelling.proofs.Labels.{IsUnderWay, below_at}
+use Rattle.opl_reference_labelling.proofs.Labels.{IsUnderWay, begun, done_way, below_at}
 use Rattle.opl_reference_search.specs.Made.{rests, once_then}
 use Rattle.opl_reference_search.specs.Sound.{AreSoundTasks, AreSoundWays}
 use Rattle.opl_reference_search.specs.Steps.{way_of, ways_in, next_of}
 use Rattle.opl_choices.specs.Branches.{statement_in}
 use Rattle.opl_reference_search.specs.Tasks.{end_in, doing, tasks_in}
-use Rattle.opl_reference_search.proofs.Running.{is_next, run_of, run_as, nothing_run, spent_run, drop_here, way_sound, chosen_less, choice_less, leaf_sound, entered_run, turn_cut, turn_next, turn_sound, turn_fewer}
+use Rattle.opl_reference_search.proofs.Running.{is_next, run_of, run_as, finished_run, nothing_run, spent_run, drop_here, drop_full, way_sound, chosen_less, choice_less, leaf_sound, entered_run, turn_cut, turn_next, turn_sound, turn_fewer}
 use Rattle.opl_reference_search.proofs.run.+running.Goals as goal
 
 -- ---- alternatives
+
+pub choose-loop-way-init : goal.choose-loop-way-init
+choose-loop-way-init g t c =
+    let core = c.args.search.now.core.now in
+    let e = c.nothing-made.ensures in
+    let l : c.nothing-made.result.left ≡ c.args.left = ap (λ o. o.left) e in
+    (begun core (rests core c.args.end (ways_in core c.args.ways.now)) [] c.args.best c.args.left (outcome core c.nothing-made.result) c.requires.best e, omega (arith, l))
 
 pub choose-run-requires : goal.choose-run-requires
 choose-run-requires g t c κs within =
@@ -83,6 +91,15 @@ choose-loop-way-preserved g t c =
       turn_fewer core end (ways_in core ways) (way_of core x) rest c.args.best c.args.left o p q way some c.loop-way.invariant.1 made c.in_ok-made.ensures r.fewer,
     )
 
+pub choose-returns : goal.choose-returns
+choose-returns g t c =
+    let core = c.args.search.now.core.now in
+    let ways = c.args.ways.now in
+    let all = rests core c.args.end (ways_in core ways) in
+    let o = outcome core c.loop-way.made in
+    let way = subst (λ ws. IsUnderWay core all (rests core c.args.end (ways_in core ws)) [] c.args.best c.args.left o) (drop_full c.loop-way.way-index ways (omega (arith, c.loop-way-test.false))) c.loop-way.invariant.0 in
+    run_of core c.loop-way.made o _ c.args.left refl (done_way core all [] c.args.best c.args.left o way) way.sound c.loop-way.invariant.1
+
 -- ---- once
 
 pub commit-run-requires-in-Some : goal.commit-run-requires-in-Some
@@ -100,12 +117,12 @@ commit-returns g t c =
     let at = c.in-Some.at in
     let Q = facts_in core c.in-Some.entered.now in
     let leaf = subst (λ ms. first_leaf (marks_in core ms) ≡ Some (record { before = marks_in core (take at ms); posted = Q })) c.as_slice-2.ensures c.in-Some.ensures.1 in
-    entered_run core c.args.end (statement_in core c.args.step.now) ts (facts_in core c.args.posted.now) c.args.best c.args.left
-    c.in_ok-outcome.outcome c.in_ok-next-in-Some.next c.in_ok-outcome-in-Some.outcome (tasks_in core c.as_slice.result.now) (marks_in core (take at c.in_ok-outcome.outcome.marks)) Q c.saturating_sub-more.result
+    IfOk-weaker c.behind.result _ _ (λ o k. entered_run core c.args.end (statement_in core c.args.step.now) ts (facts_in core c.args.posted.now) c.args.best c.args.left
+    c.in_ok-outcome.outcome c.in_ok-next-in-Some.next o (tasks_in core c.as_slice.result.now) (marks_in core (take at c.in_ok-outcome.outcome.marks)) Q c.saturating_sub-more.result
     (ap (tasks_in core) (c.as_slice.ensures ∙ c.in_ok-inner.ensures)) c.in_ok-outcome.ensures leaf
     (c.saturating_sub-more.ensures ∙ ap (λ k. c.args.left - k) (c.choices.ensures ∙ ap (λ ms. choices (marks_in core (take at ms))) c.as_slice-in-Some.ensures))
     c.in_ok-next-in-Some.ensures
-    (c.in_ok-outcome-in-Some.ensures ∙ ap (λ ms. behind (marks_in core (take at ms)) (outcome core c.in_ok-next-in-Some.next)) c.as_slice-in-Some.ensures)
+    (k ∙ ap (λ ms. behind (marks_in core (take at ms)) (outcome core c.in_ok-next-in-Some.next)) c.as_slice-in-Some.ensures)) c.behind.ensures
 
 -- ---- tasks
 
@@ -119,6 +136,13 @@ pub run-next_step-requires-clause-within : goal.run-next_step-requires-clause-wi
 run-next_step-requires-clause-within g t c =
     let core = c.args.search.now.core.now in
     below_at core (facts_in core c.args.posted.now) c.args.best c.in-Some.sets (sym c.in_ok-sets.ensures ∙ c.in-Some.is)
+
+pub run-returns-in-Finished : goal.run-returns-in-Finished
+run-returns-in-Finished g t c =
+    let core = c.args.search.now.core.now in
+    let P = facts_in core c.args.posted.now in
+    let k = is_next core c.args.end (tasks_in core c.args.tasks.now) P c.args.best c.args.left c.in-Some.sets finished c.requires.core c.vars.ensures.sets c.requires.posted c.requires.tasks (sym c.in_ok-sets.ensures ∙ c.in-Some.is) (sym (ap (next_of core) c.in-Finished.is) ∙ c.in_ok-next_step.ensures) in
+    IfOk-weaker c.finished.result _ _ (finished_run core c.args.end (tasks_in core c.args.tasks.now) P c.args.best c.args.left k.means) c.finished.ensures
 
 pub run-returns-in-Nothing : goal.run-returns-in-Nothing
 run-returns-in-Nothing g t c =
@@ -159,9 +183,9 @@ run-returns-in-Go g t c =
     let core = c.args.search.now.core.now in
     let P = facts_in core c.args.posted.now in
     let k = is_next core c.args.end (tasks_in core c.args.tasks.now) P c.args.best c.args.left c.in-Some.sets (go (way_of core c.in-Go.way)) c.requires.core c.vars.ensures.sets c.requires.posted c.requires.tasks (sym c.in_ok-sets.ensures ∙ c.in-Some.is) (sym (ap (next_of core) c.in-Go.is) ∙ c.in_ok-next_step.ensures) in
-    run_as core _ _ _ c.args.left c.in_ok-outcome-in-Go.ensures
+    IfOk-weaker c.run.result _ _ (λ o r. run_as core o _ _ c.args.left r
     (k.means ∙ ap (λ us. doing core c.args.end (tasks_in core us) (facts_in core c.in-Go.way.posted) c.args.best c.args.left) (sym c.as_slice.ensures)
-    ∙ ap (λ cs. doing core c.args.end (tasks_in core c.as_slice.result.now) (facts_in core cs) c.args.best c.args.left) (sym c.as_slice-in-Go.ensures))
+    ∙ ap (λ cs. doing core c.args.end (tasks_in core c.as_slice.result.now) (facts_in core cs) c.args.best c.args.left) (sym c.as_slice-in-Go.ensures))) c.run.ensures
 
 pub run-choose-requires : goal.run-choose-requires
 run-choose-requires g t c κs within =
@@ -177,8 +201,21 @@ run-returns-in-Choose g t c =
     let core = c.args.search.now.core.now in
     let P = facts_in core c.args.posted.now in
     let k = is_next core c.args.end (tasks_in core c.args.tasks.now) P c.args.best c.args.left c.in-Some.sets (choose (ways_in core c.in-Choose.ways)) c.requires.core c.vars.ensures.sets c.requires.posted c.requires.tasks (sym c.in_ok-sets.ensures ∙ c.in-Some.is) (sym (ap (next_of core) c.in-Choose.is) ∙ c.in_ok-next_step.ensures) in
-    run_as core _ _ _ c.args.left c.in_ok-outcome-in-Choose.ensures
-    (k.means ∙ ap (λ ws. alternatives (rests core c.args.end (ways_in core ws)) [] c.args.best c.args.left) (sym c.as_slice-in-Choose.ensures))
+    IfOk-weaker c.choose.result _ _ (λ o r. run_as core o _ _ c.args.left r
+    (k.means ∙ ap (λ ws. alternatives (rests core c.args.end (ways_in core ws)) [] c.args.best c.args.left) (sym c.as_slice-in-Choose.ensures))) c.choose.ensures
+
+pub run-commit-requires : goal.run-commit-requires
+run-commit-requires g t c κs within =
+    let core = c.args.search.now.core.now in
+    let P = facts_in core c.args.posted.now in
+    let s = statement_in core c.in-Commit.step.now in
+    let k = is_next core c.args.end (tasks_in core c.args.tasks.now) P c.args.best c.args.left c.in-Some.sets (commit s (tasks_in core c.in-Commit.others)) c.requires.core c.vars.ensures.sets c.requires.posted c.requires.tasks (sym c.in_ok-sets.ensures ∙ c.in-Some.is) (sym (ap (next_of core) c.in-Commit.is) ∙ c.in_ok-next_step.ensures) in
+    let e = ap (λ us. cost_tasks (tasks_in core us) c.args.left) c.as_slice-in-Commit.ensures in
+    let l = k.less.0 in
+    let m = k.less.1 in (
+      omega (arith, l, m, e, c.decreases),
+      (within, (c.requires.core, (k.sound.0, (subst (λ us. AreSoundTasks core.sets (tasks_in core us)) (sym c.as_slice-in-Commit.ensures) k.sound.1, (c.requires.posted, c.requires.best))))),
+    )
 
 pub run-returns : goal.run-returns
 run-returns g t c =
@@ -186,5 +223,5 @@ run-returns g t c =
     let P = facts_in core c.args.posted.now in
     let s = statement_in core c.in-Commit.step.now in
     let k = is_next core c.args.end (tasks_in core c.args.tasks.now) P c.args.best c.args.left c.in-Some.sets (commit s (tasks_in core c.in-Commit.others)) c.requires.core c.vars.ensures.sets c.requires.posted c.requires.tasks (sym c.in_ok-sets.ensures ∙ c.in-Some.is) (sym (ap (next_of core) c.in-Commit.is) ∙ c.in_ok-next_step.ensures) in
-    run_as core _ _ _ c.args.left c.in_ok-outcome-in-Commit.ensures
-    (k.means ∙ ap (λ us. once_then core c.args.end s (tasks_in core us) P c.args.best c.args.left) (sym c.as_slice-in-Commit.ensures))
+    IfOk-weaker c.commit.result _ _ (λ o r. run_as core o _ _ c.args.left r
+    (k.means ∙ ap (λ us. once_then core c.args.end s (tasks_in core us) P c.args.best c.args.left) (sym c.as_slice-in-Commit.ensures))) c.commit.ensures

@@ -1,5 +1,4 @@
-use Rattle.std.proofs.Common.{◌≡◌, ◌∷◌, [], ◌++◌, map, take}
-use Rattle.opl_trace.specs.Answers.{is_value}
+use Rattle.std.proofs.Common.{◌≡◌, ◌∷◌, map, take}
 use Rattle.opl_trace.specs.SoundCores.{facts_in}
 use Rattle.opl_steps.specs.Tasks.Task.{values}
 use Rattle.opl_steps.specs.Steps.{on_value}

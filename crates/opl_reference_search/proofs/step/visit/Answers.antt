@@ -1,5 +1,5 @@
-use Rattle.std.specs.Prelude.{slice_index_or}
-use Rattle.std.proofs.Common.{refl, ◌<◌, ◌∷◌, length, map, ap, ◌∙◌, arith}
+use Rattle.std.proofs.Common.{◌<◌, ◌∷◌, length, map, ap, ◌∙◌, arith}
+use Rattle.std.proofs.lemmas.Result.{IfOk-weaker}
 use Rattle.opl_trace.specs.SoundCores.{facts_in}
 use Rattle.opl_steps.specs.Tasks.Task.{act, elements}
 use Rattle.opl_steps.specs.Steps.{on}
@@ -13,7 +13,7 @@ returns g c =
     let core = c.args.search.now.core.now in
     let P = facts_in core c.args.posted.now in
     let some : 0 < length c.args.elements.now = grind (arith, c.if-is_empty.false, c.if-is_empty.ensures) in
-    visit_made c.args.sets.now (λ e. element core e.now) P c.args.elements.now (tasks_in core c.args.others.now) c.in_ok-at.at (slice_index_or c.args.elements.now c.in_ok-at.at c.index-elements-at.result) c.index-elements-at.result _
-    c.in_ok-at.ensures.place (c.in_ok-at.ensures.there some) refl
-    (c.in_ok-way.ensures ∙ ap (λ us. on P (act (statement_in core (slice_index_or c.args.elements.now c.in_ok-at.at c.index-elements-at.result).now.body) ∷ tasks_in core us)) (c.as_slice.ensures ∙ c.in_ok-rest.ensures)
-    ∙ ap (λ es. on P (act (statement_in core (slice_index_or c.args.elements.now c.in_ok-at.at c.index-elements-at.result).now.body) ∷ elements (map (λ e. element core e.now) es) ∷ tasks_in core c.args.others.now)) c.in_ok-left.ensures)
+    let first = c.index-elements-at.result in
+    IfOk-weaker c.visit_one.result _ _ (λ n k. k ∙ visit_made c.args.sets.now (λ e. element core e.now) P c.args.elements.now (tasks_in core c.args.others.now) c.in_ok-at.at first first _
+    c.in_ok-at.ensures.place (c.in_ok-at.ensures.there some) c.index-elements-at.is
+    (ap (λ es. on P (act (statement_in core first.now.body) ∷ elements (map (λ e. element core e.now) es) ∷ tasks_in core c.args.others.now)) c.in_ok-left.ensures)) c.visit_one.ensures
