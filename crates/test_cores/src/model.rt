@@ -6,9 +6,9 @@
 //! `resource CAPACITY FROM TO : DEMAND START DURATION / ..` a resource with its uses.
 use crate::reader::{constraint, expression, variable};
 use crate::section::section;
-use opl_expr::{Cell, Cons, Core, Goal, OutOfMemory, Resource, Step, Table, Use};
-use opl_list::{Boxed, Seq};
-use std::alloc::Global;
+use opl_expr::{Cell, Cons, Core, Goal, Resource, Step, Table, Use};
+use opl_list::Seq;
+use std::alloc::{AllocError, Global};
 
 /// The parts of a model that were read. The last objective and the last section count.
 #[derive(Drop)]
@@ -19,8 +19,8 @@ pub struct Parts {
     tables: Seq<Table>,
     resources: Seq<Resource>,
     cons: Seq<Cons>,
-    goals: Vec<Goal>,
-    sections: Vec<Step>,
+    goals: Seq<Goal>,
+    sections: Seq<Step>,
 }
 
 /// A number that is written, or 0 where none is.
@@ -28,27 +28,29 @@ pub fn number(text: &str) -> i64 {
     text.parse::<i64>().unwrap_or(0)
 }
 
-/// The cell that a word stands for: the variable of a letter, or a number.
-fn cell(word: &str) -> Cell {
+/// What stands before and behind a sign; the whole text, where the sign is not there.
+pub fn halves<'t>(text: &'t str, sign: &str) -> (&'t str, &'t str) {
+    text.split_once(sign).unwrap_or((text, ""))
+}
+
+/// The variable of a word, if it is a letter of one.
+fn variable_of(word: &str) -> Option<u32> {
     match word.as_bytes() {
-        [letter] => match variable(*letter) {
-            Some(x) => Cell::Var(x),
-            None => Cell::Const(number(word) as i128),
-        },
-        _ => Cell::Const(number(word) as i128),
+        [letter] => variable(*letter),
+        _ => None,
     }
 }
 
-/// The variable of a word.
-fn variable_of(word: &str) -> u32 {
-    match word.as_bytes() {
-        [letter] => variable(*letter).unwrap_or(0),
-        _ => 0,
+/// The cell that a word stands for: the variable of a letter, or a number.
+fn cell(word: &str) -> Cell {
+    match variable_of(word) {
+        Some(x) => Cell::Var(x),
+        None => Cell::Const(number(word) as i128),
     }
 }
 
 /// The numbers of a text.
-fn numbers(alloc: Global, text: &str) -> Result<Seq<i128>, OutOfMemory> {
+fn numbers(alloc: Global, text: &str) -> Result<Seq<i128>, AllocError> {
     let mut numbers = Seq::new(alloc);
     for word in text.split_whitespace() {
         numbers.push(number(word) as i128)?;
@@ -56,17 +58,25 @@ fn numbers(alloc: Global, text: &str) -> Result<Seq<i128>, OutOfMemory> {
     Ok(numbers)
 }
 
+/// Adds what was read to a list.
+fn add<T: Drop>(list: &mut Seq<T>, read: Result<T, AllocError>) -> Result<(), AllocError> {
+    match read {
+        Err(e) => Err(e),
+        Ok(item) => list.push(item),
+    }
+}
+
 /// The indices of each dimension.
-fn dimensions(alloc: Global, text: &str) -> Result<Seq<Seq<i128>>, OutOfMemory> {
+fn dimensions(alloc: Global, text: &str) -> Result<Seq<Seq<i128>>, AllocError> {
     let mut dims = Seq::new(alloc);
     for indices in text.split(" / ") {
-        dims.push(numbers(alloc, indices)?)?;
+        add(&mut dims, numbers(alloc, indices))?;
     }
     Ok(dims)
 }
 
 /// The cells of a text.
-fn cells(alloc: Global, text: &str) -> Result<Seq<Cell>, OutOfMemory> {
+fn cells(alloc: Global, text: &str) -> Result<Seq<Cell>, AllocError> {
     let mut cells = Seq::new(alloc);
     for word in text.split_whitespace() {
         cells.push(cell(word))?;
@@ -76,17 +86,17 @@ fn cells(alloc: Global, text: &str) -> Result<Seq<Cell>, OutOfMemory> {
 
 /// The use of a text.
 fn one_use(text: &str) -> Use {
-    let (demand, variables) = text.split_once(" ").unwrap_or((text, ""));
-    let (start, duration) = variables.split_once(" ").unwrap_or((variables, ""));
+    let (demand, variables) = halves(text, " ");
+    let (start, duration) = halves(variables, " ");
     Use {
         demand: number(demand) as i128,
-        start: variable_of(start),
-        duration: variable_of(duration),
+        start: variable_of(start).unwrap_or(0),
+        duration: variable_of(duration).unwrap_or(0),
     }
 }
 
 /// The uses of a text.
-fn uses(alloc: Global, text: &str) -> Result<Seq<Use>, OutOfMemory> {
+fn uses(alloc: Global, text: &str) -> Result<Seq<Use>, AllocError> {
     let mut uses = Seq::new(alloc);
     for written in text.split(" / ") {
         uses.push(one_use(written))?;
@@ -104,93 +114,105 @@ impl Parts {
             tables: Seq::new(alloc),
             resources: Seq::new(alloc),
             cons: Seq::new(alloc),
-            goals: Vec::new(alloc),
-            sections: Vec::new(alloc),
+            goals: Seq::new(alloc),
+            sections: Seq::new(alloc),
         }
     }
 
-    fn name(&mut self) -> Result<(), OutOfMemory> {
-        self.names.push(Seq::new(self.alloc))?;
-        Ok(())
+    fn name(&mut self) -> Result<(), AllocError> {
+        self.names.push(Seq::new(self.alloc))
     }
 
-    fn set(&mut self, text: &str) -> Result<(), OutOfMemory> {
-        let (low, high) = text.split_once(" ").unwrap_or((text, ""));
+    fn set(&mut self, text: &str) -> Result<(), AllocError> {
+        let (low, high) = halves(text, " ");
         self.sets.push((number(low), number(high)))?;
         self.name()
     }
 
-    fn sets(&mut self, text: &str) -> Result<(), OutOfMemory> {
-        let (count, ends) = text.split_once(" ").unwrap_or((text, ""));
+    fn sets(&mut self, text: &str) -> Result<(), AllocError> {
+        let (count, ends) = halves(text, " ");
         for _ in 0..number(count) {
             self.set(ends)?;
         }
         Ok(())
     }
 
-    fn table(&mut self, text: &str) -> Result<(), OutOfMemory> {
-        let (indices, written) = text.split_once(" : ").unwrap_or((text, ""));
-        let dims = dimensions(self.alloc, indices)?;
-        let cells = cells(self.alloc, written)?;
-        self.tables.push(Table {
-            name: Seq::new(self.alloc),
-            dims,
-            cells,
-        })?;
-        Ok(())
-    }
-
-    fn resource(&mut self, text: &str) -> Result<(), OutOfMemory> {
-        let (limits, written) = text.split_once(" : ").unwrap_or((text, ""));
-        let (capacity, times) = limits.split_once(" ").unwrap_or((limits, ""));
-        let (from, to) = times.split_once(" ").unwrap_or((times, ""));
-        let uses = uses(self.alloc, written)?;
-        self.resources.push(Resource {
-            name: Seq::new(self.alloc),
-            capacity: number(capacity) as i128,
-            from: number(from),
-            to: number(to),
-            uses,
-        })?;
-        Ok(())
-    }
-
-    fn constraint(&mut self, text: &str) -> Result<(), OutOfMemory> {
-        if let Some(c) = constraint(self.alloc, text)? {
-            self.cons.push(c.into_inner())?;
+    /// A table with these dimensions, whose cells are still to be read.
+    fn add_table(&mut self, dims: Seq<Seq<i128>>, written: &str) -> Result<(), AllocError> {
+        match cells(self.alloc, written) {
+            Err(e) => Err(e),
+            Ok(cells) => self.tables.push(Table {
+                name: Seq::new(self.alloc),
+                dims,
+                cells,
+            }),
         }
-        Ok(())
     }
 
-    fn goal(&mut self, maximize: bool, text: &str) -> Result<(), OutOfMemory> {
-        if let Some(value) = expression(self.alloc, text)? {
-            self.goals.push(Goal {
+    fn table(&mut self, text: &str) -> Result<(), AllocError> {
+        let (indices, written) = halves(text, " : ");
+        match dimensions(self.alloc, indices) {
+            Err(e) => Err(e),
+            Ok(dims) => self.add_table(dims, written),
+        }
+    }
+
+    fn resource(&mut self, text: &str) -> Result<(), AllocError> {
+        let (limits, written) = halves(text, " : ");
+        let (capacity, times) = halves(limits, " ");
+        let (from, to) = halves(times, " ");
+        match uses(self.alloc, written) {
+            Err(e) => Err(e),
+            Ok(uses) => self.resources.push(Resource {
+                name: Seq::new(self.alloc),
+                capacity: number(capacity) as i128,
+                from: number(from),
+                to: number(to),
+                uses,
+            }),
+        }
+    }
+
+    fn constraint(&mut self, text: &str) -> Result<(), AllocError> {
+        match constraint(self.alloc, text) {
+            Err(e) => Err(e),
+            Ok(None) => Ok(()),
+            Ok(Some(c)) => self.cons.push(c.into_inner()),
+        }
+    }
+
+    fn goal(&mut self, maximize: bool, text: &str) -> Result<(), AllocError> {
+        match expression(self.alloc, text) {
+            Err(e) => Err(e),
+            Ok(None) => Ok(()),
+            Ok(Some(value)) => self.goals.push(Goal {
                 maximize,
                 value: value.into_inner(),
-            })?;
+            }),
         }
-        Ok(())
     }
 
-    fn section(&mut self, text: &str) -> Result<(), OutOfMemory> {
-        if let Some(step) = section(self.alloc, text)? {
-            self.sections.push(step.into_inner())?;
+    fn section(&mut self, text: &str) -> Result<(), AllocError> {
+        match section(self.alloc, text) {
+            Err(e) => Err(e),
+            Ok(None) => Ok(()),
+            Ok(Some(step)) => self.sections.push(step.into_inner()),
         }
-        Ok(())
     }
 
     /// Reads a line. One that is no part of a model tells nothing.
-    pub fn read(&mut self, line: &str) -> Result<(), OutOfMemory> {
-        match line.split_once(" ") {
-            Some(("name", _text)) => self.name(),
-            Some(("set", text)) => self.set(text),
-            Some(("sets", text)) => self.sets(text),
-            Some(("table", text)) => self.table(text),
-            Some(("resource", text)) => self.resource(text),
-            Some(("constraint", text)) => self.constraint(text),
-            Some(("least", text)) => self.goal(false, text),
-            Some(("greatest", text)) => self.goal(true, text),
-            Some(("search", text)) => self.section(text),
+    pub fn read(&mut self, line: &str) -> Result<(), AllocError> {
+        let (word, text) = line.split_once(" ").unwrap_or(("", ""));
+        match word {
+            "name" => self.name(),
+            "set" => self.set(text),
+            "sets" => self.sets(text),
+            "table" => self.table(text),
+            "resource" => self.resource(text),
+            "constraint" => self.constraint(text),
+            "least" => self.goal(false, text),
+            "greatest" => self.goal(true, text),
+            "search" => self.section(text),
             _ => Ok(()),
         }
     }
@@ -207,8 +229,8 @@ impl Parts {
             goals,
             sections,
         } = self;
-        let mut goals = goals;
-        let mut sections = sections;
+        let mut goals = goals.into_vec();
+        let mut sections = sections.into_vec();
         Core {
             names,
             sets,

@@ -8,9 +8,9 @@
 //! `O` all or some of so many constraints hold. `r` and `q` are the cells of the tables 0 and 1 at one and at two
 //! subscripts, `k` the capacity of resource 0 at the time that is its operand. `n`, `L` and `G` ask for the number of
 //! values, the least and the greatest one of the variable before them, `B` whether it has one value.
-use opl_expr::{Ask, Cons, Expr, Op, OutOfMemory};
+use opl_expr::{Ask, Cons, Expr, Op};
 use opl_list::{Boxed, Seq};
-use std::alloc::Global;
+use std::alloc::{AllocError, Global};
 
 /// What is read and isn't yet a part of another form.
 #[derive(Drop)]
@@ -18,6 +18,49 @@ struct Reader {
     alloc: Global,
     terms: Vec<Boxed<Expr>>,
     facts: Vec<Boxed<Cons>>,
+}
+
+/// Puts a form on a stack; false where there is none.
+pub fn keep<T: Drop>(
+    alloc: Global,
+    stack: &mut Vec<Boxed<T>>,
+    form: Option<T>,
+) -> Result<bool, AllocError> {
+    match form {
+        None => Ok(false),
+        Some(form) => {
+            stack.push(Boxed::new(alloc, form)?)?;
+            Ok(true)
+        }
+    }
+}
+
+/// The last two of a stack.
+pub fn two<T: Drop>(stack: &mut Vec<Boxed<T>>) -> Option<(Boxed<T>, Boxed<T>)> {
+    match (stack.pop(), stack.pop()) {
+        (Some(second), Some(first)) => Some((first, second)),
+        _ => None,
+    }
+}
+
+/// So many of a stack, the last ones; none where no number is told, or there are fewer.
+pub fn last<T: Drop>(
+    alloc: Global,
+    stack: &mut Vec<Boxed<T>>,
+    count: Option<i128>,
+) -> Result<Option<Seq<T>>, AllocError> {
+    let Some(count) = count else {
+        return Ok(None);
+    };
+    let mut parts = Vec::new(alloc);
+    for _ in 0..count {
+        match stack.pop() {
+            None => return Ok(None),
+            Some(part) => parts.push(part.into_inner())?,
+        }
+    }
+    parts.reverse();
+    Ok(Some(Seq::from_vec(parts)))
 }
 
 /// The variable of a letter.
@@ -33,310 +76,228 @@ pub fn variable(sign: u8) -> Option<u32> {
     }
 }
 
-/// The number that an expression is.
-fn count(e: &Expr) -> Option<i128> {
-    match e {
-        Expr::Const(k) => Some(*k),
+/// The comparison that a sign stands for.
+fn comparison(sign: u8) -> Option<Op> {
+    match sign {
+        b'=' => Some(Op::Eq),
+        b'!' => Some(Op::Ne),
+        b'<' => Some(Op::Lt),
+        b'l' => Some(Op::Le),
+        b'>' => Some(Op::Gt),
+        b'g' => Some(Op::Ge),
         _ => None,
     }
 }
 
-/// The variable that an expression is.
-fn named(e: &Expr) -> Option<u32> {
-    match e {
-        Expr::Var(x) => Some(*x),
-        _ => None,
+/// The product, the quotient or the remainder of two expressions.
+fn of_two(sign: u8, first: Boxed<Expr>, second: Boxed<Expr>) -> Expr {
+    match sign {
+        b'*' => Expr::Mul(first, second),
+        b'/' => Expr::Div(first, second),
+        _ => Expr::Rem(first, second),
+    }
+}
+
+/// An expression of several, or of subscripts.
+fn of_several(sign: u8, parts: Seq<Expr>) -> Expr {
+    match sign {
+        b'm' => Expr::Min(parts),
+        b'M' => Expr::Max(parts),
+        b'r' => Expr::At(0, parts),
+        b'q' => Expr::At(1, parts),
+        _ => Expr::Sum(parts),
+    }
+}
+
+/// The question that a sign asks of a variable.
+fn question(sign: u8, x: u32) -> Expr {
+    match sign {
+        b'n' => Expr::Ask(Ask::Size, x),
+        b'L' => Expr::Ask(Ask::Least, x),
+        _ => Expr::Ask(Ask::Greatest, x),
     }
 }
 
 impl Reader {
-    fn term(&mut self, e: Expr) -> Result<bool, OutOfMemory> {
-        self.terms.push(Boxed::new(self.alloc, e)?)?;
-        Ok(true)
-    }
-
-    fn fact(&mut self, c: Cons) -> Result<bool, OutOfMemory> {
-        self.facts.push(Boxed::new(self.alloc, c)?)?;
-        Ok(true)
-    }
-
-    /// The last two expressions.
-    fn two_terms(&mut self) -> Option<(Boxed<Expr>, Boxed<Expr>)> {
-        let second = self.terms.pop()?;
-        let first = self.terms.pop()?;
-        Some((first, second))
-    }
-
-    /// The last two constraints.
-    fn two_facts(&mut self) -> Option<(Boxed<Cons>, Boxed<Cons>)> {
-        let second = self.facts.pop()?;
-        let first = self.facts.pop()?;
-        Some((first, second))
+    /// Nothing is read.
+    fn new(alloc: Global) -> Reader {
+        Reader {
+            alloc,
+            terms: Vec::new(alloc),
+            facts: Vec::new(alloc),
+        }
     }
 
     /// The number that was read last.
     fn count(&mut self) -> Option<i128> {
-        let last = self.terms.pop()?;
-        count(last.get())
+        match self.terms.pop() {
+            None => None,
+            Some(last) => match last.get() {
+                Expr::Const(k) => Some(*k),
+                _ => None,
+            },
+        }
     }
 
     /// The variable that was read last.
     fn named(&mut self) -> Option<u32> {
-        let last = self.terms.pop()?;
-        named(last.get())
-    }
-
-    /// So many expressions, the last ones.
-    fn last_terms(&mut self, count: i128) -> Result<Option<Seq<Expr>>, OutOfMemory> {
-        let mut parts = Vec::new(self.alloc);
-        for _ in 0..count {
-            match self.terms.pop() {
-                None => return Ok(None),
-                Some(part) => parts.push(part.into_inner())?,
-            }
-        }
-        parts.reverse();
-        Ok(Some(Seq::from_vec(parts)))
-    }
-
-    /// So many constraints, the last ones.
-    fn last_facts(&mut self, count: i128) -> Result<Option<Seq<Cons>>, OutOfMemory> {
-        let mut parts = Vec::new(self.alloc);
-        for _ in 0..count {
-            match self.facts.pop() {
-                None => return Ok(None),
-                Some(part) => parts.push(part.into_inner())?,
-            }
-        }
-        parts.reverse();
-        Ok(Some(Seq::from_vec(parts)))
-    }
-
-    /// As many expressions as the number tells that was read last.
-    fn terms(&mut self) -> Result<Option<Seq<Expr>>, OutOfMemory> {
-        match self.count() {
-            None => Ok(None),
-            Some(count) => self.last_terms(count),
-        }
-    }
-
-    /// As many constraints as the number tells that was read last.
-    fn facts(&mut self) -> Result<Option<Seq<Cons>>, OutOfMemory> {
-        match self.count() {
-            None => Ok(None),
-            Some(count) => self.last_facts(count),
-        }
-    }
-
-    /// The sum of the last two expressions.
-    fn sum(&mut self) -> Result<bool, OutOfMemory> {
-        match self.last_terms(2)? {
-            None => Ok(false),
-            Some(parts) => self.term(Expr::Sum(parts)),
-        }
-    }
-
-    /// An expression of the last two.
-    fn of_two(&mut self, sign: u8) -> Result<bool, OutOfMemory> {
-        let Some((first, second)) = self.two_terms() else {
-            return Ok(false);
-        };
-        match sign {
-            b'*' => self.term(Expr::Mul(first, second)),
-            b'/' => self.term(Expr::Div(first, second)),
-            _ => self.term(Expr::Rem(first, second)),
-        }
-    }
-
-    /// An expression of the last one.
-    fn of_one(&mut self, sign: u8) -> Result<bool, OutOfMemory> {
         match self.terms.pop() {
-            None => Ok(false),
-            Some(part) if sign == b'_' => self.term(Expr::Neg(part)),
-            Some(part) => self.term(Expr::Abs(part)),
+            None => None,
+            Some(last) => match last.get() {
+                Expr::Var(x) => Some(*x),
+                _ => None,
+            },
         }
     }
 
-    /// An expression, or a constraint, of several expressions.
-    fn of_several(&mut self, sign: u8) -> Result<bool, OutOfMemory> {
-        let Some(parts) = self.terms()? else {
-            return Ok(false);
-        };
+    /// The expression that a sign makes of what was read last; none where it makes none, or that is too little.
+    fn term(&mut self, sign: u8) -> Option<Expr> {
         match sign {
-            b'S' => self.term(Expr::Sum(parts)),
-            b'm' => self.term(Expr::Min(parts)),
-            b'M' => self.term(Expr::Max(parts)),
-            _ => self.fact(Cons::AllDifferent(parts)),
+            b'0'..=b'9' => Some(Expr::Const((sign - b'0') as i128)),
+            b'*' | b'/' | b'%' => match two(&mut self.terms) {
+                None => None,
+                Some((first, second)) => Some(of_two(sign, first, second)),
+            },
+            b'_' | b'|' => match self.terms.pop() {
+                None => None,
+                Some(part) if sign == b'_' => Some(Expr::Neg(part)),
+                Some(part) => Some(Expr::Abs(part)),
+            },
+            b't' => match self.facts.pop() {
+                None => None,
+                Some(part) => Some(Expr::Truth(part)),
+            },
+            b'n' | b'L' | b'G' => match self.named() {
+                None => None,
+                Some(x) => Some(question(sign, x)),
+            },
+            _ => match variable(sign) {
+                None => None,
+                Some(x) => Some(Expr::Var(x)),
+            },
         }
     }
 
-    /// A cell of a table.
-    fn cell(&mut self, table: u32, dimensions: i128) -> Result<bool, OutOfMemory> {
-        match self.last_terms(dimensions)? {
-            None => Ok(false),
-            Some(subscripts) => self.term(Expr::At(table, subscripts)),
-        }
-    }
-
-    /// The truth of the last constraint.
-    fn truth(&mut self) -> Result<bool, OutOfMemory> {
-        match self.facts.pop() {
-            None => Ok(false),
-            Some(part) => self.term(Expr::Truth(part)),
-        }
-    }
-
-    /// A question on the variable that was read last.
-    fn question(&mut self, ask: Ask) -> Result<bool, OutOfMemory> {
-        match self.named() {
-            None => Ok(false),
-            Some(x) => self.term(Expr::Ask(ask, x)),
-        }
-    }
-
-    /// Whether the variable that was read last has one value.
-    fn bound(&mut self) -> Result<bool, OutOfMemory> {
-        match self.named() {
-            None => Ok(false),
-            Some(x) => self.fact(Cons::Bound(x)),
+    /// The constraint that a sign makes of what was read last; none where that is too little.
+    fn fact(&mut self, sign: u8) -> Option<Cons> {
+        match sign {
+            b'T' => Some(Cons::Fixed(true)),
+            b'F' => Some(Cons::Fixed(false)),
+            b'i' | b'e' => match two(&mut self.facts) {
+                None => None,
+                Some((first, second)) if sign == b'i' => Some(Cons::Imp(first, second)),
+                Some((first, second)) => Some(Cons::Iff(first, second)),
+            },
+            b'~' => match self.facts.pop() {
+                None => None,
+                Some(part) => Some(Cons::Not(part)),
+            },
+            b'k' => match self.count() {
+                Some(0) => Some(Cons::Capacity(0, 0)),
+                Some(1) => Some(Cons::Capacity(0, 1)),
+                Some(2) => Some(Cons::Capacity(0, 2)),
+                Some(3) => Some(Cons::Capacity(0, 3)),
+                _ => None,
+            },
+            _ => match self.named() {
+                None => None,
+                Some(x) => Some(Cons::Bound(x)),
+            },
         }
     }
 
     /// A comparison of the last two expressions.
-    fn comparison(&mut self, op: Op) -> Result<bool, OutOfMemory> {
-        match self.two_terms() {
-            None => Ok(false),
-            Some((first, second)) => self.fact(Cons::Cmp(op, first, second)),
+    fn compared(&mut self, op: Op) -> Option<Cons> {
+        match two(&mut self.terms) {
+            None => None,
+            Some((first, second)) => Some(Cons::Cmp(op, first, second)),
         }
     }
 
-    /// A constraint of the last two, the first of which implies the second, or both of which hold alike.
-    fn of_two_facts(&mut self, sign: u8) -> Result<bool, OutOfMemory> {
-        match self.two_facts() {
-            None => Ok(false),
-            Some((first, second)) if sign == b'i' => self.fact(Cons::Imp(first, second)),
-            Some((first, second)) => self.fact(Cons::Iff(first, second)),
+    /// Reads a sign that makes something of so many expressions.
+    fn of_terms(&mut self, sign: u8, count: Option<i128>) -> Result<bool, AllocError> {
+        match last(self.alloc, &mut self.terms, count) {
+            Err(e) => Err(e),
+            Ok(None) => Ok(false),
+            Ok(Some(parts)) if sign == b'D' => {
+                keep(self.alloc, &mut self.facts, Some(Cons::AllDifferent(parts)))
+            }
+            Ok(Some(parts)) => keep(self.alloc, &mut self.terms, Some(of_several(sign, parts))),
         }
     }
 
-    /// All, or some, of the constraints hold.
-    fn joined(&mut self, all: bool, parts: Option<Seq<Cons>>) -> Result<bool, OutOfMemory> {
-        match parts {
-            None => Ok(false),
-            Some(parts) if all => self.fact(Cons::And(parts)),
-            Some(parts) => self.fact(Cons::Or(parts)),
-        }
-    }
-
-    /// All, or some, of the last two constraints hold.
-    fn two_joined(&mut self, all: bool) -> Result<bool, OutOfMemory> {
-        let parts = self.last_facts(2)?;
-        self.joined(all, parts)
-    }
-
-    /// All, or some, of several constraints hold.
-    fn several_joined(&mut self, all: bool) -> Result<bool, OutOfMemory> {
-        let parts = self.facts()?;
-        self.joined(all, parts)
-    }
-
-    /// The opposite of the last constraint.
-    fn opposite(&mut self) -> Result<bool, OutOfMemory> {
-        match self.facts.pop() {
-            None => Ok(false),
-            Some(part) => self.fact(Cons::Not(part)),
-        }
-    }
-
-    /// The capacity of resource 0 at the time that was read last.
-    fn capacity(&mut self) -> Result<bool, OutOfMemory> {
-        match self.count() {
-            Some(0) => self.fact(Cons::Capacity(0, 0)),
-            Some(1) => self.fact(Cons::Capacity(0, 1)),
-            Some(2) => self.fact(Cons::Capacity(0, 2)),
-            Some(3) => self.fact(Cons::Capacity(0, 3)),
-            _ => Ok(false),
-        }
-    }
-
-    /// The comparison that a sign stands for.
-    fn compared(&mut self, sign: u8) -> Result<bool, OutOfMemory> {
-        match sign {
-            b'=' => self.comparison(Op::Eq),
-            b'!' => self.comparison(Op::Ne),
-            b'<' => self.comparison(Op::Lt),
-            b'l' => self.comparison(Op::Le),
-            b'>' => self.comparison(Op::Gt),
-            _ => self.comparison(Op::Ge),
+    /// All, or some, of so many constraints hold.
+    fn of_facts(&mut self, all: bool, count: Option<i128>) -> Result<bool, AllocError> {
+        match last(self.alloc, &mut self.facts, count) {
+            Err(e) => Err(e),
+            Ok(None) => Ok(false),
+            Ok(Some(parts)) if all => keep(self.alloc, &mut self.facts, Some(Cons::And(parts))),
+            Ok(Some(parts)) => keep(self.alloc, &mut self.facts, Some(Cons::Or(parts))),
         }
     }
 
     /// Reads a sign; false where there is no such sign, or too little before it.
-    fn read(&mut self, sign: u8) -> Result<bool, OutOfMemory> {
-        if let Some(x) = variable(sign) {
-            return self.term(Expr::Var(x));
-        }
+    fn read(&mut self, sign: u8) -> Result<bool, AllocError> {
         match sign {
-            b'0'..=b'9' => self.term(Expr::Const((sign - b'0') as i128)),
-            b'+' => self.sum(),
-            b'*' | b'/' | b'%' => self.of_two(sign),
-            b'_' | b'|' => self.of_one(sign),
-            b'S' | b'm' | b'M' | b'D' => self.of_several(sign),
-            b'r' => self.cell(0, 1),
-            b'q' => self.cell(1, 2),
-            b't' => self.truth(),
-            b'=' | b'!' | b'<' | b'l' | b'>' | b'g' => self.compared(sign),
-            b'T' => self.fact(Cons::Fixed(true)),
-            b'F' => self.fact(Cons::Fixed(false)),
-            b'&' => self.two_joined(true),
-            b'v' => self.two_joined(false),
-            b'i' | b'e' => self.of_two_facts(sign),
-            b'A' => self.several_joined(true),
-            b'O' => self.several_joined(false),
-            b'~' => self.opposite(),
-            b'k' => self.capacity(),
-            b'n' => self.question(Ask::Size),
-            b'L' => self.question(Ask::Least),
-            b'G' => self.question(Ask::Greatest),
-            b'B' => self.bound(),
-            _ => Ok(false),
+            b'+' | b'q' => self.of_terms(sign, Some(2)),
+            b'r' => self.of_terms(sign, Some(1)),
+            b'S' | b'm' | b'M' | b'D' => {
+                let count = self.count();
+                self.of_terms(sign, count)
+            }
+            b'&' | b'v' => self.of_facts(sign == b'&', Some(2)),
+            b'A' | b'O' => {
+                let count = self.count();
+                self.of_facts(sign == b'A', count)
+            }
+            b'T' | b'F' | b'i' | b'e' | b'~' | b'k' | b'B' => {
+                let fact = self.fact(sign);
+                keep(self.alloc, &mut self.facts, fact)
+            }
+            _ => match comparison(sign) {
+                Some(op) => {
+                    let fact = self.compared(op);
+                    keep(self.alloc, &mut self.facts, fact)
+                }
+                None => {
+                    let term = self.term(sign);
+                    keep(self.alloc, &mut self.terms, term)
+                }
+            },
         }
     }
-}
 
-/// What a text holds; none where it is no such text.
-fn whole(alloc: Global, text: &str) -> Result<Option<Reader>, OutOfMemory> {
-    let mut reader = Reader {
-        alloc,
-        terms: Vec::new(alloc),
-        facts: Vec::new(alloc),
-    };
-    for sign in text.as_bytes() {
-        if !reader.read(*sign)? {
-            return Ok(None);
+    /// Reads a text; false where it is no such text.
+    fn read_all(&mut self, text: &str) -> Result<bool, AllocError> {
+        for sign in text.as_bytes() {
+            if !self.read(*sign)? {
+                return Ok(false);
+            }
         }
+        Ok(true)
     }
-    Ok(Some(reader))
 }
 
 /// The expression of a text.
-pub fn expression(alloc: Global, text: &str) -> Result<Option<Boxed<Expr>>, OutOfMemory> {
-    let Some(mut reader) = whole(alloc, text)? else {
-        return Ok(None);
-    };
-    if reader.terms.len() != 1 || reader.facts.len() != 0 {
-        return Ok(None);
+pub fn expression(alloc: Global, text: &str) -> Result<Option<Boxed<Expr>>, AllocError> {
+    let mut reader = Reader::new(alloc);
+    match reader.read_all(text) {
+        Err(e) => Err(e),
+        Ok(whole) if whole && reader.terms.len() == 1 && reader.facts.is_empty() => Ok(
+            reader.terms.pop(),
+        ),
+        Ok(_) => Ok(None),
     }
-    Ok(reader.terms.pop())
 }
 
 /// The constraint of a text.
-pub fn constraint(alloc: Global, text: &str) -> Result<Option<Boxed<Cons>>, OutOfMemory> {
-    let Some(mut reader) = whole(alloc, text)? else {
-        return Ok(None);
-    };
-    if reader.terms.len() != 0 || reader.facts.len() != 1 {
-        return Ok(None);
+pub fn constraint(alloc: Global, text: &str) -> Result<Option<Boxed<Cons>>, AllocError> {
+    let mut reader = Reader::new(alloc);
+    match reader.read_all(text) {
+        Err(e) => Err(e),
+        Ok(whole) if whole && reader.terms.is_empty() && reader.facts.len() == 1 => Ok(
+            reader.facts.pop(),
+        ),
+        Ok(_) => Ok(None),
     }
-    Ok(reader.facts.pop())
 }

@@ -4,10 +4,11 @@
 //! and `if:TEXT` the last two. `branch:TEXT:KEY:ORDER` makes the last statement an element with a condition, a key, which is
 //! `-` where there is none, and the order, `up` or `down`; `tryall:N`, `forall:N` and `select:N` take the last N elements.
 //! `generate:LETTERS` labels variables, and `rank:LETTERS` orders pairs of them.
-use crate::reader::{constraint, expression, variable};
-use opl_expr::{Branch, Cons, Expr, OutOfMemory, Step};
+use crate::model::halves;
+use crate::reader::{constraint, expression, keep, last, two, variable};
+use opl_expr::{Branch, Cons, Expr, Step};
 use opl_list::{Boxed, Seq};
-use std::alloc::Global;
+use std::alloc::{AllocError, Global};
 
 /// What is read and isn't yet a part of another statement.
 #[derive(Drop)]
@@ -35,199 +36,191 @@ fn element(when: Boxed<Cons>, key: Option<Boxed<Expr>>, rising: bool, body: Boxe
     }
 }
 
-/// The two alternatives of a condition.
-fn decision(when: Boxed<Cons>, yes: Boxed<Step>, no: Boxed<Step>) -> Step {
-    Step::If(when.into_inner(), yes, no)
+/// Statements one after another, or as alternatives.
+fn of_steps(word: &str, parts: Seq<Step>) -> Step {
+    match word {
+        "block" => Step::Block(parts),
+        _ => Step::Try(parts),
+    }
 }
 
-/// A loop.
-fn turns(when: Boxed<Cons>, body: Boxed<Step>) -> Step {
-    Step::While(when.into_inner(), body)
+/// A statement of elements.
+fn of_branches(word: &str, elements: Seq<Branch>) -> Step {
+    match word {
+        "tryall" => Step::TryAll(elements),
+        "forall" => Step::ForAll(elements),
+        _ => Step::Select(elements),
+    }
+}
+
+/// The variables of letters.
+fn variables(alloc: Global, letters: &str) -> Result<Seq<u32>, AllocError> {
+    let mut variables = Seq::new(alloc);
+    for letter in letters.as_bytes() {
+        if let Some(x) = variable(*letter) {
+            variables.push(x)?;
+        }
+    }
+    Ok(variables)
+}
+
+/// An order for the pair of two variables.
+fn rank(alloc: Global, variables: &[u32]) -> Result<Step, AllocError> {
+    let mut pairs = Seq::new(alloc);
+    if let [first, second] = variables {
+        pairs.push((*first, *second))?;
+    }
+    Ok(Step::Rank(pairs))
 }
 
 impl Reader {
-    fn step(&mut self, step: Step) -> Result<bool, OutOfMemory> {
-        self.steps.push(Boxed::new(self.alloc, step)?)?;
-        Ok(true)
-    }
-
-    /// A constraint, posted.
-    fn post(&mut self, text: &str) -> Result<bool, OutOfMemory> {
-        match constraint(self.alloc, text)? {
-            None => Ok(false),
-            Some(c) => self.step(Step::Post(c.into_inner())),
+    /// The statement that a word makes of a condition and of what was read last; none where that is too little.
+    fn under(&mut self, word: &str, when: Boxed<Cons>) -> Option<Step> {
+        match word {
+            "post" => Some(Step::Post(when.into_inner())),
+            "while" => match self.steps.pop() {
+                None => None,
+                Some(body) => Some(Step::While(when.into_inner(), body)),
+            },
+            _ => match two(&mut self.steps) {
+                None => None,
+                Some((yes, no)) => Some(Step::If(when.into_inner(), yes, no)),
+            },
         }
     }
 
-    /// So many statements, the last ones.
-    fn last_steps(&mut self, count: u32) -> Result<Option<Seq<Step>>, OutOfMemory> {
-        let mut parts = Vec::new(self.alloc);
-        for _ in 0..count {
-            match self.steps.pop() {
-                None => return Ok(None),
-                Some(part) => parts.push(part.into_inner())?,
+    /// Reads a word with a condition.
+    fn conditioned(&mut self, word: &str, text: &str) -> Result<bool, AllocError> {
+        match constraint(self.alloc, text) {
+            Err(e) => Err(e),
+            Ok(None) => Ok(false),
+            Ok(Some(when)) => {
+                let step = self.under(word, when);
+                keep(self.alloc, &mut self.steps, step)
             }
         }
-        parts.reverse();
-        Ok(Some(Seq::from_vec(parts)))
     }
 
-    /// So many elements, the last ones.
-    fn last_branches(&mut self, count: u32) -> Result<Option<Seq<Branch>>, OutOfMemory> {
-        let mut parts = Vec::new(self.alloc);
-        for _ in 0..count {
-            match self.branches.pop() {
-                None => return Ok(None),
-                Some(part) => parts.push(part.into_inner())?,
-            }
-        }
-        parts.reverse();
-        Ok(Some(Seq::from_vec(parts)))
-    }
-
-    /// Statements one after another, or as alternatives.
-    fn several(&mut self, word: &str, count: u32) -> Result<bool, OutOfMemory> {
-        match self.last_steps(count)? {
-            None => Ok(false),
-            Some(parts) if word == "block" => self.step(Step::Block(parts)),
-            Some(parts) => self.step(Step::Try(parts)),
+    /// Reads a word with a number of statements.
+    fn several(&mut self, word: &str, count: i128) -> Result<bool, AllocError> {
+        match last(self.alloc, &mut self.steps, Some(count)) {
+            Err(e) => Err(e),
+            Ok(None) => Ok(false),
+            Ok(Some(parts)) => keep(self.alloc, &mut self.steps, Some(of_steps(word, parts))),
         }
     }
 
-    /// A statement of elements.
-    fn ranging(&mut self, word: &str, count: u32) -> Result<bool, OutOfMemory> {
-        match self.last_branches(count)? {
-            None => Ok(false),
-            Some(elements) if word == "tryall" => self.step(Step::TryAll(elements)),
-            Some(elements) if word == "forall" => self.step(Step::ForAll(elements)),
-            Some(elements) => self.step(Step::Select(elements)),
+    /// Reads a word with a number of elements.
+    fn ranging(&mut self, word: &str, count: i128) -> Result<bool, AllocError> {
+        match last(self.alloc, &mut self.branches, Some(count)) {
+            Err(e) => Err(e),
+            Ok(None) => Ok(false),
+            Ok(Some(parts)) => keep(self.alloc, &mut self.steps, Some(of_branches(word, parts))),
         }
     }
 
     /// The last statement, under `once`.
-    fn once(&mut self) -> Result<bool, OutOfMemory> {
+    fn once(&mut self) -> Result<bool, AllocError> {
         match self.steps.pop() {
             None => Ok(false),
-            Some(inner) => self.step(Step::Once(inner)),
-        }
-    }
-
-    /// A loop over the last statement.
-    fn repeated(&mut self, text: &str) -> Result<bool, OutOfMemory> {
-        let Some(when) = constraint(self.alloc, text)? else {
-            return Ok(false);
-        };
-        match self.steps.pop() {
-            None => Ok(false),
-            Some(body) => self.step(turns(when, body)),
-        }
-    }
-
-    /// The last statement but one where a condition holds, else the last one.
-    fn decided(&mut self, text: &str) -> Result<bool, OutOfMemory> {
-        let Some(when) = constraint(self.alloc, text)? else {
-            return Ok(false);
-        };
-        let Some(no) = self.steps.pop() else {
-            return Ok(false);
-        };
-        match self.steps.pop() {
-            None => Ok(false),
-            Some(yes) => self.step(decision(when, yes, no)),
+            Some(inner) => keep(self.alloc, &mut self.steps, Some(Step::Once(inner))),
         }
     }
 
     /// The last statement as an element with a condition and a key.
     fn with_key(
         &mut self,
-        when: &str,
+        when: Boxed<Cons>,
         key: Option<Boxed<Expr>>,
         rising: bool,
-    ) -> Result<bool, OutOfMemory> {
-        let Some(when) = constraint(self.alloc, when)? else {
-            return Ok(false);
-        };
-        let Some(body) = self.steps.pop() else {
-            return Ok(false);
-        };
-        let branch = Boxed::new(self.alloc, element(when, key, rising, body))?;
-        self.branches.push(branch)?;
-        Ok(true)
+    ) -> Result<bool, AllocError> {
+        match self.steps.pop() {
+            None => Ok(false),
+            Some(body) => keep(
+                self.alloc,
+                &mut self.branches,
+                Some(element(when, key, rising, body)),
+            ),
+        }
+    }
+
+    /// The last statement as an element with a condition, and a key that is still to be read.
+    fn keyed(
+        &mut self,
+        when: Boxed<Cons>,
+        key: Result<Option<Boxed<Expr>>, AllocError>,
+        rising: bool,
+    ) -> Result<bool, AllocError> {
+        match key {
+            Err(e) => Err(e),
+            Ok(None) => Ok(false),
+            Ok(key) => self.with_key(when, key, rising),
+        }
     }
 
     /// The last statement as an element.
-    fn branch(&mut self, text: &str) -> Result<bool, OutOfMemory> {
-        let (when, ordered) = text.split_once(":").unwrap_or((text, ""));
-        let (key, order) = ordered.split_once(":").unwrap_or((ordered, ""));
-        if key == "-" {
-            return self.with_key(when, None, order == "up");
-        }
-        match expression(self.alloc, key)? {
-            None => Ok(false),
-            Some(key) => self.with_key(when, Some(key), order == "up"),
+    fn branch(&mut self, text: &str) -> Result<bool, AllocError> {
+        let (when, ordered) = halves(text, ":");
+        let (key, order) = halves(ordered, ":");
+        let rising = order == "up";
+        match constraint(self.alloc, when) {
+            Err(e) => Err(e),
+            Ok(None) => Ok(false),
+            Ok(Some(when)) if key == "-" => self.with_key(when, None, rising),
+            Ok(Some(when)) => self.keyed(when, expression(self.alloc, key), rising),
         }
     }
 
-    /// The variables of letters.
-    fn variables(&self, letters: &str) -> Result<Seq<u32>, OutOfMemory> {
-        let mut variables = Seq::new(self.alloc);
-        for letter in letters.as_bytes() {
-            if let Some(x) = variable(*letter) {
-                variables.push(x)?;
-            }
+    /// Values for variables, or an order for the pair of the first two.
+    fn labelled(&mut self, word: &str, letters: &str) -> Result<bool, AllocError> {
+        let variables = variables(self.alloc, letters)?;
+        if word == "generate" {
+            return keep(self.alloc, &mut self.steps, Some(Step::Generate(variables)));
         }
-        Ok(variables)
-    }
-
-    /// Values for variables.
-    fn generate(&mut self, letters: &str) -> Result<bool, OutOfMemory> {
-        let variables = self.variables(letters)?;
-        self.step(Step::Generate(variables))
-    }
-
-    /// An order for the pair of the first two letters.
-    fn rank(&mut self, letters: &str) -> Result<bool, OutOfMemory> {
-        let variables = self.variables(letters)?;
-        let mut pairs = Seq::new(self.alloc);
-        if let [first, second] = variables.as_slice() {
-            pairs.push((*first, *second))?;
+        match rank(self.alloc, variables.as_slice()) {
+            Err(e) => Err(e),
+            Ok(step) => keep(self.alloc, &mut self.steps, Some(step)),
         }
-        self.step(Step::Rank(pairs))
     }
 
     /// Reads a word; false where there is no such word, or too little before it.
-    fn read(&mut self, word: &str) -> Result<bool, OutOfMemory> {
-        let (word, text) = word.split_once(":").unwrap_or((word, ""));
-        let count = text.parse::<u32>().unwrap_or(0);
+    fn read(&mut self, word: &str) -> Result<bool, AllocError> {
+        let (word, text) = halves(word, ":");
+        let count = text.parse::<u32>().unwrap_or(0) as i128;
         match word {
-            "post" => self.post(text),
+            "post" | "while" | "if" => self.conditioned(word, text),
             "block" | "try" => self.several(word, count),
             "tryall" | "forall" | "select" => self.ranging(word, count),
             "once" => self.once(),
-            "while" => self.repeated(text),
-            "if" => self.decided(text),
             "branch" => self.branch(text),
-            "generate" => self.generate(text),
-            "rank" => self.rank(text),
+            "generate" | "rank" => self.labelled(word, text),
             _ => Ok(false),
         }
+    }
+
+    /// Reads words; false where they make no section.
+    fn read_all(&mut self, text: &str) -> Result<bool, AllocError> {
+        for word in text.split_whitespace() {
+            if !self.read(word)? {
+                return Ok(false);
+            }
+        }
+        Ok(true)
     }
 }
 
 /// The section of a text; none where it is no such text.
-pub fn section(alloc: Global, text: &str) -> Result<Option<Boxed<Step>>, OutOfMemory> {
+pub fn section(alloc: Global, text: &str) -> Result<Option<Boxed<Step>>, AllocError> {
     let mut reader = Reader {
         alloc,
         steps: Vec::new(alloc),
         branches: Vec::new(alloc),
     };
-    for word in text.split_whitespace() {
-        if !reader.read(word)? {
-            return Ok(None);
+    match reader.read_all(text) {
+        Err(e) => Err(e),
+        Ok(whole) if whole && reader.steps.len() == 1 && reader.branches.is_empty() => {
+            Ok(reader.steps.pop())
         }
+        Ok(_) => Ok(None),
     }
-    if reader.steps.len() != 1 || reader.branches.len() != 0 {
-        return Ok(None);
-    }
-    Ok(reader.steps.pop())
 }

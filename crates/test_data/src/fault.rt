@@ -15,8 +15,7 @@ fn push_placed(text: &mut Vec<u8>, kind: &str, file: u32, at: u32) -> Result<(),
     text.extend_from_slice(Buffer::new().format(file).as_bytes())?;
     text.extend_from_slice(b" ")?;
     text.extend_from_slice(Buffer::new().format(at).as_bytes())?;
-    text.extend_from_slice(b"\n")?;
-    Ok(())
+    text.extend_from_slice(b"\n")
 }
 
 /// `KIND NAME`
@@ -25,8 +24,7 @@ fn push_named(text: &mut Vec<u8>, kind: &str, name: &[u8]) -> Result<(), AllocEr
     text.extend_from_slice(kind.as_bytes())?;
     text.extend_from_slice(b" ")?;
     text.extend_from_slice(name)?;
-    text.extend_from_slice(b"\n")?;
-    Ok(())
+    text.extend_from_slice(b"\n")
 }
 
 /// The line of a fault of scanning.

@@ -43,6 +43,21 @@ fn push_bound(
     }
 }
 
+/// Adds the tree of the tokens of a data file to `files`, or its fault to the text. The result is whether there is a tree.
+fn read_tokens(
+    alloc: Global,
+    text: &mut Vec<u8>,
+    files: &mut Seq<DataTree>,
+    file: u32,
+    tokens: &[Token],
+    end: u32,
+) -> Result<bool, AllocError> {
+    match parse_data(alloc, tokens, end) {
+        Ok(tree) => files.push(tree).map(|_| true),
+        Err(fault) => push_syntax_fault(text, file, &fault).map(|_| false),
+    }
+}
+
 /// Adds the tree of a data file to `files`, or its fault to the text. The result is whether there is a tree.
 fn read_file(
     alloc: Global,
@@ -57,21 +72,31 @@ fn read_file(
         return Err(AllocError);
     }
     match scan(alloc, bytes) {
-        Ok(tokens) => match parse_data(alloc, tokens.as_slice(), bytes.len() as u32) {
-            Ok(tree) => {
-                files.push(tree)?;
-                Ok(true)
-            }
-            Err(fault) => {
-                push_syntax_fault(text, file, &fault)?;
-                Ok(false)
-            }
-        },
-        Err(fault) => {
-            push_scan_fault(text, file, fault)?;
-            Ok(false)
+        Ok(tokens) => read_tokens(
+            alloc,
+            text,
+            files,
+            file,
+            tokens.as_slice(),
+            bytes.len() as u32,
+        ),
+        Err(fault) => push_scan_fault(text, file, fault).map(|_| false),
+    }
+}
+
+/// Adds the trees of data files to `files`, up to the first fault, which comes to the text. The result is whether there is none.
+fn read_files(
+    alloc: Global,
+    text: &mut Vec<u8>,
+    files: &mut Seq<DataTree>,
+    case: &Case,
+) -> Result<bool, AllocError> {
+    for bytes in case.files.as_slice() {
+        if !read_file(alloc, text, files, bytes.as_slice())? {
+            return Ok(false);
         }
     }
+    Ok(true)
 }
 
 /// Adds what a model with types comes to.
@@ -82,12 +107,11 @@ fn push_typed(
     case: &Case,
 ) -> Result<(), AllocError> {
     let mut files = Seq::new(alloc);
-    for bytes in case.files.as_slice() {
-        if !read_file(alloc, text, &mut files, bytes.as_slice())? {
-            return Ok(());
-        }
+    match read_files(alloc, text, &mut files, case) {
+        Ok(are_read) if are_read => push_bound(alloc, text, typed, files.as_slice(), case),
+        Ok(_) => Ok(()),
+        Err(e) => Err(e),
     }
-    push_bound(alloc, text, typed, files.as_slice(), case)
 }
 
 /// Adds what a model comes to.
@@ -98,7 +122,11 @@ fn push_parsed(
     case: &Case,
 ) -> Result<(), AllocError> {
     match check(alloc, tree) {
-        Ok(typed) => push_typed(alloc, text, &typed, case),
+        Ok(typed) => {
+            let pushed = push_typed(alloc, text, &typed, case);
+            typed.let_go();
+            pushed
+        }
         Err(fault) => push_type_fault(text, &fault),
     }
 }

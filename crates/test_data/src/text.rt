@@ -10,8 +10,7 @@ const DEPTH: u32 = 8;
 
 /// Adds a number.
 fn push_number(text: &mut Vec<u8>, number: i128) -> Result<(), AllocError> {
-    text.extend_from_slice(Buffer::new().format(number).as_bytes())?;
-    Ok(())
+    text.extend_from_slice(Buffer::new().format(number).as_bytes())
 }
 
 /// Adds `low..high`.
@@ -24,9 +23,10 @@ fn push_range(text: &mut Vec<u8>, low: i128, high: i128) -> Result<(), AllocErro
 /// Adds `,` but before the first.
 fn push_comma(text: &mut Vec<u8>, place: usize) -> Result<(), AllocError> {
     if place > 0 {
-        text.extend_from_slice(b",")?;
+        text.extend_from_slice(b",")
+    } else {
+        Ok(())
     }
-    Ok(())
 }
 
 /// Adds `{name,..}`.
@@ -36,8 +36,7 @@ fn push_names(text: &mut Vec<u8>, names: &[Name]) -> Result<(), AllocError> {
         push_comma(text, place)?;
         text.extend_from_slice(name.as_slice())?;
     }
-    text.extend_from_slice(b"}")?;
-    Ok(())
+    text.extend_from_slice(b"}")
 }
 
 /// Adds the name at this position of an enumeration.
@@ -49,10 +48,9 @@ fn push_enumerated(
 ) -> Result<(), AllocError> {
     let names = data.enumeration(declaration).unwrap_or(&[]);
     match names.get(position as usize) {
-        Some(name) => text.extend_from_slice(name)?,
-        None => text.extend_from_slice(b"?")?,
+        Some(name) => text.extend_from_slice(name),
+        None => text.extend_from_slice(b"?"),
     }
-    Ok(())
 }
 
 /// Adds a value without parts.
@@ -98,8 +96,7 @@ fn push_value(
         push_comma(text, place)?;
         push_value(text, data, part, depth - 1)?;
     }
-    text.extend_from_slice(closing)?;
-    Ok(())
+    text.extend_from_slice(closing)
 }
 
 /// Adds the index set of a dimension: `low..high` or `{a,..}`.
@@ -116,8 +113,7 @@ fn push_dimension(
                 push_comma(text, place)?;
                 push_value(text, data, value, DEPTH)?;
             }
-            text.extend_from_slice(b"}")?;
-            Ok(())
+            text.extend_from_slice(b"}")
         }
     }
 }
@@ -133,8 +129,7 @@ fn push_space(
         push_comma(text, place)?;
         push_dimension(text, data, dimension)?;
     }
-    text.extend_from_slice(b"]")?;
-    Ok(())
+    text.extend_from_slice(b"]")
 }
 
 /// Adds a value, which is copied first.
@@ -169,8 +164,7 @@ fn push_item(
     }
     text.extend_from_slice(b" = ")?;
     push_copy(alloc, text, data, value)?;
-    text.extend_from_slice(b"\n")?;
-    Ok(())
+    text.extend_from_slice(b"\n")
 }
 
 /// Adds the line `name has N keys` for an array.
@@ -191,8 +185,7 @@ fn push_keys(
     text.extend_from_slice(name)?;
     text.extend_from_slice(b" has ")?;
     text.extend_from_slice(Buffer::new().format(keys).as_bytes())?;
-    text.extend_from_slice(b" keys\n")?;
-    Ok(())
+    text.extend_from_slice(b" keys\n")
 }
 
 /// Adds the lines of an item.

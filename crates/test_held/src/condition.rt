@@ -24,7 +24,10 @@ fn parsed(alloc: Global, tokens: &[Token], end: u32) -> Result<Option<Boxed<Term
     };
     let mut cursor = Cursor::new(tokens, end);
     match level.expr(&mut cursor) {
-        Ok(tree) => Ok(Some(expr_term(alloc, tree.get())?)),
+        Ok(tree) => match expr_term(alloc, tree.get()) {
+            Ok(term) => Ok(Some(term)),
+            Err(e) => Err(e),
+        },
         Err(_) => Ok(None),
     }
 }

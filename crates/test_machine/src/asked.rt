@@ -25,7 +25,10 @@ fn machine(
     let way = Way {
         default_search: true,
     };
-    Ok(Some(search(alloc, core.clone()?, way, budget)?))
+    match search(alloc, core.clone()?, way, budget) {
+        Ok(machine) => Ok(Some(machine)),
+        Err(e) => Err(e),
+    }
 }
 
 /// Adds what a machine and another one, which has no budget, find in turns.
@@ -35,9 +38,10 @@ fn push_both(
     core: &Rc<Core>,
     one: &mut Machine<Pair>,
 ) -> Result<(), OutOfMemory> {
-    match machine(alloc, core, u64::MAX)? {
-        None => push_words(text, NOT_ASKED),
-        Some(mut other) => push_turns(alloc, text, one, &mut other, 1000),
+    match machine(alloc, core, u64::MAX) {
+        Ok(None) => push_words(text, NOT_ASKED),
+        Ok(Some(mut other)) => push_turns(alloc, text, one, &mut other, 1000),
+        Err(e) => Err(e),
     }
 }
 
@@ -67,8 +71,9 @@ pub fn push_asked(
     word: &str,
     budget: u64,
 ) -> Result<(), OutOfMemory> {
-    match machine(alloc, core, budget)? {
-        None => push_words(text, NOT_ASKED),
-        Some(mut machine) => push_from(alloc, text, core, word, &mut machine),
+    match machine(alloc, core, budget) {
+        Ok(None) => push_words(text, NOT_ASKED),
+        Ok(Some(mut machine)) => push_from(alloc, text, core, word, &mut machine),
+        Err(e) => Err(e),
     }
 }

@@ -109,6 +109,8 @@ pub fn push_followed(
     if !is_ground(core.as_ref()) || has_empty_set(core.as_ref()) {
         return push_words(text, NOT_ASKED);
     }
-    let mut pair = Pair::new(alloc, core.clone()?)?;
-    push_path(alloc, text, &mut pair, path, with_level)
+    match Pair::new(alloc, core.clone()?) {
+        Ok(mut pair) => push_path(alloc, text, &mut pair, path, with_level),
+        Err(e) => Err(e),
+    }
 }

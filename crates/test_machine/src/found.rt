@@ -48,6 +48,13 @@ fn push_best(text: &mut Vec<u8>, machine: &Machine<Pair>) -> Result<(), OutOfMem
     }
 }
 
+/// Adds that there is no next solution, and the best value, if there is one.
+fn push_stop(text: &mut Vec<u8>, word: &str, machine: &Machine<Pair>) -> Result<bool, OutOfMemory> {
+    push_words(text, word)?;
+    push_best(text, machine)?;
+    Ok(false)
+}
+
 /// Adds the next answer of a machine behind the number of choices that led to it, as `4(2 4 1 3) ` or `8 end`. Whether it was
 /// a solution.
 pub fn push_next(
@@ -65,16 +72,8 @@ pub fn push_next(
             push_words(text, " ")?;
             Ok(true)
         }
-        Step1::End => {
-            push_words(text, " end")?;
-            push_best(text, &*machine)?;
-            Ok(false)
-        }
-        Step1::Spent => {
-            push_words(text, " spent")?;
-            push_best(text, &*machine)?;
-            Ok(false)
-        }
+        Step1::End => push_stop(text, " end", &*machine),
+        Step1::Spent => push_stop(text, " spent", &*machine),
     }
 }
 

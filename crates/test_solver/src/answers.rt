@@ -203,12 +203,22 @@ fn push_holds(
     }
 }
 
-/// Adds how filtering ended.
-fn push_outcome(text: &mut Vec<u8>, outcome: Outcome) -> Result<(), OutOfMemory> {
+/// Adds how filtering ended, and what it leaves.
+fn push_left<V: View>(text: &mut Vec<u8>, outcome: Outcome, sets: &V) -> Result<(), OutOfMemory> {
     match outcome {
-        Outcome::Stable => push_words(text, "stable"),
-        Outcome::Failed => push_words(text, "failed"),
+        Outcome::Stable => push_words(text, "stable")?,
+        Outcome::Failed => push_words(text, "failed")?,
     }
+    push_sets(text, sets)
+}
+
+/// Adds how filtering ended, what it leaves, and what it removed.
+fn push_noted(text: &mut Vec<u8>, outcome: Outcome, noted: &Noted) -> Result<(), OutOfMemory> {
+    push_left(text, outcome, noted)?;
+    push_words(text, ", removed ")?;
+    push_number(text, noted.cuts as i128)?;
+    push_words(text, " times, last of ")?;
+    push_number(text, noted.last as i128)
 }
 
 /// Adds how the sweep of a constraint ends, what it leaves, and what it removed.
@@ -228,12 +238,8 @@ fn push_swept(
         cuts: 0,
         last: 0,
     };
-    push_outcome(text, sweep(core, c, variables.as_slice(), &mut noted))?;
-    push_sets(text, &noted)?;
-    push_words(text, ", removed ")?;
-    push_number(text, noted.cuts as i128)?;
-    push_words(text, " times, last of ")?;
-    push_number(text, noted.last as i128)
+    let outcome = sweep(core, c, variables.as_slice(), &mut noted);
+    push_noted(text, outcome, &noted)
 }
 
 /// Adds how the filter of a constraint ends, and what it leaves.
@@ -250,11 +256,27 @@ fn push_filtered(
     let mut filter = GenericFilter::new(alloc, core, c)?;
     filter.wake(0);
     let mut sets = sets;
-    push_outcome(text, filter.filter(core, &mut sets))?;
-    push_sets(text, &sets)
+    let outcome = filter.filter(core, &mut sets);
+    push_left(text, outcome, &sets)
 }
 
-/// Adds what a constraint leaves of the sets of a model without constraints.
+/// Adds what this constraint leaves of the sets that the constraints of a model leave.
+fn push_narrowed_by(
+    alloc: Global,
+    text: &mut Vec<u8>,
+    core: &Core,
+    word: &str,
+    c: &Cons,
+) -> Result<(), OutOfMemory> {
+    match left(alloc, core) {
+        Ok(None) => push_words(text, NOT_ASKED),
+        Ok(Some(sets)) if word == "sweep?" => push_swept(alloc, text, core, c, sets),
+        Ok(Some(sets)) => push_filtered(alloc, text, core, c, sets),
+        Err(e) => Err(e),
+    }
+}
+
+/// Adds what a constraint leaves of the sets that the constraints of a model leave.
 fn push_narrowed(
     alloc: Global,
     text: &mut Vec<u8>,
@@ -262,13 +284,9 @@ fn push_narrowed(
     word: &str,
     written: &str,
 ) -> Result<(), OutOfMemory> {
-    let Some(sets) = left(alloc, core)? else {
-        return push_words(text, NOT_ASKED);
-    };
     match constraint(alloc, written)? {
         None => push_words(text, NOT_ASKED),
-        Some(c) if word == "sweep?" => push_swept(alloc, text, core, c.get(), sets),
-        Some(c) => push_filtered(alloc, text, core, c.get(), sets),
+        Some(c) => push_narrowed_by(alloc, text, core, word, c.get()),
     }
 }
 

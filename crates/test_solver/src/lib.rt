@@ -6,25 +6,37 @@ mod noted;
 mod shown;
 
 use answers::push_answers;
-use opl_expr::OutOfMemory;
+use opl_expr::{Core, OutOfMemory};
 use std::alloc::Global;
 use std::rc::Rc;
 use test_cores::Parts;
 
 /// Reads the model of a case.
-fn parts_of(alloc: Global, written: &str) -> Result<Parts, OutOfMemory> {
-    let mut parts = Parts::new(alloc);
+fn read_all(parts: &mut Parts, written: &str) -> Result<(), OutOfMemory> {
     for line in written.split("\n") {
         parts.read(line)?;
     }
-    Ok(parts)
+    Ok(())
+}
+
+/// Adds the lines of a case on a model.
+fn push_lines(
+    alloc: Global,
+    text: &mut Vec<u8>,
+    core: Core,
+    written: &str,
+) -> Result<(), OutOfMemory> {
+    let core = Rc::new(alloc, core)?;
+    push_answers(alloc, text, &core, written)
 }
 
 /// Adds the lines of a case, each question with its answer.
 fn push_case(alloc: Global, text: &mut Vec<u8>, written: &str) -> Result<(), OutOfMemory> {
-    let parts = parts_of(alloc, written)?;
-    let core = Rc::new(alloc, parts.into_core())?;
-    push_answers(alloc, text, &core, written)
+    let mut parts = Parts::new(alloc);
+    match read_all(&mut parts, written) {
+        Ok(()) => push_lines(alloc, text, parts.into_core(), written),
+        Err(e) => Err(e),
+    }
 }
 
 /// The cases, each question with its answer.

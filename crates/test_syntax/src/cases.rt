@@ -42,6 +42,13 @@ pub fn tell_sameness(found: Measures, out: &mut Vec<u8>) -> Result<(), AllocErro
     }
 }
 
+/// Adds the place and the depth of a tree.
+fn tell_measures(found: Measures, out: &mut Vec<u8>) -> Result<(), AllocError> {
+    say_numbered(out, "tree at", found.at)?;
+    say_numbered(out, ", depth", found.depth)?;
+    tell_sameness(found, out)
+}
+
 /// Adds how a text reads.
 fn tell_tree(
     alloc: Global,
@@ -50,9 +57,7 @@ fn tell_tree(
     out: &mut Vec<u8>,
 ) -> Result<(), Stop> {
     let found = measured(alloc, language, text)?;
-    say_numbered(out, "tree at", found.at)?;
-    say_numbered(out, ", depth", found.depth)?;
-    Ok(tell_sameness(found, out)?)
+    tell_measures(found, out).map_err(Stop::from)
 }
 
 /// Adds the answer to a question on a text.

@@ -1,16 +1,21 @@
 //! What is told of a file.
 use crate::cases::{question_of, tell_cases, tell_sameness};
-use crate::reading::{Language, measured};
+use crate::reading::{Language, Measures, measured};
 use crate::stop::{Stop, tell_stop};
 use crate::word::{say, say_numbered};
 use opl_outside::{Found, OutsideError, Shelf};
 use std::alloc::{AllocError, Global};
 
+/// Adds a depth, and whether the tree reads the same.
+fn tell_found(found: Measures, out: &mut Vec<u8>) -> Result<(), AllocError> {
+    say_numbered(out, "depth", found.depth)?;
+    tell_sameness(found, out)
+}
+
 /// Adds how deep a model nests. Behind one that does not read the same once it is spelt anew stands ` otherwise`.
 fn tell_depth(alloc: Global, text: &[u8], out: &mut Vec<u8>) -> Result<(), Stop> {
     let found = measured(alloc, Language::Model, text)?;
-    say_numbered(out, "depth", found.depth)?;
-    Ok(tell_sameness(found, out)?)
+    tell_found(found, out).map_err(Stop::from)
 }
 
 /// Adds what is told of a file that holds one model.

@@ -3,8 +3,10 @@ use crate::stop::Stop;
 use crate::term::tell_term;
 use crate::token::{end_of, tokens_of};
 use crate::word::say;
+use opl_let_go::let_go;
 use opl_parse::parse_model;
 use opl_term::expr_term;
+use opl_token::Token;
 use opl_tree::{ExprTree, InstrTree, ItemTree, ItemsTree, ModelTree};
 use std::alloc::{AllocError, Global};
 
@@ -36,9 +38,20 @@ fn tell_first(alloc: Global, model: &ModelTree, out: &mut Vec<u8>) -> Result<(),
     }
 }
 
+/// Adds what the first item of the model says that these tokens are.
+fn tell_read(alloc: Global, tokens: &[Token], end: u32, out: &mut Vec<u8>) -> Result<(), Stop> {
+    match parse_model(alloc, tokens, end) {
+        Ok(model) => {
+            let told = tell_first(alloc, &model, out);
+            let_go(model);
+            told.map_err(Stop::from)
+        }
+        Err(fault) => Err(Stop::from(fault)),
+    }
+}
+
 /// Adds what the first item of a text's model says.
 pub fn tell_item(alloc: Global, text: &[u8], out: &mut Vec<u8>) -> Result<(), Stop> {
     let tokens = tokens_of(alloc, text)?;
-    let model = parse_model(alloc, tokens.as_slice(), end_of(text))?;
-    tell_first(alloc, &model, out).map_err(Stop::from)
+    tell_read(alloc, tokens.as_slice(), end_of(text), out)
 }

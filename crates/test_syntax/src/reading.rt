@@ -4,6 +4,7 @@ use crate::spelt::text_of;
 use crate::stop::Stop;
 use crate::token::{end_of, tokens_of};
 use opl_data::{DataTree, parse_data};
+use opl_let_go::let_go;
 use opl_parse::parse_model;
 use opl_token::{Kind, Seq, Token};
 use opl_tree::ModelTree;
@@ -41,45 +42,70 @@ pub struct Measures {
     pub is_same: bool,
 }
 
-fn told_of_model(alloc: Global, tree: &ModelTree, depth: u32) -> Result<Told, AllocError> {
-    let kinds = spell_model(alloc, tree)?;
-    Ok(Told {
-        at: tree.at,
-        depth,
-        kinds,
-    })
+fn told_of_model(alloc: Global, tree: &ModelTree, depth: u32) -> Result<Told, Stop> {
+    match spell_model(alloc, tree) {
+        Ok(kinds) => Ok(Told {
+            at: tree.at,
+            depth,
+            kinds,
+        }),
+        Err(e) => Err(Stop::from(e)),
+    }
 }
 
 fn model(alloc: Global, tokens: &[Token], end: u32) -> Result<Told, Stop> {
-    let tree = parse_model(alloc, tokens, end)?;
-    let depth = depth_model(&tree);
-    told_of_model(alloc, &tree, depth).map_err(Stop::from)
+    match parse_model(alloc, tokens, end) {
+        Ok(tree) => {
+            let depth = depth_model(&tree);
+            let told = told_of_model(alloc, &tree, depth);
+            let_go(tree);
+            told
+        }
+        Err(fault) => Err(Stop::from(fault)),
+    }
 }
 
-fn told_of_data(alloc: Global, tree: &DataTree, depth: u32) -> Result<Told, AllocError> {
-    let kinds = spell_data(alloc, tree)?;
-    Ok(Told {
-        at: tree.at,
-        depth,
-        kinds,
-    })
+fn told_of_data(alloc: Global, tree: &DataTree, depth: u32) -> Result<Told, Stop> {
+    match spell_data(alloc, tree) {
+        Ok(kinds) => Ok(Told {
+            at: tree.at,
+            depth,
+            kinds,
+        }),
+        Err(e) => Err(Stop::from(e)),
+    }
 }
 
 fn data_file(alloc: Global, tokens: &[Token], end: u32) -> Result<Told, Stop> {
-    let tree = parse_data(alloc, tokens, end)?;
-    let depth = depth_data(&tree);
-    told_of_data(alloc, &tree, depth).map_err(Stop::from)
+    match parse_data(alloc, tokens, end) {
+        Ok(tree) => {
+            let depth = depth_data(&tree);
+            told_of_data(alloc, &tree, depth)
+        }
+        Err(fault) => Err(Stop::from(fault)),
+    }
+}
+
+/// What is told of the tree of tokens.
+fn told_of_tokens(
+    alloc: Global,
+    language: Language,
+    tokens: &[Token],
+    end: u32,
+) -> Result<Told, Stop> {
+    match language {
+        Language::Model => model(alloc, tokens, end),
+        Language::Data => data_file(alloc, tokens, end),
+    }
 }
 
 /// How a text reads.
 fn read_text(alloc: Global, language: Language, text: &[u8]) -> Result<Reading, Stop> {
     let tokens = tokens_of(alloc, text)?;
-    let end = end_of(text);
-    let told = match language {
-        Language::Model => model(alloc, tokens.as_slice(), end)?,
-        Language::Data => data_file(alloc, tokens.as_slice(), end)?,
-    };
-    Ok(Reading { tokens, told })
+    match told_of_tokens(alloc, language, tokens.as_slice(), end_of(text)) {
+        Ok(told) => Ok(Reading { tokens, told }),
+        Err(stop) => Err(stop),
+    }
 }
 
 /// Whether both are spelt as they were read, and the second is read from what the first is spelt as.
@@ -104,10 +130,12 @@ fn is_read_again(alloc: Global, language: Language, first: &Reading) -> Result<b
 /// How a text reads, and whether what its tree is spelt as reads the same.
 pub fn measured(alloc: Global, language: Language, text: &[u8]) -> Result<Measures, Stop> {
     let first = read_text(alloc, language, text)?;
-    let is_same = is_read_again(alloc, language, &first)?;
-    Ok(Measures {
-        at: first.told.at,
-        depth: first.told.depth,
-        is_same,
-    })
+    match is_read_again(alloc, language, &first) {
+        Ok(is_same) => Ok(Measures {
+            at: first.told.at,
+            depth: first.told.depth,
+            is_same,
+        }),
+        Err(e) => Err(Stop::from(e)),
+    }
 }

@@ -1,5 +1,6 @@
 //! What an expression says, each form in brackets with its name and its place.
-use crate::word::{say, say_bytes, say_number};
+use crate::word::{say, say_bytes, say_number, say_placed};
+use opl_list::Boxed;
 use opl_term::{FieldName, GroupTerm, Pattern, SetTerm, Step, Term};
 use opl_token::Seq;
 use opl_tree::{AggregateOp, CallOp, QuestionOp, Relation};
@@ -74,10 +75,7 @@ fn question_word(op: QuestionOp) -> &'static str {
 #[cycle(terms)]
 pub fn tell_term(t: &Term, out: &mut Vec<u8>) -> Result<(), AllocError> {
     let (name, at) = form(t);
-    say(out, "(")?;
-    say(out, name)?;
-    say(out, "@")?;
-    say_number(out, at as i128)?;
+    say_placed(out, "(", name, at)?;
     tell_parts(t, out)?;
     say(out, ")")
 }
@@ -86,80 +84,88 @@ pub fn tell_term(t: &Term, out: &mut Vec<u8>) -> Result<(), AllocError> {
 #[cycle(terms)]
 fn tell_parts(t: &Term, out: &mut Vec<u8>) -> Result<(), AllocError> {
     match t {
-        Term::Number(_, value) => {
-            say(out, " ")?;
-            say_number(out, *value)
-        }
+        Term::Number(_, value) => tell_value(*value, out),
         Term::Named(_, name) => tell_name(name.as_slice(), out),
-        Term::Bracket(_, a) => tell_part(a.get(), out),
-        Term::Negative(_, a) => tell_part(a.get(), out),
-        Term::Chain(_, a, steps) => {
+        Term::Bracket(_, a) | Term::Negative(_, a) | Term::Not(_, a) | Term::AllDifferent(_, a) =>
+            tell_part(a.get(), out),
+        Term::Call(_, op, a) => tell_of(call_word(*op), a.get(), out),
+        Term::Question(_, op, a) => tell_of(question_word(*op), a.get(), out),
+        Term::Equivalent(_, parts)
+        | Term::Or(_, parts)
+        | Term::And(_, parts)
+        | Term::Record(_, parts)
+        | Term::Listed(_, parts)
+        | Term::Array(_, parts) => tell_all("", parts.as_slice(), out),
+        Term::Chain(_, a, _)
+        | Term::Related(_, a, _, _)
+        | Term::Member(_, a, _)
+        | Term::Implied(_, a, _)
+        | Term::Element(_, a, _)
+        | Term::Described(_, a, _, _) => {
             tell_part(a.get(), out)?;
-            tell_steps(steps.as_slice(), out)
+            tell_rest(t, out)
         }
-        Term::Related(_, a, relation, b) => {
-            tell_part(a.get(), out)?;
-            tell_of(relation_word(*relation), b.get(), out)
-        }
-        Term::Member(_, a, over) => {
-            tell_part(a.get(), out)?;
-            tell_set(over, out)
-        }
-        Term::Equivalent(_, parts) => tell_all(parts.as_slice(), out),
-        Term::Implied(_, a, b) => {
-            tell_part(a.get(), out)?;
-            tell_of(" =>", b.get(), out)
-        }
-        Term::Or(_, parts) => tell_all(parts.as_slice(), out),
-        Term::And(_, parts) => tell_all(parts.as_slice(), out),
-        Term::Not(_, a) => tell_part(a.get(), out),
         Term::Aggregate(_, op, groups, condition, a) => {
-            say(out, aggregate_word(*op))?;
-            tell_groups(groups.as_slice(), out)?;
-            match condition {
-                Some(c) => tell_of(" if", c.get(), out)?,
-                None => (),
-            }
+            tell_groups(aggregate_word(*op), groups.as_slice(), out)?;
+            tell_condition(condition, out)?;
             tell_part(a.get(), out)
         }
-        Term::Call(_, op, a) => tell_of(call_word(*op), a.get(), out),
-        Term::AllDifferent(_, a) => tell_part(a.get(), out),
-        Term::Question(_, op, a) => tell_of(question_word(*op), a.get(), out),
-        Term::Element(_, a, subscripts) => {
-            tell_part(a.get(), out)?;
-            tell_all(subscripts.as_slice(), out)
-        }
         Term::Fields(at, a, names) => {
-            for _ in 1..names.len() {
-                say(out, " (field@")?;
-                say_number(out, *at as i128)?;
-            }
+            open_fields(*at, names.len(), out)?;
             tell_part(a.get(), out)?;
             tell_fields(names.as_slice(), out)
         }
-        Term::Record(_, parts) => tell_all(parts.as_slice(), out),
-        Term::Listed(_, parts) => tell_all(parts.as_slice(), out),
-        Term::Described(_, a, groups, condition) => {
-            tell_part(a.get(), out)?;
-            tell_groups(groups.as_slice(), out)?;
-            match condition {
-                Some(c) => tell_of(" if", c.get(), out),
-                None => Ok(()),
-            }
-        }
-        Term::Array(_, parts) => tell_all(parts.as_slice(), out),
         Term::KeyedArray(_, keys, cells) => {
-            tell_all(keys.as_slice(), out)?;
-            say(out, " :")?;
-            tell_all(cells.as_slice(), out)
+            tell_all("", keys.as_slice(), out)?;
+            tell_all(" :", cells.as_slice(), out)
         }
     }
+}
+
+/// Adds what stands behind the first part of an expression.
+#[cycle(terms)]
+fn tell_rest(t: &Term, out: &mut Vec<u8>) -> Result<(), AllocError> {
+    match t {
+        Term::Chain(_, _, steps) => tell_steps(steps.as_slice(), out),
+        Term::Related(_, _, relation, b) => tell_of(relation_word(*relation), b.get(), out),
+        Term::Member(_, _, over) => tell_set(over, out),
+        Term::Implied(_, _, b) => tell_of(" =>", b.get(), out),
+        Term::Element(_, _, subscripts) => tell_all("", subscripts.as_slice(), out),
+        Term::Described(_, _, groups, condition) => {
+            tell_groups("", groups.as_slice(), out)?;
+            tell_condition(condition, out)
+        }
+        _ => Ok(()),
+    }
+}
+
+/// Adds a condition, if there is one.
+#[cycle(terms)]
+fn tell_condition(condition: &Option<Boxed<Term>>, out: &mut Vec<u8>) -> Result<(), AllocError> {
+    match condition {
+        Some(c) => tell_of(" if", c.get(), out),
+        None => Ok(()),
+    }
+}
+
+/// Adds a number behind a blank.
+fn tell_value(value: i128, out: &mut Vec<u8>) -> Result<(), AllocError> {
+    say(out, " ")?;
+    say_number(out, value)
 }
 
 /// Adds a name behind a blank.
 fn tell_name(name: &[u8], out: &mut Vec<u8>) -> Result<(), AllocError> {
     say(out, " ")?;
     say_bytes(out, name)
+}
+
+/// Opens a bracket for each of the fields of a chain but the last, which is the whole.
+fn open_fields(at: u32, count: usize, out: &mut Vec<u8>) -> Result<(), AllocError> {
+    for _ in 1..count {
+        say_placed(out, " (", "field", at)?;
+    }
+    Ok(())
 }
 
 /// Adds the names of a chain of fields. A bracket closes behind each but the last, which is that of the whole.
@@ -196,9 +202,10 @@ fn tell_of(word: &str, t: &Term, out: &mut Vec<u8>) -> Result<(), AllocError> {
     tell_part(t, out)
 }
 
-/// Adds parts in their order.
+/// Adds parts in their order behind a word.
 #[cycle(terms)]
-fn tell_all(parts: &[Term], out: &mut Vec<u8>) -> Result<(), AllocError> {
+fn tell_all(word: &str, parts: &[Term], out: &mut Vec<u8>) -> Result<(), AllocError> {
+    say(out, word)?;
     for part in parts {
         tell_part(part, out)?;
     }
@@ -239,9 +246,10 @@ fn tell_set(over: &SetTerm, out: &mut Vec<u8>) -> Result<(), AllocError> {
     }
 }
 
-/// Adds groups of parameters.
+/// Adds groups of parameters behind a word.
 #[cycle(terms)]
-fn tell_groups(groups: &[GroupTerm], out: &mut Vec<u8>) -> Result<(), AllocError> {
+fn tell_groups(word: &str, groups: &[GroupTerm], out: &mut Vec<u8>) -> Result<(), AllocError> {
+    say(out, word)?;
     for group in groups {
         tell_group(group, out)?;
     }
@@ -253,21 +261,20 @@ fn tell_groups(groups: &[GroupTerm], out: &mut Vec<u8>) -> Result<(), AllocError
 fn tell_group(group: &GroupTerm, out: &mut Vec<u8>) -> Result<(), AllocError> {
     match group {
         GroupTerm::Unordered(patterns, over) => {
-            say(out, " (group")?;
-            tell_patterns(patterns.as_slice(), out)?;
+            tell_patterns(" (group", patterns.as_slice(), out)?;
             tell_set(over, out)?;
         }
         GroupTerm::Ordered(patterns, over) => {
-            say(out, " (ordered")?;
-            tell_patterns(patterns.as_slice(), out)?;
+            tell_patterns(" (ordered", patterns.as_slice(), out)?;
             tell_set(over, out)?;
         }
     }
     say(out, ")")
 }
 
-/// Adds what elements are called.
-fn tell_patterns(patterns: &[Pattern], out: &mut Vec<u8>) -> Result<(), AllocError> {
+/// Adds what elements are called behind a word.
+fn tell_patterns(word: &str, patterns: &[Pattern], out: &mut Vec<u8>) -> Result<(), AllocError> {
+    say(out, word)?;
     for pattern in patterns {
         match pattern {
             Pattern::Single(name) => tell_name(name.as_slice(), out)?,

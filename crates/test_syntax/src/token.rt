@@ -15,7 +15,7 @@ pub fn tokens_of(alloc: Global, text: &[u8]) -> Result<Seq<Token>, Stop> {
     if text.len() > MAX_BYTES {
         return Err(Stop::OutOfMemory);
     }
-    Ok(scan(alloc, text)?)
+    scan(alloc, text).map_err(Stop::from)
 }
 
 /// The place behind a text that is read.
@@ -30,7 +30,7 @@ pub fn end_of(text: &[u8]) -> u32 {
 /// Adds the tokens of a text, each behind its place.
 pub fn tell_tokens(alloc: Global, text: &[u8], out: &mut Vec<u8>) -> Result<(), Stop> {
     let tokens = tokens_of(alloc, text)?;
-    Ok(tell_each(alloc, tokens.as_slice(), out)?)
+    tell_each(alloc, tokens.as_slice(), out).map_err(Stop::from)
 }
 
 /// Adds tokens.

@@ -9,8 +9,7 @@ pub fn say(out: &mut Vec<u8>, word: &str) -> Result<(), AllocError> {
 
 /// Adds bytes as they are.
 pub fn say_bytes(out: &mut Vec<u8>, bytes: &[u8]) -> Result<(), AllocError> {
-    out.extend_from_slice(bytes)?;
-    Ok(())
+    out.extend_from_slice(bytes)
 }
 
 /// Adds a number.
@@ -23,4 +22,12 @@ pub fn say_numbered(out: &mut Vec<u8>, word: &str, number: u32) -> Result<(), Al
     say(out, word)?;
     say(out, " ")?;
     say_number(out, number as i128)
+}
+
+/// Adds words, and a number behind a sign for its place.
+pub fn say_placed(out: &mut Vec<u8>, open: &str, word: &str, at: u32) -> Result<(), AllocError> {
+    say(out, open)?;
+    say(out, word)?;
+    say(out, "@")?;
+    say_number(out, at as i128)
 }
