@@ -1,7 +1,6 @@
 //! Data files: their trees, and the reader of their tokens.
 #![tactic(auto)]
 
-mod keeping;
 pub mod laws;
 mod reader;
 mod tree;

@@ -6,10 +6,10 @@ ghost use Rattle.opl_data.specs.Grammar as rules;
 ghost use Rattle.opl_tree.specs.Depth.{max_nesting};
 ghost use Rattle.std.specs.Prelude.{◌≡◌, ⊤};
 
-use crate::keeping::keep;
 use crate::tree::{DataItem, DataTree};
 use crate::value::{name, read_value};
 use opl_grammar::Cursor;
+use opl_grammar::keeping::keep;
 use opl_grammar::list::{Part, many};
 use opl_token::{Sign, Token};
 use opl_tree::{MAX_NESTING, SyntaxFault};

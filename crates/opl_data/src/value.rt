@@ -1,18 +1,18 @@
 //! Readers of values, each over what stands one level deeper.
-ghost use Rattle.std.specs.Prelude.{◌≡◌, ◌∷◌, suc, IfOk, ⊤};
+ghost use Rattle.std.specs.Prelude.{◌≡◌, suc, ⊤};
 ghost use Rattle.opl_grammar.specs.Input.{Reads};
 ghost use Rattle.opl_data.specs.Grammar as rules;
 ghost use Rattle.opl_data.specs.Grammar.{Rules};
 ghost use Rattle.opl_data.specs.Nests.{Nests};
 
-use crate::keeping::keep;
 use crate::tree::{DataPair, DataValue};
+use opl_grammar::keeping::{keep, with_first};
 use opl_grammar::list::{Phrase, after_each};
 use opl_grammar::{Cursor, Look};
 use opl_list::{Boxed, Seq};
 use opl_token::Sign;
 use opl_tree::{NameTree, SyntaxFault};
-use std::alloc::{AllocError, Global};
+use std::alloc::Global;
 
 /// Whether a value begins with what is seen.
 fn starts_value(look: Look) -> bool
@@ -50,16 +50,6 @@ fn number_value(cursor: &mut Cursor<'_>) -> Result<DataValue, SyntaxFault>
     let at = cursor.place();
     let value = cursor.take_number()?;
     Ok(DataValue::Number(at, false, value))
-}
-
-/// A list of one part, then the others.
-fn with_first<T: Drop>(alloc: Global, first: T, rest: Seq<T>) -> Result<Seq<T>, AllocError>
-    ensures { IfOk result (λ all. all ≡ first ∷ rest) }
-{
-    let mut all = Vec::new(alloc);
-    all.push(first)?;
-    all.append(&mut rest.into_vec())?;
-    Ok(Seq::from_vec(all))
 }
 
 /// The phrases that stand behind a token that opens a level. Each is given the place of that token.
@@ -170,7 +160,7 @@ fn listed<V: Phrase<DataValue>>(
         return Ok(Seq::new(alloc));
     }
     let (first, rest) = values(alloc, cursor, value)?;
-    Ok(with_first(alloc, first, rest)?)
+    Ok(with_first(first, rest)?)
 }
 
 /// A pair of values.
@@ -207,7 +197,7 @@ fn pairs<V: Phrase<DataValue>>(
     let pair = Pair { value };
     let first = pair.phrase(cursor)?;
     let (first, rest) = keep(first, after_each(alloc, cursor, Sign::Comma, &pair))?;
-    Ok(with_first(alloc, first, rest)?)
+    Ok(with_first(first, rest)?)
 }
 
 /// `VALUE:VALUE, VALUE:VALUE, ..` or nothing

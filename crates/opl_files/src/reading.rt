@@ -10,7 +10,7 @@ use crate::refusal::Fault;
 use crate::scanning::{Tokens, tokens_of, tokens_of_data};
 use crate::stop::{Stop, refused};
 use opl_data::DataTree;
-use opl_let_go::let_go;
+use opl_let_go::LetGo;
 use opl_list::Seq;
 use opl_parse::parse_model;
 use opl_tree::{ModelTree, SyntaxFault};
@@ -61,7 +61,7 @@ fn understand(alloc: Global, tokens: &Tokens, others: &[Tokens]) -> Result<Front
     match data_trees(alloc, others) {
         Ok(files) => front(files, typed(alloc, tree)),
         Err(stop) => {
-            let_go(tree);
+            tree.let_go();
             Err(stop)
         }
     }

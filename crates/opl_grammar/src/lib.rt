@@ -2,6 +2,7 @@
 #![tactic(auto)]
 
 mod cursor;
+pub mod keeping;
 pub mod list;
 mod look;
 mod parts;

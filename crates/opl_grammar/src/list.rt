@@ -5,6 +5,8 @@ ghost use Rattle.opl_grammar.specs.Input.{Parser, Reads, kind, ◌>>◌};
 ghost use Rattle.opl_token.specs.declared.token.Kind.{Kind};
 
 use crate::cursor::Cursor;
+use crate::keeping::{keep, with_last};
+use opl_let_go::LetGo;
 use opl_list::Seq;
 use opl_token::Sign;
 use opl_tree::SyntaxFault;
@@ -65,7 +67,7 @@ impl<'p, T, P: Phrase<T>> Part<T> for After<'p, P> {
 }
 
 /// Phrases, each behind the sign.
-pub fn after_each<T: Drop, P: Phrase<T>>(
+pub fn after_each<T: LetGo, P: Phrase<T>>(
     alloc: Global,
     cursor: &mut Cursor<'_>,
     sign: Sign,
@@ -79,7 +81,7 @@ pub fn after_each<T: Drop, P: Phrase<T>>(
 
 /// Parts, as long as one begins.
 #[tactic(auto, unfolding(crate::specs::Input::many, crate::specs::Input::many_from))]
-pub fn many<T: Drop, P: Part<T>>(
+pub fn many<T: LetGo, P: Part<T>>(
     alloc: Global,
     cursor: &mut Cursor<'_>,
     part: &P,
@@ -92,14 +94,16 @@ pub fn many<T: Drop, P: Part<T>>(
         if !part.starts(cursor) {
             return Ok(found);
         }
-        found.push(part.read(cursor)?)?;
+        let (before, next) = keep(found, part.read(cursor))?;
+        found = with_last(before, next)?;
     }
+    found.let_go();
     Err(cursor.refuse())
 }
 
 /// Parts, each behind the sign, and whether the sign stands once more behind them all.
 #[tactic(auto, unfolding(crate::specs::Input::behind, crate::specs::Input::behind_from))]
-pub fn behind<T: Drop, P: Part<T>>(
+pub fn behind<T: LetGo, P: Part<T>>(
     alloc: Global,
     cursor: &mut Cursor<'_>,
     sign: Sign,
@@ -116,7 +120,9 @@ pub fn behind<T: Drop, P: Part<T>>(
         if !part.starts(cursor) {
             return Ok((found, true));
         }
-        found.push(part.read(cursor)?)?;
+        let (before, next) = keep(found, part.read(cursor))?;
+        found = with_last(before, next)?;
     }
+    found.let_go();
     Err(cursor.refuse())
 }

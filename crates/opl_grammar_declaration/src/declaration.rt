@@ -6,9 +6,10 @@ ghost use Rattle.opl_grammar.specs.Input.{Reads};
 ghost use Rattle.opl_grammar.specs.Tables as tables;
 
 use opl_grammar::Cursor;
+use opl_grammar::keeping::keep;
 use opl_grammar::list::{Part, many};
 use opl_grammar::tables::{schedule_end, starts_decl, starts_type};
-use opl_level::{Below, Level, keep, name};
+use opl_level::{Below, Level, name};
 use opl_list::{Boxed, Seq};
 use opl_token::Sign;
 use opl_tree::{

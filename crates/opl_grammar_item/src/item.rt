@@ -9,9 +9,10 @@ ghost use Rattle.opl_grammar.specs.Tables as tables;
 ghost use Rattle.opl_grammar_item.specs.Blocks.{block_item};
 
 use opl_grammar::Cursor;
+use opl_grammar::keeping::{boxed, keep};
 use opl_grammar::list::{Part, behind};
 use opl_grammar::tables::{optimum, starts_item};
-use opl_level::{Below, Level, into_post, keep, name};
+use opl_level::{Below, Level, into_post, name};
 use opl_list::Boxed;
 use opl_token::Sign;
 use opl_tree::{
@@ -81,7 +82,7 @@ impl<B: Below, I: Inner> Items<B, I> {
         ensures { Reads (block_item (B.rules self.now.level.below) (I.rules self.now.inner) cursor.old) result cursor.new }
     {
         let item = ItemTree::Block(self.block(cursor)?);
-        Ok(Boxed::new(self.level.alloc, item)?)
+        Ok(boxed(self.level.alloc, item)?)
     }
 
     /// `forall (PARAMS) ITEM`
@@ -96,7 +97,7 @@ impl<B: Below, I: Inner> Items<B, I> {
         cursor.expect_word(Keyword::ForAll)?;
         let (params, body) = self.inner.for_all(cursor, at)?;
         let item = ItemTree::ForAll(at, params.into_inner(), body);
-        Ok(Boxed::new(self.level.alloc, item)?)
+        Ok(boxed(self.level.alloc, item)?)
     }
 
     /// `if EXPR then ITEMS endif`, or with `else ITEMS` before `endif`
@@ -111,7 +112,7 @@ impl<B: Below, I: Inner> Items<B, I> {
         cursor.expect_word(Keyword::If)?;
         let (condition, body, other) = self.inner.branches(cursor, at)?;
         let item = ItemTree::If(at, condition.into_inner(), body, other);
-        Ok(Boxed::new(self.level.alloc, item)?)
+        Ok(boxed(self.level.alloc, item)?)
     }
 
     /// `precedes POST`, where what stands before is just a post
@@ -131,7 +132,7 @@ impl<B: Below, I: Inner> Items<B, I> {
         let (before, ()) = keep(before, cursor.expect_word(Keyword::Precedes))?;
         let (before, after) = keep(before, self.level.post(cursor))?;
         let item = ItemTree::Precedes(at, before, after);
-        Ok(Boxed::new(self.level.alloc, item)?)
+        Ok(boxed(self.level.alloc, item)?)
     }
 
     /// `(ADD)`
@@ -216,7 +217,7 @@ impl<B: Below, I: Inner> Items<B, I> {
         match activity {
             Some(activity) => {
                 let item = ItemTree::Requires(self.requires_tree(cursor, at, activity)?);
-                Ok(Boxed::new(self.level.alloc, item)?)
+                Ok(boxed(self.level.alloc, item)?)
             }
             None => Err(cursor.refuse()),
         }
@@ -240,7 +241,7 @@ impl<B: Below, I: Inner> Items<B, I> {
             self.required(cursor, at, into_post(t.into_inner()))
         } else {
             let item = ItemTree::Constraint(t.into_inner());
-            Ok(Boxed::new(self.level.alloc, item)?)
+            Ok(boxed(self.level.alloc, item)?)
         }
     }
 

@@ -11,7 +11,6 @@ pub enum WantedItems {
 }
 
 /// What was found there.
-#[derive(Drop)]
 pub enum FoundItems {
     Items(ItemsTree),
     ForAll(Boxed<ParamsTree>, Boxed<ItemTree>),

@@ -9,10 +9,11 @@ ghost use Rattle.opl_grammar.specs.Rules as phrases;
 ghost use Rattle.opl_grammar.specs.Search as statements;
 
 use opl_grammar::Cursor;
+use opl_grammar::keeping::keep;
 use opl_grammar_declaration::decls;
 use opl_grammar_item::instr;
 use opl_grammar_statement::search_section;
-use opl_level::{Level, keep};
+use opl_level::Level;
 use opl_phrase::Phrases;
 use opl_token::Token;
 use opl_tree::{Keyword, MAX_NESTING, ModelTree, SearchTree, SyntaxFault};

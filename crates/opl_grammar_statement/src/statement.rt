@@ -8,9 +8,10 @@ ghost use Rattle.opl_grammar.specs.Tables as tables;
 ghost use Rattle.opl_grammar_statement.specs.Blocks.{block_statement};
 
 use opl_grammar::Cursor;
+use opl_grammar::keeping::{boxed, keep};
 use opl_grammar::list::{Part, Phrase, after_each, behind};
 use opl_grammar::tables::{branch_op, label_op, starts_statement};
-use opl_level::{Below, Level, into_post, keep};
+use opl_level::{Below, Level, into_post};
 use opl_list::{Boxed, Seq};
 use opl_token::Sign;
 use opl_tree::{
@@ -107,7 +108,7 @@ impl<B: Below, I: Beneath> Statements<B, I> {
         ensures { Reads (block_statement (B.rules self.now.level.below) (I.rules self.now.inner) cursor.old) result cursor.new }
     {
         let tree = StatementTree::Block(self.search_block(cursor)?);
-        Ok(Boxed::new(self.level.alloc, tree)?)
+        Ok(boxed(self.level.alloc, tree)?)
     }
 
     /// `try STATEMENTS | STATEMENTS | .. endtry`
@@ -122,7 +123,7 @@ impl<B: Below, I: Beneath> Statements<B, I> {
         cursor.expect_word(Keyword::Try)?;
         let (first, second, rest) = self.inner.alternatives(cursor, at)?;
         let tree = StatementTree::Try(at, first, second, rest);
-        Ok(Boxed::new(self.level.alloc, tree)?)
+        Ok(boxed(self.level.alloc, tree)?)
     }
 
     /// `tryall (PARAMS) STATEMENT` and the like
@@ -137,7 +138,7 @@ impl<B: Below, I: Beneath> Statements<B, I> {
         let op = cursor.take_found(branch_op(cursor.look()))?;
         let (params, body) = self.inner.branch(cursor, at)?;
         let tree = StatementTree::Branch(at, op, params.into_inner(), body);
-        Ok(Boxed::new(self.level.alloc, tree)?)
+        Ok(boxed(self.level.alloc, tree)?)
     }
 
     /// `once STATEMENT`
@@ -151,7 +152,7 @@ impl<B: Below, I: Beneath> Statements<B, I> {
         let at = cursor.place();
         cursor.expect_word(Keyword::Once)?;
         let body = self.inner.statement(cursor, at)?;
-        Ok(Boxed::new(self.level.alloc, StatementTree::Once(at, body))?)
+        Ok(boxed(self.level.alloc, StatementTree::Once(at, body))?)
     }
 
     /// `while EXPR do STATEMENT`
@@ -166,7 +167,7 @@ impl<B: Below, I: Beneath> Statements<B, I> {
         cursor.expect_word(Keyword::While)?;
         let (condition, body) = self.inner.repeated(cursor, at)?;
         let tree = StatementTree::While(at, condition.into_inner(), body);
-        Ok(Boxed::new(self.level.alloc, tree)?)
+        Ok(boxed(self.level.alloc, tree)?)
     }
 
     /// `if EXPR then STATEMENTS endif`, or with `else STATEMENTS` before `endif`
@@ -181,7 +182,7 @@ impl<B: Below, I: Beneath> Statements<B, I> {
         cursor.expect_word(Keyword::If)?;
         let (condition, body, other) = self.inner.choice(cursor, at)?;
         let tree = StatementTree::If(at, condition.into_inner(), body, other);
-        Ok(Boxed::new(self.level.alloc, tree)?)
+        Ok(boxed(self.level.alloc, tree)?)
     }
 
     /// `generate (POST)` or `rank (POST)`
@@ -196,7 +197,7 @@ impl<B: Below, I: Beneath> Statements<B, I> {
         let op = cursor.take_found(label_op(cursor.look()))?;
         let inner = self.level.asked(cursor)?;
         let tree = StatementTree::Label(at, op, inner.into_inner());
-        Ok(Boxed::new(self.level.alloc, tree)?)
+        Ok(boxed(self.level.alloc, tree)?)
     }
 
     /// `precedes POST`, where what stands before is just a post
@@ -216,7 +217,7 @@ impl<B: Below, I: Beneath> Statements<B, I> {
         let (before, ()) = keep(before, cursor.expect_word(Keyword::Precedes))?;
         let (before, after) = keep(before, self.level.post(cursor))?;
         let tree = StatementTree::Precedes(at, before, after);
-        Ok(Boxed::new(self.level.alloc, tree)?)
+        Ok(boxed(self.level.alloc, tree)?)
     }
 
     /// What a statement that begins with this expression at this place is.
@@ -235,7 +236,7 @@ impl<B: Below, I: Beneath> Statements<B, I> {
             self.posted_precedes(cursor, at, into_post(t.into_inner()))
         } else {
             let tree = StatementTree::Constraint(t.into_inner());
-            Ok(Boxed::new(self.level.alloc, tree)?)
+            Ok(boxed(self.level.alloc, tree)?)
         }
     }
 

@@ -14,7 +14,6 @@ pub enum WantedStatements {
 }
 
 /// What was found there.
-#[derive(Drop)]
 pub enum FoundStatements {
     Statements(StatementsTree),
     Alternatives(StatementsTree, StatementsTree, Seq<StatementsTree>),

@@ -1,8 +1,13 @@
-//! Letting go of a model's tree. Whoever lets go of a value proves of each type in it how that is done, which takes two minutes of
-//! a processor for the trees of a model. So this crate alone does it; the others hand the tree over.
+//! Letting go of trees. Whoever lets go of a value proves of each type in it how that is done, which takes two minutes of a
+//! processor for the trees of a model. So this crate alone does it; the others call `let_go`.
 #![tactic(auto)]
 
-use opl_tree::ModelTree;
+mod parts;
+mod trees;
 
-/// Lets go of a tree.
-pub fn let_go(_model: ModelTree) {}
+/// What is let go of by a call. As the bound of a parameter it stands in place of `Drop`: whoever calls such a function proves
+/// nothing of how the value ends.
+pub trait LetGo {
+    /// Lets go of the value.
+    fn let_go(self);
+}

@@ -1,13 +1,13 @@
 //! What stands in brackets.
-ghost use Rattle.std.specs.Prelude.{◌≡◌, ◌∷◌, IfOk};
+ghost use Rattle.std.specs.Prelude.{◌≡◌};
 ghost use Rattle.opl_grammar.specs.Input.{Reads};
 ghost use Rattle.opl_grammar.specs.Rules as rules;
 ghost use Rattle.opl_grammar.specs.Tables as tables;
 
 use crate::below::{Below, Level};
 use crate::just::into_name;
-use crate::keeping::keep;
 use crate::word::name;
+use opl_grammar::keeping::{boxed, keep, with_first};
 use opl_grammar::list::{Part, Phrase, after_each, many};
 use opl_grammar::tables::{starts_add, starts_type};
 use opl_grammar::{Braced, Cursor};
@@ -17,18 +17,6 @@ use opl_tree::{
     AddTree, DimTree, FieldTree, KeyedTree, Keyword, MulTree, ParamsTree, SetTree, SyntaxFault,
     TypeTree,
 };
-use std::alloc::{AllocError, Global};
-
-/// A list of one part, then the others.
-#[inline(never)]
-fn with_first<T: Drop>(alloc: Global, first: Boxed<T>, rest: Seq<T>) -> Result<Seq<T>, AllocError>
-    ensures { IfOk result (λ all. all ≡ first ∷ rest) }
-{
-    let mut all = Vec::new(alloc);
-    all.push(first.into_inner())?;
-    all.append(&mut rest.into_vec())?;
-    Ok(Seq::from_vec(all))
-}
 
 impl<B: Below> Level<B> {
     /// `(PARAMS) MUL`
@@ -54,7 +42,7 @@ impl<B: Below> Level<B> {
             return Ok(Seq::new(self.alloc));
         }
         let (first, rest) = self.adds(cursor)?;
-        Ok(with_first(self.alloc, first, rest)?)
+        Ok(with_first(first.into_inner(), rest)?)
     }
 
     /// `| PARAMS`
@@ -83,7 +71,7 @@ impl<B: Below> Level<B> {
         ensures { Reads (rules.listed_behind (B.rules self.now.below) first cursor.old) result cursor.new }
     {
         let (first, rest) = keep(first, after_each(self.alloc, cursor, Sign::Comma, self))?;
-        Ok(Braced::Listed(with_first(self.alloc, first, rest)?))
+        Ok(Braced::Listed(with_first(first.into_inner(), rest)?))
     }
 
     /// `ADD, ADD, ..` or `ADD | PARAMS`
@@ -126,7 +114,7 @@ impl<B: Below> Level<B> {
             key: key.into_inner(),
             value: value.into_inner(),
         };
-        Ok(Boxed::new(self.alloc, part)?)
+        Ok(boxed(self.alloc, part)?)
     }
 
     /// `ADD:ADD, ADD:ADD, ..`
@@ -137,7 +125,7 @@ impl<B: Below> Level<B> {
     {
         let first = self.keyed_part(cursor)?;
         let (first, rest) = keep(first, after_each(self.alloc, cursor, Sign::Comma, self))?;
-        Ok(with_first(self.alloc, first, rest)?)
+        Ok(with_first(first.into_inner(), rest)?)
     }
 
     /// `ADD:ADD, ADD:ADD, ..` or nothing
@@ -187,7 +175,7 @@ impl<B: Below> Level<B> {
         cursor.expect_sign(Sign::OpenBrace)?;
         let inner = self.below.type_tree(cursor, at)?;
         let (inner, ()) = keep(inner, cursor.expect_sign(Sign::CloseBrace))?;
-        Ok(TypeTree::Set(at, Boxed::new(self.alloc, inner)?))
+        Ok(TypeTree::Set(at, boxed(self.alloc, inner)?))
     }
 
     /// `int`, `{TYPE}` or `NAME`
@@ -252,12 +240,12 @@ impl<B: Below> Level<B> {
         let Some(name) = into_name(set.into_inner()) else {
             return Err(cursor.refuse());
         };
-        cursor.expect_word(Keyword::In)?;
-        let set = self.set(cursor)?.into_inner();
+        let (name, ()) = keep(name, cursor.expect_word(Keyword::In))?;
+        let (name, set) = keep(name, self.set(cursor))?;
         Ok(DimTree {
             at,
             name: Some(name),
-            set,
+            set: set.into_inner(),
         })
     }
 

@@ -2,6 +2,7 @@
 ghost use Rattle.std.specs.Prelude.{◌≡◌, None};
 ghost use Rattle.opl_grammar.specs.Just as just;
 
+use opl_let_go::LetGo;
 use opl_tree::{
     AddTree, AndTree, CompareTree, ExprTree, ImpTree, MulTree, NameTree, NegTree, OrTree, PostTree,
     PrimTree, SetTree, SignTree,
@@ -9,16 +10,18 @@ use opl_tree::{
 
 /// Nothing, in place of what is more than was asked for. So the type that is let go of is a parameter, and each such place
 /// is short to prove.
-fn no_more<T: Drop, U>(_value: T) -> Option<U>
+fn no_more<T: LetGo, U>(value: T) -> Option<U>
     ensures { result ≡ None }
 {
+    value.let_go();
     None
 }
 
 /// A value without what stands beside it.
-fn without<T, U: Drop>(value: T, _beside: U) -> T
+fn without<T, U: LetGo>(value: T, beside: U) -> T
     ensures { result ≡ value }
 {
+    beside.let_go();
     value
 }
 
@@ -55,10 +58,15 @@ fn post_of_mul(t: MulTree) -> Option<PostTree>
 fn post_of_add(t: AddTree) -> Option<PostTree>
     ensures { result ≡ just.post_of_add t }
 {
-    if t.rest.is_empty() {
-        post_of_mul(t.first)
+    let AddTree {
+        at: _at,
+        first,
+        rest,
+    } = t;
+    if rest.is_empty() {
+        post_of_mul(without(first, rest))
     } else {
-        no_more(t)
+        no_more((first, rest))
     }
 }
 
@@ -90,10 +98,15 @@ fn post_of_neg(t: NegTree) -> Option<PostTree>
 fn post_of_and(t: AndTree) -> Option<PostTree>
     ensures { result ≡ just.post_of_and t }
 {
-    if t.rest.is_empty() {
-        post_of_neg(t.first)
+    let AndTree {
+        at: _at,
+        first,
+        rest,
+    } = t;
+    if rest.is_empty() {
+        post_of_neg(without(first, rest))
     } else {
-        no_more(t)
+        no_more((first, rest))
     }
 }
 
@@ -102,10 +115,15 @@ fn post_of_and(t: AndTree) -> Option<PostTree>
 fn post_of_or(t: OrTree) -> Option<PostTree>
     ensures { result ≡ just.post_of_or t }
 {
-    if t.rest.is_empty() {
-        post_of_and(t.first)
+    let OrTree {
+        at: _at,
+        first,
+        rest,
+    } = t;
+    if rest.is_empty() {
+        post_of_and(without(first, rest))
     } else {
-        no_more(t)
+        no_more((first, rest))
     }
 }
 
@@ -114,10 +132,14 @@ fn post_of_or(t: OrTree) -> Option<PostTree>
 fn post_of_imp(t: ImpTree) -> Option<PostTree>
     ensures { result ≡ just.post_of_imp t }
 {
-    if t.conclusion.is_none() {
-        post_of_or(t.premise)
-    } else {
-        no_more(t)
+    let ImpTree {
+        at: _at,
+        premise,
+        conclusion,
+    } = t;
+    match conclusion {
+        None => post_of_or(premise),
+        Some(conclusion) => no_more((premise, conclusion)),
     }
 }
 
@@ -126,10 +148,15 @@ fn post_of_imp(t: ImpTree) -> Option<PostTree>
 pub fn into_post(t: ExprTree) -> Option<PostTree>
     ensures { result ≡ just.post_of t }
 {
-    if t.rest.is_empty() {
-        post_of_imp(t.first)
+    let ExprTree {
+        at: _at,
+        first,
+        rest,
+    } = t;
+    if rest.is_empty() {
+        post_of_imp(without(first, rest))
     } else {
-        no_more(t)
+        no_more((first, rest))
     }
 }
 
@@ -149,10 +176,15 @@ fn name_of_prim(t: PrimTree) -> Option<NameTree>
 fn name_of_post(t: PostTree) -> Option<NameTree>
     ensures { result ≡ just.name_of_post t }
 {
-    if t.suffixes.is_empty() {
-        name_of_prim(t.prim)
+    let PostTree {
+        at: _at,
+        prim,
+        suffixes,
+    } = t;
+    if suffixes.is_empty() {
+        name_of_prim(without(prim, suffixes))
     } else {
-        no_more(t)
+        no_more((prim, suffixes))
     }
 }
 
@@ -171,9 +203,9 @@ fn name_of_found(found: Option<PostTree>) -> Option<NameTree>
 pub fn into_name(t: SetTree) -> Option<NameTree>
     ensures { result ≡ just.name_of t }
 {
-    if t.high.is_some() {
-        no_more(t)
-    } else {
-        name_of_found(post_of_add(t.low))
+    let SetTree { at: _at, low, high } = t;
+    match high {
+        None => name_of_found(post_of_add(low)),
+        Some(high) => no_more((low, high)),
     }
 }

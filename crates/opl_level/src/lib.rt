@@ -4,7 +4,6 @@
 mod below;
 mod bracket;
 mod just;
-mod keeping;
 mod params;
 mod prim;
 mod product;
@@ -13,5 +12,4 @@ mod word;
 
 pub use below::{Below, Level};
 pub use just::{into_name, into_post};
-pub use keeping::keep;
 pub use word::{field_name, name, names};

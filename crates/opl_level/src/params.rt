@@ -6,9 +6,9 @@ ghost use Rattle.opl_grammar.specs.Rules as rules;
 ghost use Rattle.opl_grammar.specs.Tables as tables;
 
 use crate::below::{Below, Level};
-use crate::keeping::keep;
 use crate::word::name;
 use opl_grammar::Cursor;
+use opl_grammar::keeping::{boxed, keep};
 use opl_grammar::list::{Part, Phrase, after_each, many};
 use opl_grammar::tables::{direction, separator};
 use opl_list::Boxed;
@@ -64,7 +64,7 @@ impl<B: Below> Level<B> {
             rest,
             set: set.into_inner(),
         };
-        Ok(Boxed::new(self.alloc, group)?)
+        Ok(boxed(self.alloc, group)?)
     }
 
     /// `, GROUP` or `& GROUP`
@@ -119,7 +119,7 @@ impl<B: Below> Level<B> {
             rest,
             condition,
         };
-        Ok(Boxed::new(self.alloc, params)?)
+        Ok(boxed(self.alloc, params)?)
     }
 
     /// `(PARAMS)`
@@ -183,7 +183,7 @@ impl<B: Below> Level<B> {
             params: params.into_inner(),
             order,
         };
-        Ok(Boxed::new(self.alloc, ordered)?)
+        Ok(boxed(self.alloc, ordered)?)
     }
 }
 

@@ -6,8 +6,8 @@ ghost use Rattle.opl_grammar.specs.Rules as rules;
 ghost use Rattle.opl_grammar.specs.Tables as tables;
 
 use crate::below::{Below, Level};
-use crate::keeping::keep;
 use crate::word::{field_name, name};
+use opl_grammar::keeping::keep;
 use opl_grammar::list::{Part, many};
 use opl_grammar::tables::{call_op, question_op};
 use opl_grammar::{Braced, Cursor};

@@ -1,35 +1,31 @@
 //! Products and sums.
-ghost use Rattle.std.specs.Prelude.{◌≡◌, IfOk};
+ghost use Rattle.std.specs.Prelude.{◌≡◌, MatchResult};
 ghost use Rattle.opl_grammar.specs.Input as steps;
 ghost use Rattle.opl_grammar.specs.Input.{Reads};
 ghost use Rattle.opl_grammar.specs.Rules as rules;
 ghost use Rattle.opl_grammar.specs.Tables as tables;
+ghost use Rattle.opl_tree.specs.declared.fault.SyntaxFault.TheVariants.{OutOfMemory};
 
 use crate::below::{Below, Level};
-use crate::keeping::keep;
+use opl_grammar::keeping::{boxed, keep, with_last};
 use opl_grammar::list::{Part, Phrase, after_each, many};
 use opl_grammar::tables::{add_op, aggregate_op, mul_op};
 use opl_grammar::{Cursor, Operand};
+use opl_let_go::LetGo;
 use opl_list::{Boxed, Seq};
 use opl_token::Sign;
 use opl_tree::{
     AddStep, AddTree, LastStep, MulStep, MulTree, OpenTree, SetTree, SignTree, SyntaxFault,
 };
-use std::alloc::{AllocError, Global};
+use std::alloc::Global;
 
 /// A sign before an operand, whichever it is.
-fn negative(alloc: Global, at: u32, operand: Operand) -> Result<Operand, AllocError>
-    ensures { IfOk result (λ t. t ≡ rules.negative at operand) }
+fn negative(alloc: Global, at: u32, operand: Operand) -> Result<Operand, SyntaxFault>
+    ensures { MatchResult result (λ t. t ≡ rules.negative at operand) (λ fault. fault ≡ OutOfMemory) }
 {
     match operand {
-        Operand::Open(inner) => Ok(Operand::Open(Boxed::new(
-            alloc,
-            OpenTree::NegativeOpen(at, inner),
-        )?)),
-        Operand::Sign(inner) => Ok(Operand::Sign(Boxed::new(
-            alloc,
-            SignTree::Negative(at, inner),
-        )?)),
+        Operand::Open(inner) => Ok(Operand::Open(boxed(alloc, OpenTree::NegativeOpen(at, inner))?)),
+        Operand::Sign(inner) => Ok(Operand::Sign(boxed(alloc, SignTree::Negative(at, inner))?)),
     }
 }
 
@@ -56,7 +52,7 @@ impl<B: Below> Level<B> {
         let op = cursor.take_found(aggregate_op(cursor.look()))?;
         let (params, body) = self.below.aggregate(cursor, at)?;
         let aggregate = OpenTree::Aggregate(at, op, params, body);
-        Ok(Operand::Open(Boxed::new(self.alloc, aggregate)?))
+        Ok(Operand::Open(boxed(self.alloc, aggregate)?))
     }
 
     /// An aggregate or a factor, with signs before it.
@@ -71,7 +67,7 @@ impl<B: Below> Level<B> {
             self.aggregate(cursor)
         } else {
             let factor = SignTree::Postfix(self.post(cursor)?);
-            Ok(Operand::Sign(Boxed::new(self.alloc, factor)?))
+            Ok(Operand::Sign(boxed(self.alloc, factor)?))
         }
     }
 
@@ -89,18 +85,20 @@ impl<B: Below> Level<B> {
             let Some(op) = mul_op(cursor.look()) else {
                 return Ok((found, None));
             };
-            cursor.take_found(Some(op))?;
-            match self.operand(cursor)? {
+            let (before, op) = keep(found, cursor.take_found(Some(op)))?;
+            let (before, operand) = keep(before, self.operand(cursor))?;
+            match operand {
                 Operand::Open(factor) => {
                     let factor = factor.into_inner();
-                    return Ok((found, Some(LastStep { op, factor })));
+                    return Ok((before, Some(LastStep { op, factor })));
                 }
                 Operand::Sign(factor) => {
                     let factor = factor.into_inner();
-                    found.push(MulStep { op, factor })?;
+                    found = with_last(before, MulStep { op, factor })?;
                 }
             }
         }
+        found.let_go();
         Err(cursor.refuse())
     }
 
@@ -112,14 +110,11 @@ impl<B: Below> Level<B> {
     {
         let at = cursor.place();
         match self.operand(cursor)? {
-            Operand::Open(inner) => Ok(Boxed::new(
-                self.alloc,
-                MulTree::Opened(inner.into_inner()),
-            )?),
+            Operand::Open(inner) => Ok(boxed(self.alloc, MulTree::Opened(inner.into_inner()))?),
             Operand::Sign(first) => {
                 let (first, (steps, last)) = keep(first, self.steps(cursor))?;
                 let product = MulTree::Product(at, first.into_inner(), steps, last);
-                Ok(Boxed::new(self.alloc, product)?)
+                Ok(boxed(self.alloc, product)?)
             }
         }
     }
@@ -149,7 +144,7 @@ impl<B: Below> Level<B> {
             first: first.into_inner(),
             rest,
         };
-        Ok(Boxed::new(self.alloc, sum)?)
+        Ok(boxed(self.alloc, sum)?)
     }
 
     /// `ADD, ADD, ..`
@@ -204,7 +199,7 @@ impl<B: Below> Level<B> {
             low: low.into_inner(),
             high,
         };
-        Ok(Boxed::new(self.alloc, set)?)
+        Ok(boxed(self.alloc, set)?)
     }
 }
 

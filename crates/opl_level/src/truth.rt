@@ -5,8 +5,8 @@ ghost use Rattle.opl_grammar.specs.Input.{Reads};
 ghost use Rattle.opl_grammar.specs.Rules as rules;
 
 use crate::below::{Below, Level};
-use crate::keeping::keep;
 use opl_grammar::Cursor;
+use opl_grammar::keeping::{boxed, keep};
 use opl_grammar::list::{Phrase, after_each};
 use opl_grammar::tables::relation;
 use opl_list::Boxed;
@@ -88,7 +88,7 @@ impl<B: Below> Level<B> {
         let at = cursor.place();
         cursor.expect_word(Keyword::Not)?;
         let inner = self.below.neg(cursor, at)?;
-        Ok(NegTree::Not(at, Boxed::new(self.alloc, inner)?))
+        Ok(NegTree::Not(at, boxed(self.alloc, inner)?))
     }
 
     /// `not NEG`, or a comparison
@@ -168,7 +168,7 @@ impl<B: Below> Level<B> {
             premise,
             conclusion,
         };
-        Ok(Boxed::new(self.alloc, implication)?)
+        Ok(boxed(self.alloc, implication)?)
     }
 
     /// `IMP <=> IMP <=> ..`
@@ -188,7 +188,7 @@ impl<B: Below> Level<B> {
             first: first.into_inner(),
             rest,
         };
-        Ok(Boxed::new(self.alloc, equivalence)?)
+        Ok(boxed(self.alloc, equivalence)?)
     }
 }
 

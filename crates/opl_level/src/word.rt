@@ -5,6 +5,7 @@ ghost use Rattle.opl_grammar.specs.Input as steps;
 ghost use Rattle.opl_grammar.specs.Rules as rules;
 
 use opl_grammar::Cursor;
+use opl_grammar::keeping::keep;
 use opl_grammar::list::{Phrase, after_each};
 use opl_list::Seq;
 use opl_token::Sign;
@@ -56,6 +57,8 @@ pub fn names(
     ensures { Reads (rules.names cursor.old) result cursor.new }
 {
     let first = name(alloc, cursor)?;
-    let rest = after_each(alloc, cursor, Sign::Comma, &NameRule { alloc })?;
-    Ok((first, rest))
+    keep(
+        first,
+        after_each(alloc, cursor, Sign::Comma, &NameRule { alloc }),
+    )
 }

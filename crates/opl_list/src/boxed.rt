@@ -19,6 +19,13 @@ impl<T> Model for Boxed<T> {
 }
 
 impl<T> Boxed<T> {
+    /// The box of a value that stands in one already. It takes no memory.
+    pub fn from_box(inner: Box<T>) -> Boxed<T>
+        ensures { result ≡ inner.value }
+    {
+        Boxed { inner }
+    }
+
     /// The value inside.
     pub fn get(&self) -> &T
         ensures { result.now ≡ self.now }

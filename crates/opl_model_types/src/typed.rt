@@ -8,7 +8,7 @@ ghost use Rattle.opl_type_rules.specs.Values.{Gives, scope_of};
 
 use opl_declaration_types::all_decls;
 use opl_item_types::{instr, search_block};
-use opl_let_go::let_go;
+use opl_let_go::LetGo;
 use opl_list::Seq;
 use opl_tree::{ModelTree, SearchTree};
 use opl_type_rules::fault::TypeFault;
@@ -28,7 +28,7 @@ pub struct Typed {
 impl Typed {
     /// Lets go of the model.
     pub fn let_go(self) {
-        let_go(self.tree);
+        self.tree.let_go();
     }
 }
 
@@ -81,7 +81,7 @@ pub fn with_kinds(model: ModelTree, found: Result<Seq<Ty>, TypeFault>) -> Result
     match found {
         Ok(kinds) => Ok(Typed { tree: model, kinds }),
         Err(fault) => {
-            let_go(model);
+            model.let_go();
             Err(fault)
         }
     }

@@ -6,8 +6,9 @@ ghost use Rattle.opl_phrase.specs.Nests as spec;
 ghost use Rattle.opl_phrase.specs.Nests.{Nests};
 
 use crate::wanted::{Found, Wanted};
+use opl_grammar::keeping::{boxed, keep};
 use opl_grammar::{Braced, Cursor, Operand};
-use opl_level::{Below, Level, keep, names};
+use opl_level::{Below, Level, names};
 use opl_list::{Boxed, Seq};
 use opl_tree::{
     AddTree, DimTree, ExprTree, FieldTree, ImpTree, KeyedTree, MulTree, NameTree, NegTree,
@@ -230,7 +231,7 @@ fn parenthesized<B: Below>(
         Wanted::Add => Ok(Found::Add(level.add(cursor)?)),
         Wanted::Post => {
             let found = level.post(cursor)?;
-            Ok(Found::Post(Boxed::new(level.alloc, found)?))
+            Ok(Found::Post(boxed(level.alloc, found)?))
         }
         Wanted::Params => Ok(Found::Params(level.params(cursor)?)),
         Wanted::Ordered => Ok(Found::Ordered(level.ordered_params(cursor)?)),
@@ -313,12 +314,12 @@ fn declared<B: Below>(
         Wanted::Type => Ok(Found::Type(level.type_tree(cursor)?)),
         Wanted::Fields => {
             let (first, rest) = level.fields(cursor)?;
-            let (rest, first) = keep(rest, Boxed::new(level.alloc, first))?;
+            let (rest, first) = keep(rest, boxed(level.alloc, first))?;
             Ok(Found::Fields(first, rest))
         }
         Wanted::Dims => {
             let (first, rest) = level.dims(cursor)?;
-            let (rest, first) = keep(rest, Boxed::new(level.alloc, first))?;
+            let (rest, first) = keep(rest, boxed(level.alloc, first))?;
             Ok(Found::Dims(first, rest))
         }
         _ => unreachable!(),

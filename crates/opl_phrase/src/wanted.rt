@@ -30,7 +30,6 @@ pub enum Wanted {
 }
 
 /// What was found there.
-#[derive(Drop)]
 pub enum Found {
     Expr(Boxed<ExprTree>),
     Add(Boxed<AddTree>),

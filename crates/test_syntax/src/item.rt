@@ -3,7 +3,7 @@ use crate::stop::Stop;
 use crate::term::tell_term;
 use crate::token::{end_of, tokens_of};
 use crate::word::say;
-use opl_let_go::let_go;
+use opl_let_go::LetGo;
 use opl_parse::parse_model;
 use opl_term::expr_term;
 use opl_token::Token;
@@ -43,7 +43,7 @@ fn tell_read(alloc: Global, tokens: &[Token], end: u32, out: &mut Vec<u8>) -> Re
     match parse_model(alloc, tokens, end) {
         Ok(model) => {
             let told = tell_first(alloc, &model, out);
-            let_go(model);
+            model.let_go();
             told.map_err(Stop::from)
         }
         Err(fault) => Err(Stop::from(fault)),

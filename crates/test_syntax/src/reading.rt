@@ -4,7 +4,7 @@ use crate::spelt::text_of;
 use crate::stop::Stop;
 use crate::token::{end_of, tokens_of};
 use opl_data::{DataTree, parse_data};
-use opl_let_go::let_go;
+use opl_let_go::LetGo;
 use opl_parse::parse_model;
 use opl_token::{Kind, Seq, Token};
 use opl_tree::ModelTree;
@@ -58,7 +58,7 @@ fn model(alloc: Global, tokens: &[Token], end: u32) -> Result<Told, Stop> {
         Ok(tree) => {
             let depth = depth_model(&tree);
             let told = told_of_model(alloc, &tree, depth);
-            let_go(tree);
+            tree.let_go();
             told
         }
         Err(fault) => Err(Stop::from(fault)),

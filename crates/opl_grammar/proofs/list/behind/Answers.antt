@@ -16,9 +16,9 @@ returns-then-not-eat_sign g c =
     let e = one_more (λ n. behind_from c.args.sign (g.P.Part.begins c.args.part.now) (g.P.Part.part c.args.part.now) n c.loop-turn.found c.loop-turn.cursor) _ c.loop-turn._turn c.loop-turn-test.true c.loop-turn.invariant in
     grind (arith, common_steps)
 
-pub returns-in_err-read : goal.returns-in_err-read
+pub returns-in_err-before : goal.returns-in_err-before
 unfolding behind_from
-returns-in_err-read g c =
+returns-in_err-before g c =
     let e = one_more (λ n. behind_from c.args.sign (g.P.Part.begins c.args.part.now) (g.P.Part.part c.args.part.now) n c.loop-turn.found c.loop-turn.cursor) _ c.loop-turn._turn c.loop-turn-test.true c.loop-turn.invariant in
     grind (arith, common_steps)
 

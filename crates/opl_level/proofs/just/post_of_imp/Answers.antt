@@ -4,11 +4,11 @@ use Rattle.opl_grammar.specs.Just.{post_of_imp}
 use Rattle.opl_level.proofs.just.post_of_imp.Goals as goal
 
 -- src/just.rt:113:1
-pub returns-then-is_none : goal.returns-then-is_none
+pub returns-in-None : goal.returns-in-None
 unfolding post_of_imp
-returns-then-is_none c = grind (arith, common_steps)
+returns-in-None c = grind (arith, common_steps)
 
 -- src/just.rt:113:1
-pub returns-else-is_none : goal.returns-else-is_none
+pub returns-in-Some : goal.returns-in-Some
 unfolding post_of_imp
-returns-else-is_none c = grind (arith, common_steps)
+returns-in-Some c = grind (arith, common_steps)

@@ -8,11 +8,6 @@ pub returns-in_err-first : goal.returns-in_err-first
 unfolding names
 returns-in_err-first c = grind (arith, common_steps)
 
--- src/word.rt:59:16
-pub returns-in_err-rest : goal.returns-in_err-rest
-unfolding names
-returns-in_err-rest c = grind (arith, common_steps)
-
 -- src/word.rt:51:1
 pub returns : goal.returns
 unfolding names

@@ -14,9 +14,9 @@ unfolding for_all
 returns-in_err-params g c = grind (arith, common_steps)
 
 -- src/item.rt:88:1
-pub returns-in_err-new : goal.returns-in_err-new
+pub returns-in_err-boxed : goal.returns-in_err-boxed
 unfolding for_all
-returns-in_err-new g c = grind (arith, common_steps)
+returns-in_err-boxed g c = grind (arith, common_steps)
 
 -- src/item.rt:88:1
 pub returns : goal.returns

@@ -14,9 +14,9 @@ unfolding if_item
 returns-in_err-condition g c = grind (arith, common_steps)
 
 -- src/item.rt:103:1
-pub returns-in_err-new : goal.returns-in_err-new
+pub returns-in_err-boxed : goal.returns-in_err-boxed
 unfolding if_item
-returns-in_err-new g c = grind (arith, common_steps)
+returns-in_err-boxed g c = grind (arith, common_steps)
 
 -- src/item.rt:103:1
 pub returns : goal.returns

@@ -14,9 +14,9 @@ unfolding try_statement
 returns-in_err-first g c = grind (arith, common_steps)
 
 -- src/statement.rt:114:1
-pub returns-in_err-new : goal.returns-in_err-new
+pub returns-in_err-boxed : goal.returns-in_err-boxed
 unfolding try_statement
-returns-in_err-new g c = grind (arith, common_steps)
+returns-in_err-boxed g c = grind (arith, common_steps)
 
 -- src/statement.rt:114:1
 pub returns : goal.returns

@@ -14,9 +14,9 @@ unfolding while_statement
 returns-in_err-condition g c = grind (arith, common_steps)
 
 -- src/statement.rt:158:1
-pub returns-in_err-new : goal.returns-in_err-new
+pub returns-in_err-boxed : goal.returns-in_err-boxed
 unfolding while_statement
-returns-in_err-new g c = grind (arith, common_steps)
+returns-in_err-boxed g c = grind (arith, common_steps)
 
 -- src/statement.rt:158:1
 pub returns : goal.returns

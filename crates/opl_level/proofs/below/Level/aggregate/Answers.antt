@@ -14,9 +14,9 @@ unfolding aggregate
 returns-in_err-params g c = grind (arith, common_steps)
 
 -- src/product.rt:59:26
-pub returns-in_err-new : goal.returns-in_err-new
+pub returns-in_err-boxed : goal.returns-in_err-boxed
 unfolding aggregate
-returns-in_err-new g c = grind (arith, common_steps)
+returns-in_err-boxed g c = grind (arith, common_steps)
 
 -- src/product.rt:50:5
 pub returns : goal.returns

@@ -14,14 +14,14 @@ unfolding dim_of
 returns-in_default g c = grind (arith, common_steps)
 
 -- src/bracket.rt:255:9
-pub returns-in_err-expect_word : goal.returns-in_err-expect_word
+pub returns-in_err-name : goal.returns-in_err-name
 unfolding dim_of
-returns-in_err-expect_word g c = grind (arith, common_steps)
+returns-in_err-name g c = grind (arith, common_steps)
 
 -- src/bracket.rt:256:19
-pub returns-in_err-set : goal.returns-in_err-set
+pub returns-in_err-name-2 : goal.returns-in_err-name-2
 unfolding dim_of
-returns-in_err-set g c = grind (arith, common_steps)
+returns-in_err-name-2 g c = grind (arith, common_steps)
 
 -- src/bracket.rt:235:5
 pub returns : goal.returns

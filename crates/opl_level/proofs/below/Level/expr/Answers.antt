@@ -14,9 +14,9 @@ unfolding expr
 returns-in_err-first-2 g c = grind (arith, common_steps)
 
 -- src/truth.rt:191:12
-pub returns-in_err-new : goal.returns-in_err-new
+pub returns-in_err-boxed : goal.returns-in_err-boxed
 unfolding expr
-returns-in_err-new g c = grind (arith, common_steps)
+returns-in_err-boxed g c = grind (arith, common_steps)
 
 -- src/truth.rt:175:5
 pub returns : goal.returns

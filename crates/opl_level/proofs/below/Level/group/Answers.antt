@@ -24,9 +24,9 @@ unfolding group
 returns-in_err-first-2 g c = grind (arith, common_steps)
 
 -- src/params.rt:67:12
-pub returns-in_err-new : goal.returns-in_err-new
+pub returns-in_err-boxed : goal.returns-in_err-boxed
 unfolding group
-returns-in_err-new g c = grind (arith, common_steps)
+returns-in_err-boxed g c = grind (arith, common_steps)
 
 -- src/params.rt:49:5
 pub returns : goal.returns

@@ -14,9 +14,9 @@ unfolding imp
 returns-in_err-premise-2 g c = grind (arith, common_steps)
 
 -- src/truth.rt:171:12
-pub returns-in_err-new : goal.returns-in_err-new
+pub returns-in_err-boxed : goal.returns-in_err-boxed
 unfolding imp
-returns-in_err-new g c = grind (arith, common_steps)
+returns-in_err-boxed g c = grind (arith, common_steps)
 
 -- src/truth.rt:158:5
 pub returns : goal.returns

@@ -19,9 +19,9 @@ unfolding keyed_part
 returns-in_err-key-3 g c = grind (arith, common_steps)
 
 -- src/bracket.rt:129:12
-pub returns-in_err-new : goal.returns-in_err-new
+pub returns-in_err-boxed : goal.returns-in_err-boxed
 unfolding keyed_part
-returns-in_err-new g c = grind (arith, common_steps)
+returns-in_err-boxed g c = grind (arith, common_steps)
 
 -- src/bracket.rt:117:5
 pub returns : goal.returns

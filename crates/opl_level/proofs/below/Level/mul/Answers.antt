@@ -9,9 +9,9 @@ unfolding mul
 returns-in_err-inner g c = grind (arith, common_steps)
 
 -- src/product.rt:115:40
-pub returns-in_err-new-in-Open : goal.returns-in_err-new-in-Open
+pub returns-in_err-boxed-in-Open : goal.returns-in_err-boxed-in-Open
 unfolding mul
-returns-in_err-new-in-Open g c = grind (arith, common_steps)
+returns-in_err-boxed-in-Open g c = grind (arith, common_steps)
 
 -- src/product.rt:120:46
 pub returns-in_err-first-in-Sign : goal.returns-in_err-first-in-Sign
@@ -19,16 +19,16 @@ unfolding mul
 returns-in_err-first-in-Sign g c = grind (arith, common_steps)
 
 -- src/product.rt:122:20
-pub returns-in_err-new-in-Sign : goal.returns-in_err-new-in-Sign
+pub returns-in_err-boxed-in-Sign : goal.returns-in_err-boxed-in-Sign
 unfolding mul
-returns-in_err-new-in-Sign g c = grind (arith, common_steps)
+returns-in_err-boxed-in-Sign g c = grind (arith, common_steps)
 
 -- src/product.rt:108:5
-pub returns-in_ok-new-in-Open : goal.returns-in_ok-new-in-Open
+pub returns-in_ok-boxed-in-Open : goal.returns-in_ok-boxed-in-Open
 unfolding mul
-returns-in_ok-new-in-Open g c = grind (arith, common_steps)
+returns-in_ok-boxed-in-Open g c = grind (arith, common_steps)
 
 -- src/product.rt:108:5
-pub returns-in_ok-new-in-Sign : goal.returns-in_ok-new-in-Sign
+pub returns-in_ok-boxed-in-Sign : goal.returns-in_ok-boxed-in-Sign
 unfolding mul
-returns-in_ok-new-in-Sign g c = grind (arith, common_steps)
+returns-in_ok-boxed-in-Sign g c = grind (arith, common_steps)

@@ -14,9 +14,9 @@ unfolding negation
 returns-in_err-inner g c = grind (arith, common_steps)
 
 -- src/truth.rt:91:29
-pub returns-in_err-new : goal.returns-in_err-new
+pub returns-in_err-boxed : goal.returns-in_err-boxed
 unfolding negation
-returns-in_err-new g c = grind (arith, common_steps)
+returns-in_err-boxed g c = grind (arith, common_steps)
 
 -- src/truth.rt:83:5
 pub returns : goal.returns

@@ -9,9 +9,9 @@ unfolding operand
 returns-in_err-post g c = grind (arith, common_steps)
 
 -- src/product.rt:74:30
-pub returns-in_err-new : goal.returns-in_err-new
+pub returns-in_err-boxed : goal.returns-in_err-boxed
 unfolding operand
-returns-in_err-new g c = grind (arith, common_steps)
+returns-in_err-boxed g c = grind (arith, common_steps)
 
 -- src/product.rt:63:5
 pub returns-then-sees_sign : goal.returns-then-sees_sign
@@ -24,6 +24,6 @@ unfolding operand
 returns-then-is_some g c = grind (arith, common_steps)
 
 -- src/product.rt:63:5
-pub returns-in_ok-new : goal.returns-in_ok-new
+pub returns-in_ok-boxed : goal.returns-in_ok-boxed
 unfolding operand
-returns-in_ok-new g c = grind (arith, common_steps)
+returns-in_ok-boxed g c = grind (arith, common_steps)

@@ -14,9 +14,9 @@ unfolding ordered_params
 returns-in_err-params-2 g c = grind (arith, common_steps)
 
 -- src/params.rt:186:12
-pub returns-in_err-new : goal.returns-in_err-new
+pub returns-in_err-boxed : goal.returns-in_err-boxed
 unfolding ordered_params
-returns-in_err-new g c = grind (arith, common_steps)
+returns-in_err-boxed g c = grind (arith, common_steps)
 
 -- src/params.rt:169:5
 pub returns : goal.returns

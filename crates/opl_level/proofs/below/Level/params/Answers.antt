@@ -19,9 +19,9 @@ unfolding params
 returns-in_err-first-2 g c = grind (arith, common_steps)
 
 -- src/params.rt:122:12
-pub returns-in_err-new : goal.returns-in_err-new
+pub returns-in_err-boxed : goal.returns-in_err-boxed
 unfolding params
-returns-in_err-new g c = grind (arith, common_steps)
+returns-in_err-boxed g c = grind (arith, common_steps)
 
 -- src/params.rt:107:5
 pub returns : goal.returns

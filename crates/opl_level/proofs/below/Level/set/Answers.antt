@@ -14,9 +14,9 @@ unfolding set
 returns-in_err-low-2 g c = grind (arith, common_steps)
 
 -- src/product.rt:207:12
-pub returns-in_err-new : goal.returns-in_err-new
+pub returns-in_err-boxed : goal.returns-in_err-boxed
 unfolding set
-returns-in_err-new g c = grind (arith, common_steps)
+returns-in_err-boxed g c = grind (arith, common_steps)
 
 -- src/product.rt:194:5
 pub returns : goal.returns

@@ -19,9 +19,9 @@ unfolding set_type
 returns-in_err-inner-2 g c = grind (arith, common_steps)
 
 -- src/bracket.rt:190:30
-pub returns-in_err-new : goal.returns-in_err-new
+pub returns-in_err-boxed : goal.returns-in_err-boxed
 unfolding set_type
-returns-in_err-new g c = grind (arith, common_steps)
+returns-in_err-boxed g c = grind (arith, common_steps)
 
 -- src/bracket.rt:181:5
 pub returns : goal.returns

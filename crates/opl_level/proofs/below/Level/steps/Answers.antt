@@ -11,9 +11,9 @@ loop-turn-init g c =
     no_turn (λ n. steps_from (g.B.Below.rules c.args.self.now.below) n [] c.args.cursor.now) (left c.args.cursor.now) c.turns-turn-end.result c.turns-turn-end.ensures
     ∙ ap (λ xs. steps_from (g.B.Below.rules c.args.self.now.below) (c.turns-turn-end.result - 0) xs c.args.cursor.now) (sym c.new-found.ensures)
 
-pub returns-in_err-factor : goal.returns-in_err-factor
+pub returns-in_err-before-2 : goal.returns-in_err-before-2
 unfolding steps_from
-returns-in_err-factor g c =
+returns-in_err-before-2 g c =
     let e = one_more (λ n. steps_from (g.B.Below.rules c.args.self.now.below) n c.loop-turn.found c.loop-turn.cursor) _ c.loop-turn._turn c.loop-turn-test.true c.loop-turn.invariant in
     grind (arith, common_steps)
 
