@@ -32,7 +32,7 @@ use Rattle.opl_tool.specs.Tasks.{Task, TaskFinds, command_answer, command_text, 
 use Rattle.opl_tool.specs.Tasks.Task.{summarizes, helps}
 use Rattle.opl_tool.proofs.FindsLemmas.{command_finds, made_finds}
 
-if_all : {A : Type 0} (o : Option A) (P : A → Type 0) → ((a : A) → P a) → IfSome o P
+pub if_all : {A : Type 0} (o : Option A) (P : A → Type 0) → ((a : A) → P a) → IfSome o P
 if_all None P all = tt
 if_all (Some a) P all = all a
 
@@ -51,13 +51,29 @@ module _ (J : Files → Stage Task) (c : Call) (task : Task) (judged : IfSome c.
   ended_as text b r same also printed reached =
       ended r (subst (λ (t : List ℕ). PrintsStop t c.old c.new c.faults_before c.faults_now r) same printed) (subst (λ (x : Answer). Reaches x r) also reached)
 
--- ---- over trees that are loaded, however that is
+-- ---- over trees
 
+module _ (task : Subject → Task) (c : Call) (trees : Trees) where
+  -- what the call is about was not prepared
+  pub problem-ended : (stop : Stop) → c.new ≡ c.old → c.faults_now ≡ c.faults_before → c.reads_now ≡ c.reads_before → GivesPosed (Prepared trees.0 trees.1) (Err stop) →
+      Ends (λ files. Tasked task trees) c (Err stop)
+  problem-ended (Refused e) same faults reads posed = (reads, faults, same, if_all c.files _ (λ files. inr (e, posed, refl)))
+  problem-ended Spent same faults reads posed = absurd posed
+  problem-ended ReadFault same faults reads posed = absurd posed
+  problem-ended WriteFault same faults reads posed = absurd posed
+  problem-ended OutOfMemory same faults reads posed = (reads, faults, inl same)
+
+  -- the text was printed, or a front of it
+  text_ended : (s : Subject) → Prepared trees.0 trees.1 (Ok s) → TaskFinds (task s) → c.reads_now ≡ c.reads_before →
+      (text : List ℕ) (b : Answer) (r : Result Ended Stop) → text ≡ task_text (task s) → b ≡ task_answer (task s) → PrintsStop text c.old c.new c.faults_before c.faults_now r → Reaches b r →
+      Ends (λ files. Tasked task trees) c r
+  text_ended s prepared finds reads = ended_as (λ files. Tasked task trees) c (task s) (if_all c.files _ (λ files. inl (s, prepared, refl))) finds reads
+
+-- the trees were not loaded
 module _ (L : Files → Stage Trees) (task : Subject → Task) (c : Call) where
   abbrev Over : Files → Stage Task
   Over files = Then (L files) (Tasked task)
 
-  -- the trees were not loaded
   pub front-ended : (stop : Stop) → c.new ≡ c.old → c.faults_now ≡ c.faults_before → CountsRead {A = Front} (Err stop) c.reads_before c.reads_now →
       IfSome c.files (λ files. GivesRead (L files) (Err stop)) → Ends Over c (Err stop)
   front-ended (Refused e) same faults reads h = (reads, faults, same, if_some c.files _ _ (λ files f. inr (e, f, refl)) h)
@@ -65,21 +81,6 @@ module _ (L : Files → Stage Trees) (task : Subject → Task) (c : Call) where
   front-ended ReadFault same faults reads h = (reads, faults, same)
   front-ended WriteFault same faults reads h = absurd reads
   front-ended OutOfMemory same faults reads h = (reads, faults, inl same)
-
-  -- what the call is about was not prepared
-  pub problem-ended : (stop : Stop) (trees : Trees) → c.new ≡ c.old → c.faults_now ≡ c.faults_before → c.reads_now ≡ c.reads_before →
-      IfSome c.files (λ files. L files (Ok trees)) → GivesPosed (Prepared trees.0 trees.1) (Err stop) → Ends Over c (Err stop)
-  problem-ended (Refused e) trees same faults reads h posed = (reads, faults, same, if_some c.files _ _ (λ files f. inl (trees, f, inr (e, posed, refl))) h)
-  problem-ended Spent trees same faults reads h posed = absurd posed
-  problem-ended ReadFault trees same faults reads h posed = absurd posed
-  problem-ended WriteFault trees same faults reads h posed = absurd posed
-  problem-ended OutOfMemory trees same faults reads h posed = (reads, faults, inl same)
-
-  -- the text was printed, or a front of it
-  text_ended : (trees : Trees) (s : Subject) → IfSome c.files (λ files. L files (Ok trees)) → Prepared trees.0 trees.1 (Ok s) → TaskFinds (task s) → c.reads_now ≡ c.reads_before →
-      (text : List ℕ) (b : Answer) (r : Result Ended Stop) → text ≡ task_text (task s) → b ≡ task_answer (task s) → PrintsStop text c.old c.new c.faults_before c.faults_now r → Reaches b r → Ends Over c r
-  text_ended trees s loaded prepared finds reads =
-      ended_as Over c (task s) (if_some c.files _ _ (λ files f. inl (trees, f, inl (s, prepared, refl))) loaded) finds reads
 
 -- ---- commands over files
 
@@ -94,12 +95,11 @@ same_answer (Solve searching) s p poses = ap (command_answer (Solve searching)) 
 same_answer Ground s p poses = refl
 
 -- a command's text was printed, or a front of it
-pub command-ended : (L : Files → Stage Trees) (command : Command) (c : Call) (trees : Trees) (s : Subject) (p : Problem) → IfSome c.files (λ files. L files (Ok trees)) →
-    Prepared trees.0 trees.1 (Ok s) → Poses s p → c.reads_now ≡ c.reads_before → (r : Result Ended Stop) →
-    PrintsStop (command_text command (enumerations_in p) p.variables p.core.value) c.old c.new c.faults_before c.faults_now r → Reaches (command_answer command p.core.value) r →
-    Ends (Over L (task_of command) c) c r
-command-ended L command c trees s p loaded prepared poses reads r =
-    text_ended L (task_of command) c trees s loaded prepared (command_finds command s poses.is_ready) reads _ _ r (same_text command s p poses) (same_answer command s p poses)
+pub command-ended : (command : Command) (c : Call) (trees : Trees) (s : Subject) (p : Problem) → Prepared trees.0 trees.1 (Ok s) → Poses s p → c.reads_now ≡ c.reads_before →
+    (r : Result Ended Stop) → PrintsStop (command_text command (enumerations_in p) p.variables p.core.value) c.old c.new c.faults_before c.faults_now r →
+    Reaches (command_answer command p.core.value) r → Ends (λ files. Tasked (task_of command) trees) c r
+command-ended command c trees s p prepared poses reads r =
+    text_ended (task_of command) c trees s prepared (command_finds command s poses.is_ready) reads _ _ r (same_text command s p poses) (same_answer command s p poses)
 
 -- ---- made models
 
@@ -120,7 +120,7 @@ told-anyway files P (Err ReadFault) h = absurd h
 told-anyway files P (Err WriteFault) h = absurd h
 told-anyway files P (Err OutOfMemory) h = if_all files _ (λ told. h)
 
--- the tree of a made model was not read, or it was not prepared
+-- the tree of a made model was not read
 pub made-front-ended : (g : Generated) (c : Call) (stop : Stop) → c.new ≡ c.old → c.faults_now ≡ c.faults_before → c.reads_now ≡ c.reads_before → Gives (Read (model_text g) []) (front_of (Err stop)) →
     Ends (λ files. Answered files (generate g)) c (Err stop)
 made-front-ended g c stop same faults reads h = front-ended (λ told. Read (model_text g) []) (summarizes g) c stop same faults (counts stop h) (told-anyway c.files (Read (model_text g) []) (Err stop) h)
@@ -132,17 +132,12 @@ made-front-ended g c stop same faults reads h = front-ended (λ told. Read (mode
     counts WriteFault h = absurd h
     counts OutOfMemory h = reads
 
-pub made-problem-ended : (g : Generated) (c : Call) (stop : Stop) (trees : Trees) → c.new ≡ c.old → c.faults_now ≡ c.faults_before → c.reads_now ≡ c.reads_before →
-    Read (model_text g) [] (Ok trees) → GivesPosed (Prepared trees.0 trees.1) (Err stop) → Ends (λ files. Answered files (generate g)) c (Err stop)
-made-problem-ended g c stop trees same faults reads read posed =
-    problem-ended (λ told. Read (model_text g) []) (summarizes g) c stop trees same faults reads (if_all c.files _ (λ told. read)) posed
-
 -- the summary was printed, or a front of it
-pub made-ended : (P : Stage Trees) (g : Generated) (c : Call) (trees : Trees) (s : Subject) (p : Problem) → P (Ok trees) → Prepared trees.0 trees.1 (Ok s) → Poses s p → c.reads_now ≡ c.reads_before →
-    (r : Result Ended Stop) → PrintsStop (made_text g p.core.value) c.old c.new c.faults_before c.faults_now r → Reaches (trace_answer None (core_trace false p.core.value default_budget)) r →
-    Ends (Over (λ told. P) (summarizes g) c) c r
-made-ended P g c trees s p read prepared poses reads r =
-    text_ended (λ told. P) (summarizes g) c trees s (if_all c.files _ (λ told. read)) prepared (made_finds g s poses.is_ready) reads _ _ r (made_same_text g s p poses) (made_same_answer g s p poses)
+pub made-ended : (g : Generated) (c : Call) (trees : Trees) (s : Subject) (p : Problem) → Prepared trees.0 trees.1 (Ok s) → Poses s p → c.reads_now ≡ c.reads_before → (r : Result Ended Stop) →
+    PrintsStop (made_text g p.core.value) c.old c.new c.faults_before c.faults_now r → Reaches (trace_answer None (core_trace false p.core.value default_budget)) r →
+    Ends (λ files. Tasked (summarizes g) trees) c r
+made-ended g c trees s p prepared poses reads r =
+    text_ended (summarizes g) c trees s prepared (made_finds g s poses.is_ready) reads _ _ r (made_same_text g s p poses) (made_same_answer g s p poses)
 
 -- ---- the help
 
@@ -159,25 +154,35 @@ pub help-ended : (J : Files → Stage Task) (c : Call) → ((files : Files) → 
     PrintsStop help_text c.old c.new c.faults_before c.faults_now r → Reaches answer.Done r → Ends J c r
 help-ended J c judged reads r = ended_as J c helps (if_all c.files _ judged) tt reads help_text _ r help_same_text help_same_answer
 
--- ---- the words
+-- ---- from one part of a call to the whole
 
-module _ (J K : Files → Stage Task) (so : (files : Files) (o : Result Task Refusal) → J files o → K files o) (c : Call) where
+if_both : {A : Type 0} (o : Option A) (P Q R : A → Type 0) → ((a : A) → P a → Q a → R a) → IfSome o P → IfSome o Q → IfSome o R
+if_both None P Q R so p q = tt
+if_both (Some a) P Q R so p q = so a p q
+
+module _ (J K : Files → Stage Task) (c : Call) (so : IfSome c.files (λ files. (o : Result Task Refusal) → J files o → K files o)) where
   finished_so : (a : Answer) → IfSome c.files (Finished J c a) → IfSome c.files (Finished K c a)
-  finished_so a h = if_some c.files _ _ (λ files f. record { task = f.task; judged = so files (Ok f.task) f.judged; finds = f.finds; answers = f.answers; written = f.written }) h
+  finished_so a h = if_both c.files _ _ _ (λ files so f. record { task = f.task; judged = so (Ok f.task) f.judged; finds = f.finds; answers = f.answers; written = f.written }) so h
 
   stopped_so : IfSome c.files (Stopped J c) → IfSome c.files (Stopped K c)
-  stopped_so h = if_some c.files _ _ (λ files f. record { task = f.task; judged = so files (Ok f.task) f.judged; finds = f.finds; written = f.written }) h
+  stopped_so h = if_both c.files _ _ _ (λ files so f. record { task = f.task; judged = so (Ok f.task) f.judged; finds = f.finds; written = f.written }) so h
 
   ends_so : (r : Result Ended Stop) → Ends J c r → Ends K c r
   ends_so (Ok Done) (reads, faults, h) = (reads, faults, finished_so _ h)
   ends_so (Ok NoSolution) (reads, faults, h) = (reads, faults, finished_so _ h)
-  ends_so (Err (Refused e)) (reads, faults, same, h) = (reads, faults, same, if_some c.files _ _ (λ files f. so files (Err e) f) h)
+  ends_so (Err (Refused e)) (reads, faults, same, h) = (reads, faults, same, if_both c.files _ _ _ (λ files so f. so (Err e) f) so h)
   ends_so (Err Spent) (reads, faults, h) = (reads, faults, finished_so _ h)
   ends_so (Err ReadFault) h = h
   ends_so (Err WriteFault) (reads, faults, h) = (reads, faults, stopped_so h)
   ends_so (Err OutOfMemory) (reads, faults, inl same) = (reads, faults, inl same)
   ends_so (Err OutOfMemory) (reads, faults, inr h) = (reads, faults, inr (stopped_so h))
 
+-- the trees were loaded
+pub loaded-ended : (L : Files → Stage Trees) (task : Subject → Task) (c : Call) (trees : Trees) (r : Result Ended Stop) → IfSome c.files (λ files. L files (Ok trees)) →
+    Ends (λ files. Tasked task trees) c r → Ends (λ files. Then (L files) (Tasked task)) c r
+loaded-ended L task c trees r loaded h =
+    ends_so (λ files. Tasked task trees) (λ files. Then (L files) (Tasked task)) c (if_some c.files _ _ (λ files f o j. inl (trees, f, j)) loaded) r h
+
 -- the words ask for this
 pub asked-ended : (words : List (List ℕ)) (asked : Asked) (c : Call) (r : Result Ended Stop) → Some asked ≡ request words → Ends (λ files. Answered files asked) c r → Ends (Judged words) c r
-asked-ended words asked c r is h = ends_so (λ files. Answered files asked) (Judged words) (λ files o j. inl (asked, sym is, j)) c r h
+asked-ended words asked c r is h = ends_so (λ files. Answered files asked) (Judged words) c (if_all c.files _ (λ files o j. inl (asked, sym is, j))) r h

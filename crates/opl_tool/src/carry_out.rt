@@ -9,7 +9,9 @@ ghost use Rattle.opl_words.specs.declared.call.Request.TheVariants as requests;
 ghost use Rattle.opl_files.specs.Reading.{Read, front_of};
 ghost use Rattle.opl_files.specs.Stage.{Gives};
 ghost use Rattle.opl_tool.specs.Ends.{Ends};
-ghost use Rattle.opl_tool.specs.Judged.{Answered, Judged};
+ghost use Rattle.opl_tool.specs.Judged.{Answered, Judged, Tasked};
+ghost use Rattle.opl_tool.specs.Tasks.{task_of};
+ghost use Rattle.opl_tool.specs.Tasks.Task.{summarizes};
 ghost use Rattle.opl_tool.specs.Headline.{IsNoCall};
 
 use crate::ended::Ended;
@@ -19,11 +21,32 @@ use opl_files::{Front, Refusal, Stop, fetch, read};
 use opl_generate::model_text;
 use opl_outside::{Shelf, Sink};
 use opl_prepare::prepare;
-use opl_words::{FilesRequest, Generated, Request, request};
+use opl_words::{Command, FilesRequest, Generated, Request, request};
 use std::alloc::Global;
 
 /// The most bytes of a text that is read.
 const MOST_BYTES: usize = 16_777_216;
+
+/// Carries out a command over trees.
+fn over_trees<O: Sink>(
+    alloc: Global,
+    command: Command,
+    front: &Front,
+    out: &mut O,
+) -> Result<Ended, Stop>
+    ensures { (files : Option Files) (reads later : ℕ) → later ≡ reads → Ends (λ told. Tasked (task_of command) (front.now.typed.tree, front.now.files)) (record {
+      files = files;
+      old = O.written out.old;
+      new = O.written out.new;
+      reads_before = reads;
+      reads_now = later;
+      faults_before = O.faults out.old;
+      faults_now = O.faults out.new;
+    }) result }
+{
+    let problem = prepare(alloc, front)?;
+    print(alloc, out, command, &problem)
+}
 
 /// Carries out a command over files.
 fn over_files<F: Shelf, O: Sink>(
@@ -45,8 +68,9 @@ fn over_files<F: Shelf, O: Sink>(
     ensures files_stay { Becomes (F.files shelf.old) (F.files shelf.new) (λ before now. now ≡ before) }
 {
     let front = fetch(alloc, shelf, asked.model, asked.files.as_slice())?;
-    let problem = prepare(alloc, &front)?;
-    print(alloc, out, asked.command, &problem)
+    let ended = over_trees(alloc, asked.command, &front, out);
+    front.let_go();
+    ended
 }
 
 /// The trees of a made model. A text beyond the bytes that are read counts as want of memory; none is so long.
@@ -58,6 +82,27 @@ fn made_front(alloc: Global, generated: Generated) -> Result<Front, Stop>
         return Err(Stop::OutOfMemory);
     }
     read(alloc, text.as_slice(), &[])
+}
+
+/// Searches a model with these trees, and prints the summary.
+fn summarize_trees<O: Sink>(
+    alloc: Global,
+    generated: Generated,
+    front: &Front,
+    out: &mut O,
+) -> Result<Ended, Stop>
+    ensures { (files : Option Files) (reads : ℕ) → Ends (λ told. Tasked (summarizes generated) (front.now.typed.tree, front.now.files)) (record {
+      files = files;
+      old = O.written out.old;
+      new = O.written out.new;
+      reads_before = reads;
+      reads_now = reads;
+      faults_before = O.faults out.old;
+      faults_now = O.faults out.new;
+    }) result }
+{
+    let problem = prepare(alloc, front)?;
+    print_summary(alloc, out, generated, &problem)
 }
 
 /// Searches a made model, and prints the summary.
@@ -73,8 +118,9 @@ fn summarize<O: Sink>(alloc: Global, generated: Generated, out: &mut O) -> Resul
     }) result }
 {
     let front = made_front(alloc, generated)?;
-    let problem = prepare(alloc, &front)?;
-    print_summary(alloc, out, generated, &problem)
+    let ended = summarize_trees(alloc, generated, &front, out);
+    front.let_go();
+    ended
 }
 
 /// Carries out what is asked for.

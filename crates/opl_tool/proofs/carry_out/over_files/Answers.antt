@@ -3,7 +3,7 @@ use Rattle.std.proofs.lemmas.Result.{err_from_is_err_and}
 use Rattle.opl_files.specs.Held.{Loaded}
 use Rattle.opl_files.specs.Stage.{GivesRead}
 use Rattle.opl_tool.specs.Tasks.{task_of}
-use Rattle.opl_tool.proofs.EndsLemmas.{command-ended, front-ended, problem-ended}
+use Rattle.opl_tool.proofs.EndsLemmas.{front-ended, loaded-ended}
 use Rattle.opl_tool.proofs.carry_out.over_files.Goals as goal
 
 pub returns-in_err-front-clause-ends : goal.returns-in_err-front-clause-ends
@@ -21,28 +21,15 @@ returns-in_err-front-clause-ends g c =
     (subst (λ (names : List (Bor (List ℕ))). IfSome (g.F.Shelf.files c.args.shelf.now) (λ told. GivesRead (Loaded told c.args.asked.now.model.now (map (λ file. file.now) names)) (Err c.in_err-front.field-0.0)))
     c.as_slice.ensures c.in_err-front.ensures.loaded))
 
-pub returns-in_err-problem-clause-ends : goal.returns-in_err-problem-clause-ends
-returns-in_err-problem-clause-ends g c =
-    let p = err_from_is_err_and c.from_residual-in_err-problem.result c.from_residual-in_err-problem.ensures.1 in
-    rw (p.1, p.2) (problem-ended (λ files. Loaded files c.args.asked.now.model.now (map (λ file. file.now) c.args.asked.now.files)) (task_of c.args.asked.now.command) (record {
-      files = g.F.Shelf.files c.args.shelf.now;
-      old = g.O.Sink.written c.args.out.now;
-      new = g.O.Sink.written c.args.out.now;
-      reads_before = g.F.Shelf.read_faults c.args.shelf.now;
-      reads_now = g.F.Shelf.read_faults c.fetch.new.shelf;
-      faults_before = g.O.Sink.faults c.args.out.now;
-      faults_now = g.O.Sink.faults c.args.out.now;
-    }) _ (c.in_ok-front.front.typed.tree, c.in_ok-front.front.files) refl refl c.in_ok-front.ensures.cause (rw c.as_slice.ensures at c.in_ok-front.ensures.loaded) c.in_err-problem.ensures)
-
 pub returns-clause-ends : goal.returns-clause-ends
 returns-clause-ends g c =
-    command-ended (λ files. Loaded files c.args.asked.now.model.now (map (λ file. file.now) c.args.asked.now.files)) c.args.asked.now.command (record {
+    loaded-ended (λ files. Loaded files c.args.asked.now.model.now (map (λ file. file.now) c.args.asked.now.files)) (task_of c.args.asked.now.command) (record {
       files = g.F.Shelf.files c.args.shelf.now;
       old = g.O.Sink.written c.args.out.now;
-      new = g.O.Sink.written c.print.new.out;
+      new = g.O.Sink.written c.over_trees-ended.new.out;
       reads_before = g.F.Shelf.read_faults c.args.shelf.now;
       reads_now = g.F.Shelf.read_faults c.fetch.new.shelf;
       faults_before = g.O.Sink.faults c.args.out.now;
-      faults_now = g.O.Sink.faults c.print.new.out;
-    }) (c.in_ok-front.front.typed.tree, c.in_ok-front.front.files) _ c.in_ok-problem.problem (rw c.as_slice.ensures at c.in_ok-front.ensures.loaded) c.in_ok-problem.ensures.1 c.in_ok-problem.ensures.2 c.in_ok-front.ensures.cause _
-    c.print.ensures.prints c.print.ensures.answers
+      faults_now = g.O.Sink.faults c.over_trees-ended.new.out;
+    }) (c.in_ok-front.front.typed.tree, c.in_ok-front.front.files) _ (rw c.as_slice.ensures at c.in_ok-front.ensures.loaded)
+    (c.over_trees-ended.ensures (g.F.Shelf.files c.args.shelf.now) (g.F.Shelf.read_faults c.args.shelf.now) (g.F.Shelf.read_faults c.fetch.new.shelf) c.in_ok-front.ensures.cause)
